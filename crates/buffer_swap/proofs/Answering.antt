@@ -3,20 +3,20 @@ use Rattle.std.proofs.Common.{◌≡◌, true, List, [], ◌++◌, length, sym, 
 use Rattle.std.proofs.lemmas.List.{drop_all}
 use Rattle.rec_data.specs.declared.owned.Rec.{Rec}
 use Rattle.record_core.specs.Desk.{DeskView, accepted}
-use Rattle.feed_lane.specs.Pass.{placed_from}
+use Rattle.feed_lane.specs.Pass.{with_places}
 use Rattle.buffer_swap.specs.Turns.{view}
 use Rattle.record_core.specs.declared.answers.Declared.{Declared}
 use Rattle.record_core.specs.declared.answers.DeclareRefused.{DeclareRefused}
-use Rattle.buffer_swap.specs.Plays.{counts, fresh}
+use Rattle.buffer_swap.specs.Plays.{counts, fresh_records}
 use Rattle.buffer_swap.specs.Calls.{counts_declared}
 use Rattle.buffer_swap.specs.declared.view.View.{View}
 
 -- where nothing was added, nothing is counted
 pub counts_none : (v : View) (d : DeskView) → v.holds ≡ true → d ≡ v.hand → v ≡ counts v d
 counts_none v d holds is =
-    let none : fresh v.hand v.hand ≡ [] = drop_all (length v.hand.primary) v.hand.primary (omega arith) in
-    let own : v.pass.own ++ placed_from (accepted v.hand) (fresh v.hand v.hand) ≡ v.pass.own =
-    ap (λ (l : List Rec). v.pass.own ++ placed_from (accepted v.hand) l) none ∙ append-nil v.pass.own in
+    let none : fresh_records v.hand v.hand ≡ [] = drop_all (length v.hand.primary) v.hand.primary (omega arith) in
+    let own : v.pass.own ++ with_places (accepted v.hand) (fresh_records v.hand v.hand) ≡ v.pass.own =
+    ap (λ (l : List Rec). v.pass.own ++ with_places (accepted v.hand) l) none ∙ append-nil v.pass.own in
     subst (λ (z : DeskView). v ≡ counts v z) (sym is) (λ i. view (holds i) v.hand v.missed (record v.pass { own = sym own i }) v.post)
 
 -- a refusal counts nothing

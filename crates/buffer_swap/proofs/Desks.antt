@@ -11,11 +11,11 @@ use Rattle.mcap_model.specs.declared.options.FileOptions.{FileOptions}
 use Rattle.mcap_model.specs.Fields.{SchemaFields, ChannelFields, MessageFields}
 use Rattle.mcap_model.proofs.Places.{each_front}
 use Rattle.mcap_model.specs.History.{Follows, Numbered, message_of, schema_count, channel_count, history_bytes}
-use Rattle.record_core.specs.Ids.{Ids, schemas_in, channels_in, is_known, ids_of, with_ids, channel_id, new_records}
-use Rattle.record_core.specs.Tables.{IsTable}
-use Rattle.record_core.specs.Desk.{DeskView, accepted, added, swapped, ended, end_or, found_of, publish_refusal, declare_refusal, Published, DeclaredBy}
+use Rattle.record_core.specs.Ids.{Ids, schemas_in, channels_in, is_known_channel, ids_of, with_ids, channel_id, new_records}
+use Rattle.record_core.specs.Tables.{HasFewIds}
+use Rattle.record_core.specs.Desk.{DeskView, accepted, with_more_records, swapped, ended, end_unless, found_of, publish_refusal, declare_refusal, Published, DeclaredBy}
 use Rattle.record_core.specs.Machine.{State, desk_of, publish, declare, accept, end_with, unless}
-use Rattle.record_core.specs.Stands.{DeskStandsFor, Steps, PublishSteps, DeclareSteps}
+use Rattle.record_core.specs.Stands.{DeskStandsFor, DeskSteps, PublishSteps, DeclareSteps}
 use Rattle.record_core.specs.declared.answers.Declared.{Declared}
 use Rattle.record_core.specs.declared.answers.PublishRefused.{PublishRefused}
 use Rattle.record_core.specs.declared.answers.DeclareRefused.{DeclareRefused}
@@ -24,7 +24,7 @@ use Rattle.record_core.proofs.Numbering.{HasContents}
 use Rattle.record_core.proofs.Searches.{schemas_counted, channels_counted, schemas_more, channels_more}
 use Rattle.feed_lane.specs.Pass.{full_at}
 use Rattle.buffer_swap.specs.Shown.{ChannelStands, HeldThere, FoundThere}
-use Rattle.buffer_swap.specs.Plays.{MayCount, NamedAt, LacksAt}
+use Rattle.buffer_swap.specs.Plays.{MayCount, NamedAt, LacksIdAt}
 use Rattle.buffer_swap.proofs.Reasons.{publish_reason, declare_reason}
 use Rattle.buffer_swap.proofs.Numbers.{message_spares, declared_spares, declared_stands, declared_id, lacks_schema, lacks_channel, schema_left}
 
@@ -80,7 +80,7 @@ found_there d s stands =
 
 -- ---- ids that a desk has
 
-pub known_id : (ids : Ids) (channel : ℕ) → is_known ids channel ≡ true → (1 ≤ channel) × (channel ≤ length ids.channels)
+pub known_id : (ids : Ids) (channel : ℕ) → is_known_channel ids channel ≡ true → (1 ≤ channel) × (channel ≤ length ids.channels)
 known_id ids channel known =
     let both = and_parts (nat_lt 0 channel) (nat_le channel (length ids.channels)) known in
     (let some = ltb-true 0 channel both.0 in omega (arith, some), leb-true channel (length ids.channels) both.1)
@@ -90,7 +90,7 @@ unknown_by ids channel false known is all no_more = let le : channel ≤ 0 = gri
 unknown_by ids channel true false is all no_more = inr (grind arith)
 unknown_by ids channel true true is all no_more = cc
 
-pub unknown_id : (ids : Ids) (channel : ℕ) → is_known ids channel ≡ false → (channel ≡ 0) ⊎ (length ids.channels < channel)
+pub unknown_id : (ids : Ids) (channel : ℕ) → is_known_channel ids channel ≡ false → (channel ≡ 0) ⊎ (length ids.channels < channel)
 unknown_id ids channel unknown = unknown_by ids channel (nat_lt 0 channel) (nat_le channel (length ids.channels)) refl refl unknown
 
 -- ---- records that are counted
@@ -98,13 +98,13 @@ unknown_id ids channel unknown = unknown_by ids channel (nat_lt 0 channel) (nat_
 some_options : FileOptions
 some_options = record { profile = []; chunk = None }
 
-pub published_state : (d after : DeskView) (s : State) (channel : ℕ) (m : MessageFields) → publish_refusal d channel (length m.payload) ≡ None → Steps d (publish 0 channel m) after → DeskStandsFor d s
+pub published_state : (d after : DeskView) (s : State) (channel : ℕ) (m : MessageFields) → publish_refusal d channel (length m.payload) ≡ None → DeskSteps d (publish 0 channel m) after → DeskStandsFor d s
     → DeskStandsFor after (accept 0 (message_of channel m ∷ []) s)
 published_state d after s channel m none steps stands =
     let open_there : publish_refusal (desk_of d.limit s) channel (length m.payload) ≡ None = ap (λ (x : DeskView). publish_refusal x channel (length m.payload)) stands.desk ∙ none in
     subst (λ (r : Option PublishRefused). DeskStandsFor after (unless r 0 (message_of channel m ∷ []) s)) open_there (steps some_options s stands)
 
-pub declared_state : (d after : DeskView) (s : State) (c : ChannelDef) → declare_refusal d c ≡ None → Steps d (declare 0 c) after → DeskStandsFor d s
+pub declared_state : (d after : DeskView) (s : State) (c : ChannelDef) → declare_refusal d c ≡ None → DeskSteps d (declare 0 c) after → DeskStandsFor d s
     → DeskStandsFor after (accept 0 (new_records d.ids c) s)
 declared_state d after s c none steps stands =
     let open_there : declare_refusal (desk_of d.limit s) c ≡ None = ap (λ (x : DeskView). declare_refusal x c) stands.desk ∙ none in
@@ -119,10 +119,10 @@ message_counts d after channel m place is steps = record {
   spares = λ s stands. message_spares s.history channel m;
 }
 
-few : (d after : DeskView) (c : ChannelDef) → after ≡ added d (new_records d.ids c) → IsTable after.ids → IsTable (with_ids d.ids (new_records d.ids c))
-few d after c is table = subst IsTable (ap (λ (x : DeskView). x.ids) is) table
+few : (d after : DeskView) (c : ChannelDef) → after ≡ with_more_records d (new_records d.ids c) → HasFewIds after.ids → HasFewIds (with_ids d.ids (new_records d.ids c))
+few d after c is table = subst HasFewIds (ap (λ (x : DeskView). x.ids) is) table
 
-pub channel_counts : (d after : DeskView) (c : ChannelDef) (given : Declared) → DeclaredBy d c (Ok given) after → DeclareSteps d c (Ok given) after → IsTable after.ids → MayCount d (new_records d.ids c) after
+pub channel_counts : (d after : DeskView) (c : ChannelDef) (given : Declared) → DeclaredBy d c (Ok given) after → DeclareSteps d c (Ok given) after → HasFewIds after.ids → MayCount d (new_records d.ids c) after
 channel_counts d after c given is steps table =
     let small = few d after c is.4 table in
     record {
@@ -139,7 +139,7 @@ built_same : (limit taken other : ℕ) (primary rest : List Rec) (end last : Opt
     → taken ≡ other → primary ≡ rest → end ≡ last → schemas ≡ more → channels ≡ others → built limit taken primary end schemas channels ≡ built limit other rest last more others
 built_same limit taken other primary rest end last schemas more channels others a b c d e = cc
 
-no_ids_more : (d : DeskView) → added d [] ≡ d
+no_ids_more : (d : DeskView) → with_more_records d [] ≡ d
 no_ids_more d =
     built_same d.limit d.taken d.taken (d.primary ++ []) d.primary d.end d.end (d.ids.schemas ++ []) d.ids.schemas (d.ids.channels ++ []) d.ids.channels
     refl (append-nil d.primary) refl (append-nil d.ids.schemas) (append-nil d.ids.channels)
@@ -148,7 +148,7 @@ no_ids_more d =
 pub nothing_added : (d after : DeskView) (c : ChannelDef) (given : Declared) → DeclaredBy d c (Ok given) after → given.count ≡ 0 → after ≡ d
 nothing_added d after c given is none =
     let no_records : new_records d.ids c ≡ [] = nil_from_length (new_records d.ids c) (omega (arith, none, is.3)) in
-    is.4 ∙ ap (added d) no_records ∙ no_ids_more d
+    is.4 ∙ ap (with_more_records d) no_records ∙ no_ids_more d
 
 -- ---- the state before records were added
 
@@ -163,7 +163,7 @@ pub record Before (d : DeskView) (records : List Rec) (later : State) : Type 0 w
   pub stands : DeskStandsFor d s
   pub whole : later.history ≡ s.history ++ records
 
-pub before : (d after : DeskView) (records : List Rec) (later : State) → after ≡ added d records → DeskStandsFor after later → Before d records later
+pub before : (d after : DeskView) (records : List Rec) (later : State) → after ≡ with_more_records d records → DeskStandsFor after later → Before d records later
 before d after records later is stands =
     let p = parts after later stands in
     let start = take later.taken later.history in
@@ -205,13 +205,13 @@ named_after d after c given is later stands =
       omega (arith, id.1, channel, size),
     )
 
-pub lacks_schemas : (d after : DeskView) (c : ChannelDef) → DeclaredBy d c (Err declaring.TooManySchemas) after → IsTable after.ids → LacksAt d (c, declaring.TooManySchemas)
+pub lacks_schemas : (d after : DeskView) (c : ChannelDef) → DeclaredBy d c (Err declaring.TooManySchemas) after → HasFewIds after.ids → LacksIdAt d (c, declaring.TooManySchemas)
 lacks_schemas d after c is table s stands =
     let why = declare_reason d c (Some declaring.TooManySchemas) is.0 in
     let few : length d.ids.schemas ≤ 65535 = subst (λ (x : DeskView). length x.ids.schemas ≤ 65535) is.1 table.few_schemas in
     lacks_schema d.ids s.history c.schema (parts d s stands).contents few why.1
 
-pub lacks_channels : (d after : DeskView) (c : ChannelDef) → DeclaredBy d c (Err declaring.TooManyChannels) after → IsTable after.ids → LacksAt d (c, declaring.TooManyChannels)
+pub lacks_channels : (d after : DeskView) (c : ChannelDef) → DeclaredBy d c (Err declaring.TooManyChannels) after → HasFewIds after.ids → LacksIdAt d (c, declaring.TooManyChannels)
 lacks_channels d after c is table s stands =
     let why = declare_reason d c (Some declaring.TooManyChannels) is.0 in
     let few : length d.ids.channels ≤ 65535 = subst (λ (x : DeskView). length x.ids.channels ≤ 65535) is.1 table.few_channels in
@@ -239,7 +239,7 @@ pub ended_stands : (d : DeskView) (s : State) (end : End) → DeskStandsFor d s 
 ended_stands d s end stands =
     let size : length s.history ≡ s.taken + length (drop s.taken s.history) = omega (arith, length-drop s.taken s.history, stands.within) in
     record {
-      desk = ap (λ (n : ℕ). record (desk_of d.limit s) { end = end_or s.end end n }) size ∙ ap (λ (x : DeskView). ended x end) stands.desk;
+      desk = ap (λ (n : ℕ). record (desk_of d.limit s) { end = end_unless s.end end n }) size ∙ ap (λ (x : DeskView). ended x end) stands.desk;
       within = stands.within;
       numbered = stands.numbered;
     }
@@ -251,7 +251,7 @@ pub message_counts_if : (d after : DeskView) (channel : ℕ) (m : MessageFields)
 message_counts_if d after channel m (Ok place) is steps = message_counts d after channel m place is steps
 message_counts_if d after channel m (Err refusal) is steps = tt
 
-pub channel_counts_if : (d after : DeskView) (c : ChannelDef) (result : Result Declared DeclareRefused) → DeclaredBy d c result after → DeclareSteps d c result after → IsTable after.ids
+pub channel_counts_if : (d after : DeskView) (c : ChannelDef) (result : Result Declared DeclareRefused) → DeclaredBy d c result after → DeclareSteps d c result after → HasFewIds after.ids
     → OnOk result (MayCount d (new_records d.ids c) after)
 channel_counts_if d after c (Ok given) is steps table = channel_counts d after c given is steps table
 channel_counts_if d after c (Err refusal) is steps table = tt
@@ -264,8 +264,8 @@ pub named_after_if : (d after : DeskView) (c : ChannelDef) (result : Result Decl
 named_after_if d after c (Ok given) is = named_after d after c given is
 named_after_if d after c (Err refusal) is = tt
 
-pub lacks_schemas_if : (d after : DeskView) (c : ChannelDef) (result : Result Declared DeclareRefused) → DeclaredBy d c result after → IsTable after.ids → result ≡ Err declaring.TooManySchemas → LacksAt d (c, declaring.TooManySchemas)
+pub lacks_schemas_if : (d after : DeskView) (c : ChannelDef) (result : Result Declared DeclareRefused) → DeclaredBy d c result after → HasFewIds after.ids → result ≡ Err declaring.TooManySchemas → LacksIdAt d (c, declaring.TooManySchemas)
 lacks_schemas_if d after c result is table why = lacks_schemas d after c (subst (λ (r : Result Declared DeclareRefused). DeclaredBy d c r after) why is) table
 
-pub lacks_channels_if : (d after : DeskView) (c : ChannelDef) (result : Result Declared DeclareRefused) → DeclaredBy d c result after → IsTable after.ids → result ≡ Err declaring.TooManyChannels → LacksAt d (c, declaring.TooManyChannels)
+pub lacks_channels_if : (d after : DeskView) (c : ChannelDef) (result : Result Declared DeclareRefused) → DeclaredBy d c result after → HasFewIds after.ids → result ≡ Err declaring.TooManyChannels → LacksIdAt d (c, declaring.TooManyChannels)
 lacks_channels_if d after c result is table why = lacks_channels d after c (subst (λ (r : Result Declared DeclareRefused). DeclaredBy d c r after) why is) table

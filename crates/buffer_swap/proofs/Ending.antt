@@ -8,7 +8,7 @@ use Rattle.mcap_model.specs.declared.ends.End.TheVariants.{Closed, Stopped}
 use Rattle.mcap_model.specs.declared.ends.Stop.{Stop}
 use Rattle.mcap_model.specs.History.{Numbered}
 use Rattle.record_cache.specs.Buffers.{Buffer}
-use Rattle.record_core.specs.Desk.{DeskView, accepted, swapped, ended, end_or, first_of, end_of, found_of, EndIsLast, EndsAt, SwapAnswered}
+use Rattle.record_core.specs.Desk.{DeskView, accepted, swapped, ended, end_unless, first_of, desk_end, found_of, EndIsLast, EndIsSetAt, SwapAnswered}
 use Rattle.record_core.specs.declared.answers.Empty.{Empty}
 use Rattle.feed_lane.specs.Pass.{PassState, with_found}
 use Rattle.buffer_swap.specs.Posts.{Post, drain_post}
@@ -23,7 +23,7 @@ found_so d p stood = (finds d p p.reasons stood, refl)
 -- ---- swaps
 
 swaps : (d : DeskView) (missed : ℕ) (p : PassState) (post : Post) (result : Result Buffer Empty) (after : DeskView) → Stood d p → length post.taken ≡ d.taken
-    → ((stop : Stop) → post.stop ≡ Some stop → end_of d ≡ Some (Stopped stop)) → SwapAnswered d result after → OnOk result (Numbered (post.taken ++ d.primary))
+    → ((stop : Stop) → post.stop ≡ Some stop → desk_end d ≡ Some (Stopped stop)) → SwapAnswered d result after → OnOk result (Numbered (post.taken ++ d.primary))
     → let v = hands_if (sees d missed p post) result in SwapsTo p post (frees v v.pass).pass (frees v v.pass).post result
 swaps d missed p post (Ok full) after stood drained halted is numbered =
     let limit = stood.fits.limit in
@@ -62,11 +62,11 @@ swapped_answer m n behind result took seated drains swapped =
 abbrev at_end : End → ℕ → End × ℕ
 at_end end at = (end, at)
 
-end_place : (d : DeskView) (end : End) (at : ℕ) (stood : Option (End × ℕ)) → d.end ≡ stood → EndIsLast d → (e : End) → end_or stood end (accepted d) ≡ Some (at_end e at) → at ≡ accepted d
+end_place : (d : DeskView) (end : End) (at : ℕ) (stood : Option (End × ℕ)) → d.end ≡ stood → EndIsLast d → (e : End) → end_unless stood end (accepted d) ≡ Some (at_end e at) → at ≡ accepted d
 end_place d end at None is last e there = ap (λ (x : End × ℕ). x.1) (same_Some (at_end e at) (at_end end (accepted d)) (sym there))
 end_place d end at (Some (stood, place)) is last e there = last e at (is ∙ there)
 
-place_of : (d : DeskView) (end : End) (at : ℕ) → EndIsLast d → EndsAt (ended d end) at → at ≡ accepted d
+place_of : (d : DeskView) (end : End) (at : ℕ) → EndIsLast d → EndIsSetAt (ended d end) at → at ≡ accepted d
 place_of d end at last place = end_place d end at d.end refl last place.0 place.1
 
 closed_post : (v : View) (end : Option End) → (frees (closes_if v end) (closes_if v end).pass).post ≡ closed_at end v.post
@@ -82,16 +82,16 @@ closed_answer m n behind at took seated closed =
     let it = subst (λ (x : Sat). ClosedInTurn x at behind) took.is closed in
     let d = took.d in let stood = took.stood seated in
     let v : View = (taking m.0 took.missed d).0 in
-    let pass = ap (λ (x : Sat). x.0.pass) it.is ∙ closed_pass v (end_of d) in
+    let pass = ap (λ (x : Sat). x.0.pass) it.is ∙ closed_pass v (desk_end d) in
     record {
       found = found_of d;
       finds = (finds d m.0.pass m.0.pass.reasons stood, pass);
       place = place_of d Closed at stood.last it.place;
-      closed = ap (λ (x : Sat). x.0.post) it.is ∙ closed_post v (end_of d);
+      closed = ap (λ (x : Sat). x.0.post) it.is ∙ closed_post v (desk_end d);
     }
 
 stopped_post : (v : View) (stop : Stop) (end : Option (End × ℕ)) → v.hand.end ≡ end → (frees (stops_if v (first_of end) stop) (stops_if v (first_of end) stop).pass).post ≡ stopped_at (first_of end) stop v.post
-stopped_post v stop None is = ap (λ (x : Option (End × ℕ)). drain_post (stop_in (end_or x (Stopped stop) (accepted v.hand))) v.post.taken) is
+stopped_post v stop None is = ap (λ (x : Option (End × ℕ)). drain_post (stop_in (end_unless x (Stopped stop) (accepted v.hand))) v.post.taken) is
 stopped_post v stop (Some (end, at)) is = refl
 
 stopped_pass : (v : View) (stop : Stop) (end : Option End) → (stops_if v end stop).pass ≡ v.pass
@@ -103,7 +103,7 @@ stopped_answer m n behind stop at took seated stopped =
     let it = subst (λ (x : Sat). StoppedInTurn x stop at behind) took.is stopped in
     let d = took.d in let stood = took.stood seated in
     let v : View = (taking m.0 took.missed d).0 in
-    let pass = ap (λ (x : Sat). x.0.pass) it.is ∙ stopped_pass v stop (end_of d) in
+    let pass = ap (λ (x : Sat). x.0.pass) it.is ∙ stopped_pass v stop (desk_end d) in
     record {
       found = found_of d;
       finds = (finds d m.0.pass m.0.pass.reasons stood, pass);

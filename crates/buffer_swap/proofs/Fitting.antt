@@ -8,13 +8,13 @@ use Rattle.mcap_model.specs.declared.ends.End.TheVariants.{Stopped}
 use Rattle.mcap_model.specs.declared.ends.Stop.{Stop}
 use Rattle.mcap_model.proofs.Places.{at_none, at_kept}
 use Rattle.record_core.specs.Ids.{schemas_in, channels_in}
-use Rattle.record_core.specs.Desk.{DeskView, accepted, added, swapped, ended, first_of, end_of, found_of}
+use Rattle.record_core.specs.Desk.{DeskView, accepted, with_more_records, swapped, ended, first_of, desk_end, found_of}
 use Rattle.record_core.specs.declared.answers.Found.{Found}
 use Rattle.record_core.proofs.Searches.{channels_more}
 use Rattle.feed_lane.specs.Pass.{PassState, no_calls, IsLater}
 use Rattle.buffer_swap.specs.Shown.{Spares}
 use Rattle.buffer_swap.specs.Posts.{Post}
-use Rattle.buffer_swap.specs.Turns.{FoundFits, PassFits, IsFront, NoteFits, Fits}
+use Rattle.buffer_swap.specs.Turns.{FoundFits, PassFits, IsFront, NoteFits, ViewFits}
 use Rattle.buffer_swap.specs.declared.view.View.{View}
 use Rattle.buffer_swap.proofs.Growing.{channel_stands_on, lacks_on, held_there_on, found_there_on}
 
@@ -26,12 +26,12 @@ no e = absurd (true≢false (sym e))
 -- the desk has but grown
 pub record Later (d after : DeskView) : Type 0 where
   pub later : IsLater (found_of d) (found_of after)
-  pub all : (e : End) → end_of d ≡ Some e → accepted d ≡ accepted after
+  pub all : (e : End) → desk_end d ≡ Some e → accepted d ≡ accepted after
   pub limit : after.limit ≡ d.limit
 
-pub later_added : (d : DeskView) (records : List Rec) → d.end ≡ None → Later d (added d records)
+pub later_added : (d : DeskView) (records : List Rec) → d.end ≡ None → Later d (with_more_records d records)
 later_added d records unended =
-    let none : end_of d ≡ None = ap first_of unended in
+    let none : desk_end d ≡ None = ap first_of unended in
     record {
       later = record {
         taken = omega arith;
@@ -53,7 +53,7 @@ later_swapped d = record {
 
 pub later_ended : (d : DeskView) (end : End) → d.end ≡ None → Later d (ended d end)
 later_ended d end unended =
-    let none : end_of d ≡ None = ap first_of unended in
+    let none : desk_end d ≡ None = ap first_of unended in
     record {
       later = record { taken = omega arith; count = omega arith; schemas = omega arith; channels = omega arith; end = λ e is. absurd (none-some _ (sym none ∙ is)) };
       all = λ e is. absurd (none-some _ (sym none ∙ is));
@@ -94,7 +94,7 @@ pass_later history d after p go fits = record {
   limit = fits.limit ∙ sym go.limit;
 }
 
-pub pass_grown : (history records : List Rec) (d : DeskView) (p : PassState) → d.end ≡ None → Spares history records → PassFits history d p → PassFits (history ++ records) (added d records) p
+pub pass_grown : (history records : List Rec) (d : DeskView) (p : PassState) → d.end ≡ None → Spares history records → PassFits history d p → PassFits (history ++ records) (with_more_records d records) p
 pass_grown history records d p unended spares fits = record {
   own = λ n pair at. at_kept history records pair.0 pair.1 (fits.own n pair at);
   named = λ n pair at. channel_stands_on history records pair.0 pair.1 (fits.named n pair at);
@@ -103,7 +103,7 @@ pass_grown history records d p unended spares fits = record {
       (there.0, omega (arith, there.1, ap length (channels_more history records), length-append (channels_in history) (channels_in records)));
   fulls = λ n full at. held_there_on history records full (fits.fulls n full at);
   lacks = λ n pair at. lacks_on history records pair.0 pair.1 spares (fits.lacks n pair at);
-  found = λ f is. found_later d (added d records) f (later_added d records unended) (fits.found f is);
+  found = λ f is. found_later d (with_more_records d records) f (later_added d records unended) (fits.found f is);
   there = λ f is. found_there_on history records f (fits.there f is);
   limit = fits.limit;
 }
@@ -140,10 +140,10 @@ note_later history d after p go note = record {
   stood = λ stop is. go.later.end (Stopped stop) (note.stood stop is);
 }
 
-pub note_grown : (history records : List Rec) (d : DeskView) (p : Post) → d.end ≡ None → NoteFits history d p → NoteFits (history ++ records) (added d records) p
+pub note_grown : (history records : List Rec) (d : DeskView) (p : Post) → d.end ≡ None → NoteFits history d p → NoteFits (history ++ records) (with_more_records d records) p
 note_grown history records d p unended note = record {
   taken = front_grown p.taken history records note.taken;
-  told = λ f is. found_later d (added d records) f (later_added d records unended) (note.told f is);
+  told = λ f is. found_later d (with_more_records d records) f (later_added d records unended) (note.told f is);
   cause = note.cause;
   stood = note.stood;
 }
@@ -159,7 +159,7 @@ note_none history d p none untold unset = record {
 
 -- ---- views of seats that don't hold the turn
 
-pub view_grown : (history records : List Rec) (d : DeskView) (halt : Option Stop) (u : View) → d.end ≡ None → Spares history records → u.holds ≡ false → Fits history d halt u → Fits (history ++ records) (added d records) halt u
+pub view_grown : (history records : List Rec) (d : DeskView) (halt : Option Stop) (u : View) → d.end ≡ None → Spares history records → u.holds ≡ false → ViewFits history d halt u → ViewFits (history ++ records) (with_more_records d records) halt u
 view_grown history records d halt u unended spares idle fits = record {
   hand = λ e. no (sym idle ∙ e);
   pass = λ e. pass_grown history records d u.pass unended spares (fits.pass e);
@@ -171,7 +171,7 @@ view_grown history records d halt u unended spares idle fits = record {
 
 -- where it is no drain, or what a drain says holds still
 pub view_later : (history : List Rec) (d after : DeskView) (halt other : Option Stop) (u : View) → Later d after → u.holds ≡ false
-    → (u.post.drains ≡ true → (length u.post.taken ≡ after.taken) × (u.post.stop ≡ other)) → Fits history d halt u → Fits history after other u
+    → (u.post.drains ≡ true → (length u.post.taken ≡ after.taken) × (u.post.stop ≡ other)) → ViewFits history d halt u → ViewFits history after other u
 view_later history d after halt other u go idle drains fits = record {
   hand = λ e. no (sym idle ∙ e);
   pass = λ e. pass_later history d after u.pass go (fits.pass e);

@@ -14,34 +14,34 @@ use Rattle.record_core.specs.declared.answers.Found.{Found}
 use Rattle.record_core.specs.declared.answers.DeclareRefused.{DeclareRefused}
 use Rattle.record_core.specs.declared.answers.DeclareRefused.TheVariants as declaring
 use Rattle.record_core.proofs.Searches.{schemas_counted, channels_counted, schemas_more, channels_more, schema_content, channel_content}
-use Rattle.feed_lane.specs.Pass.{FullAt, full_at, placed_from}
-use Rattle.buffer_swap.specs.Shown.{SchemaStands, ChannelStands, LacksSchema, LacksChannel, IdsLack, Spares, HeldThere, FoundThere}
+use Rattle.feed_lane.specs.Pass.{FullAt, full_at, with_places}
+use Rattle.buffer_swap.specs.Shown.{SchemaStands, ChannelStands, LacksSchema, LacksChannelId, IdsLack, Spares, HeldThere, FoundThere}
 
 -- ---- places
 
-pub placed_more : (place : ℕ) (rs more : List Rec) → placed_from place (rs ++ more) ≡ placed_from place rs ++ placed_from (place + length rs) more
-placed_more place [] more = ap (λ (n : ℕ). placed_from n more) (omega arith)
+pub placed_more : (place : ℕ) (rs more : List Rec) → with_places place (rs ++ more) ≡ with_places place rs ++ with_places (place + length rs) more
+placed_more place [] more = ap (λ (n : ℕ). with_places n more) (omega arith)
 placed_more place (r ∷ rs) more =
     ap (λ (l : List (ℕ × Rec)). (place, r) ∷ l) (placed_more (place + 1) rs more)
-    ∙ ap (λ (n : ℕ). (place, r) ∷ (placed_from (place + 1) rs ++ placed_from n more)) (let same : place + 1 + length rs ≡ place + length (r ∷ rs) = omega arith in same)
+    ∙ ap (λ (n : ℕ). (place, r) ∷ (with_places (place + 1) rs ++ with_places n more)) (let same : place + 1 + length rs ≡ place + length (r ∷ rs) = omega arith in same)
 
 some_same : {x y : ℕ × Rec} → Some x ≡ Some y → x ≡ y
 some_same e = cc
 
 -- each record has its place, and each place its record
-pub placed_at : (first : ℕ) (rs : List Rec) (k : ℕ) (pair : ℕ × Rec) → At (placed_from first rs) k pair → (pair.0 ≡ first + k) × At rs k pair.1 × (k < length rs)
+pub placed_at : (first : ℕ) (rs : List Rec) (k : ℕ) (pair : ℕ × Rec) → At (with_places first rs) k pair → (pair.0 ≡ first + k) × At rs k pair.1 × (k < length rs)
 placed_at first [] k pair at = absurd (at_none k pair at)
 placed_at first (r ∷ rs) zero pair at =
     let same = some_same at in
     (omega (arith, ap (λ (p : ℕ × Rec). p.0) same), ap (λ (p : ℕ × Rec). Some p.1) same, omega arith)
 placed_at first (r ∷ rs) (suc k) pair at = let t = placed_at (first + 1) rs k pair at in (omega (arith, t.0), t.1, omega (arith, t.2))
 
-pub placed_there : (first : ℕ) (rs : List Rec) (k : ℕ) (r : Rec) → At rs k r → At (placed_from first rs) k (first + k, r)
+pub placed_there : (first : ℕ) (rs : List Rec) (k : ℕ) (r : Rec) → At rs k r → At (with_places first rs) k (first + k, r)
 placed_there first [] k r at = absurd (at_none k r at)
 placed_there first (x ∷ rs) zero r at = let same : first ≡ first + 0 = omega arith in cc
 placed_there first (x ∷ rs) (suc k) r at =
     let same : first + 1 + k ≡ first + suc k = omega arith in
-    subst (λ (n : ℕ). At (placed_from (first + 1) rs) k (n, r)) same (placed_there (first + 1) rs k r at)
+    subst (λ (n : ℕ). At (with_places (first + 1) rs) k (n, r)) same (placed_there (first + 1) rs k r at)
 
 -- ---- ids
 
@@ -108,7 +108,7 @@ lacks_schema_on history more (Some s) spares lacks =
     let none = spares.schemas lacks.0 in
     (same_schemas history more none ∙ lacks.0, λ id has. lacks.1 id (schema_before history more id (fields_of_schema s) none has))
 
-lacks_channel_on : (history more : List Rec) (d : ChannelDef) → Spares history more → LacksChannel history d → LacksChannel (history ++ more) d
+lacks_channel_on : (history more : List Rec) (d : ChannelDef) → Spares history more → LacksChannelId history d → LacksChannelId (history ++ more) d
 lacks_channel_on history more d spares lacks =
     let none = spares.channels lacks.0 in (
       same_channels history more none.1 ∙ lacks.0,

@@ -22,17 +22,17 @@ use Rattle.mcap_model.proofs.Places.{at_none}
 use Rattle.mcap_model.proofs.Lists.{at_second, each_joined}
 use Rattle.mcap_model.proofs.OneMore.{each_last}
 use Rattle.record_core.specs.Ids.{channels_in}
-use Rattle.record_core.specs.Desk.{DeskView, new_desk, accepted, added, swapped, ended, end_or, first_of, end_of, found_of, EndIsLast}
+use Rattle.record_core.specs.Desk.{DeskView, new_desk, accepted, with_more_records, swapped, ended, end_unless, first_of, desk_end, found_of, EndIsLast}
 use Rattle.record_core.specs.Machine.{State, start, accept, end_with}
 use Rattle.record_core.specs.Stands.{DeskStandsFor}
 use Rattle.record_core.specs.declared.answers.DeclareRefused.{DeclareRefused}
 use Rattle.record_core.proofs.Searches.{schemas_counted, channels_counted}
-use Rattle.feed_lane.specs.Pass.{PassState, placed_from, with_found, full_at}
+use Rattle.feed_lane.specs.Pass.{PassState, with_places, with_found, full_at}
 use Rattle.buffer_swap.specs.Weights.{total, one_if, below}
 use Rattle.buffer_swap.specs.Shown.{ChannelStands, IdsLack, HeldThere, FoundThere, ShownTo}
 use Rattle.buffer_swap.specs.Posts.{Gathered, Post, no_post, first_post, drain_post, publisher_post, note_post}
-use Rattle.buffer_swap.specs.Turns.{view, newcomer, nobody, has_turn, is_drain, numbers_in, numbers, weigh, FoundFits, PassFits, IsFront, NoteFits, Fits, World, Wired, Kept}
-use Rattle.buffer_swap.specs.Plays.{Sat, HasDesk, IsIdle, Told, TriesTurn, IsEvent, missing, took, fresh, MayCount, counts, counted, hands_over, handed_over, shuts, closes, closed, stop_in, stops, stopped, frees as frees_view, freed, frees_counting, freed_counting, same_pass, with_full_hand, with_name, with_lacking, NamedAt, LacksAt, starts, drainer, hires, hired, gathered, gathers, noted, reads, settled, met}
+use Rattle.buffer_swap.specs.Turns.{view, newcomer, nobody, has_turn, is_drain, numbers_in, seat_numbers, weigh, FoundFits, PassFits, IsFront, NoteFits, ViewFits, World, Wired, KeepsTurnRule}
+use Rattle.buffer_swap.specs.Plays.{Sat, HasDesk, IsIdle, StepTold, TriesTurn, IsEvent, missing, took, fresh_records, MayCount, counts, records_counted, hands_over, handed_over, shuts, closes, closed, stop_in, stops, stopped, frees as frees_view, freed, frees_counting, freed_counting, same_pass, with_full_hand, with_name, with_lacking, NamedAt, LacksIdAt, starts, drainer, hires, hired, gathered, gathers, drain_noted, reads, settled, met}
 use Rattle.buffer_swap.specs.declared.view.View.{View}
 use Rattle.buffer_swap.proofs.Sums.{total-append, total-set, term_le, terms_le, total-alone, set_at, one, total-ones, below-ones, below-more}
 use Rattle.buffer_swap.proofs.Growing.{placed_at, placed_more}
@@ -52,17 +52,17 @@ has_not : (v : View) → v.holds ≡ false → has_turn v ≡ 0
 has_not v e = ap one_if e
 
 -- the first seat's post is the head
-heads : (t : St) (k : Kept t) (id : ℕ) (v : View) → get_elem? t.views id ≡ some v → id ≡ 0 → v.post ≡ k.head
+heads : (t : St) (k : KeepsTurnRule t) (id : ℕ) (v : View) → get_elem? t.views id ≡ some v → id ≡ 0 → v.post ≡ k.head
 heads t k id v me z = let c = k.first in ap (λ (x : View). x.post) (some-injective v c.0 (sym me ∙ (ap (λ (i : ℕ). get_elem? t.views i) z ∙ c.1))) ∙ c.2
 
 -- a step of the seat id
-moved : (t : St) (k : Kept t) (id : ℕ) (v w : View) (ws : List ℕ) (hs : List (mathlib.Core.Option.Option DeskView)) (s : State) (d : DeskView) (head : Post) (halt : Option Stop) → get_elem? t.views id ≡ some v
+moved : (t : St) (k : KeepsTurnRule t) (id : ℕ) (v w : View) (ws : List ℕ) (hs : List (mathlib.Core.Option.Option DeskView)) (s : State) (d : DeskView) (head : Post) (halt : Option Stop) → get_elem? t.views id ≡ some v
     → World s d head halt → Wired ws hs d → has_turn w + get_or t.words 0 0 ≡ has_turn v + get_or ws 0 0
-    → Fits s.history d halt w → ((j : ℕ) (u : View) → j ≢ id → get_elem? t.views j ≡ some u → Fits s.history d halt u)
+    → ViewFits s.history d halt w → ((j : ℕ) (u : View) → j ≢ id → get_elem? t.views j ≡ some u → ViewFits s.history d halt u)
     → (id ≡ 0 → w.post ≡ head) → (id ≢ 0 → k.head ≡ head) → (w.post.controls ≡ true → id ≡ 0)
-    → ((h : ℕ → ℕ) → numbers h w + total h (below k.head.made) ≡ numbers h v + total h (below head.made)) → is_drain w + one_if k.head.started ≡ is_drain v + one_if head.started
-    → ((h : ℕ × Rec → ℕ) → weigh h w + total h (placed_from 0 k.s.history) ≡ weigh h v + total h (placed_from 0 s.history))
-    → Kept (board ws hs (set t.views id w))
+    → ((h : ℕ → ℕ) → seat_numbers h w + total h (below k.head.made) ≡ seat_numbers h v + total h (below head.made)) → is_drain w + one_if k.head.started ≡ is_drain v + one_if head.started
+    → ((h : ℕ × Rec → ℕ) → weigh h w + total h (with_places 0 k.s.history) ≡ weigh h v + total h (with_places 0 s.history))
+    → KeepsTurnRule (board ws hs (set t.views id w))
 moved t k id v w ws hs s d head halt me world wired holds mine others here there controls made drains pairs = record {
   s = s;
   d = d;
@@ -71,18 +71,18 @@ moved t k id v w ws hs s d head halt me world wired holds mine others here there
   world = world;
   wired = wired;
   holders = omega (arith, total-set has_turn t.views id v w me, k.holders, holds);
-  each = λ j u e. ⊎_elim (λ x. subst (Fits s.history d halt) x.1 mine) (λ x. others j u x.0 x.1) (at_set t.views id j w u e);
+  each = λ j u e. ⊎_elim (λ x. subst (ViewFits s.history d halt) x.1 mine) (λ x. others j u x.0 x.1) (at_set t.views id j w u e);
   first = dite (ℕ_discrete 0 id)
       (λ z. (w, ap (λ (i : ℕ). get_elem? (set t.views id w) i) z ∙ set_at t.views id v w me, here (sym z)))
       (λ nz. (k.first.0, set_else t.views id 0 w nz ∙ k.first.1, k.first.2 ∙ there (λ z. nz (sym z))));
   controls = λ j u e c. ⊎_elim (λ (x : (j ≡ id) × (w ≡ u)). x.0 ∙ controls (ap (λ (y : View). y.post.controls) x.1 ∙ c)) (λ x. k.controls j u x.1 c) (at_set t.views id j w u e);
-  made = λ h. omega (arith, total-set (numbers h) t.views id v w me, k.made h, made h);
+  made = λ h. omega (arith, total-set (seat_numbers h) t.views id v w me, k.made h, made h);
   drains = omega (arith, total-set is_drain t.views id v w me, k.drains, drains);
   pairs = λ h. omega (arith, total-set (weigh h) t.views id v w me, k.pairs h, pairs h);
 }
 
 abbrev Goes : St → ℕ → ℕ → Sat → (ℕ → Sat → Type 0) → ℕ → Type 0
-Goes t i id m then n = (w : View) × (a : Act DeskView) × Valid t.homes m.1 a × Kept (stepped t i n id m.1 w a) × then (get_or t.words i 0) (w, carried_after m.1 a)
+Goes t i id m then n = (w : View) × (a : Act DeskView) × Valid t.homes m.1 a × KeepsTurnRule (stepped t i n id m.1 w a) × then (get_or t.words i 0) (w, carried_after m.1 a)
 
 -- what is so of a pass that looks at the desk
 looked : (s : State) (d : DeskView) (p : PassState) → DeskStandsFor d s → PassFits s.history d p → PassFits s.history d (with_found p (found_of d))
@@ -98,7 +98,7 @@ looked s d p stands fits = record {
 }
 
 -- the turn is taken, or found taken
-takes_free : (n id : ℕ) (m : Sat) → IsIdle m → Allows Kept n id m 0 (λ y. either (eqb y 0) 1 y) (took (step n 0 0 1 none) m)
+takes_free : (n id : ℕ) (m : Sat) → IsIdle m → Allows KeepsTurnRule n id m 0 (λ y. either (eqb y 0) 1 y) (took (step n 0 0 1 none) m)
 takes_free n id m idle t k wide me _ = let tries : TriesTurn (step n 0 0 1 none) = record { word = refl; free = refl; taken = refl } in let x : ℕ = get_or t.words 0 0 in let long = k.wired.wide in let near = k.wired.homes_one in let off = has_not m.0 idle.holds in let most = k.wired.turn in let f = k.each id m.0 me in
     exchanged x 0 1 (Goes t 0 id m (took (step n 0 0 1 none) m))
     (λ hit. let d = k.d in let w : View = view true d m.0.missed (with_found m.0.pass (found_of d)) m.0.post in let same = get_or-set_same t.words 0 1 0 (omega arith) in (
@@ -145,16 +145,16 @@ takes_free n id m idle t k wide me _ = let tries : TriesTurn (step n 0 0 1 none)
     ))
 
 -- by whatever step that tries for the turn
-pub takes_turn : (n id : ℕ) (m : Sat) (i old new : ℕ) → TriesTurn (step n i old new none) → IsIdle m → Allows Kept n id m i (λ y. either (eqb y old) new y) (took (step n i old new none) m)
+pub takes_turn : (n id : ℕ) (m : Sat) (i old new : ℕ) → TriesTurn (step n i old new none) → IsIdle m → Allows KeepsTurnRule n id m i (λ y. either (eqb y old) new y) (took (step n i old new none) m)
 takes_turn n id m i old new tries idle =
-    subst (λ (j : ℕ). Allows Kept n id m j (λ y. either (eqb y old) new y) (took (step n j old new none) m)) (sym tries.word)
-    (subst (λ (j : ℕ). Allows Kept n id m 0 (λ y. either (eqb y j) new y) (took (step n 0 j new none) m)) (sym tries.free)
-    (subst (λ (j : ℕ). Allows Kept n id m 0 (λ y. either (eqb y 0) j y) (took (step n 0 0 j none) m)) (sym tries.taken) (takes_free n id m idle)))
+    subst (λ (j : ℕ). Allows KeepsTurnRule n id m j (λ y. either (eqb y old) new y) (took (step n j old new none) m)) (sym tries.word)
+    (subst (λ (j : ℕ). Allows KeepsTurnRule n id m 0 (λ y. either (eqb y j) new y) (took (step n 0 j new none) m)) (sym tries.free)
+    (subst (λ (j : ℕ). Allows KeepsTurnRule n id m 0 (λ y. either (eqb y 0) j y) (took (step n 0 0 j none) m)) (sym tries.taken) (takes_free n id m idle)))
 
 -- the turn is freed, with what the pass shows then
 frees : (n id : ℕ) (v : View) (d : DeskView) (c : View → PassState) → v.holds ≡ true → d ≡ v.hand
     → ((s : State) → DeskStandsFor v.hand s → PassFits s.history v.hand v.pass → PassFits s.history v.hand (c v)) → (c v).own ≡ v.pass.own
-    → Allows Kept n id (v, (0, d) ∷ []) 0 (λ _. 0) (λ _. freed c (step n 0 0 0 none) (v, (0, d) ∷ []) 0)
+    → Allows KeepsTurnRule n id (v, (0, d) ∷ []) 0 (λ _. 0) (λ _. freed c (step n 0 0 0 none) (v, (0, d) ∷ []) 0)
 frees n id v d c holds is learns own t k wide me _ = let x : ℕ = get_or t.words 0 0 in let long = k.wired.wide in let near = k.wired.homes_one in let most = k.wired.turn in
     let busy = has v holds in let part = term_le has_turn t.views id v me in let all = k.holders in let f = k.each id v me in
     let w : View = frees_view v (c v) in let same = get_or-set_same t.words 0 0 0 (omega arith) in let hand : v.hand ≡ k.d = f.hand holds in let desk : d ≡ k.d = is ∙ hand in
@@ -186,13 +186,13 @@ frees n id v d c holds is learns own t k wide me _ = let x : ℕ = get_or t.word
 
 frees_as : (n id : ℕ) (m : Sat) (c : View → PassState) → HasDesk m
     → ((s : State) → DeskStandsFor m.0.hand s → PassFits s.history m.0.hand m.0.pass → PassFits s.history m.0.hand (c m.0)) → (c m.0).own ≡ m.0.pass.own
-    → Allows Kept n id m 0 (λ _. 0) (λ _. freed c (step n 0 0 0 none) m 0)
-frees_as n id m c desk learns own = subst (λ (l : List (ℕ × DeskView)). Allows Kept n id (m.0, l) 0 (λ _. 0) (λ _. freed c (step n 0 0 0 none) (m.0, l) 0)) (sym desk.out) (frees n id m.0 m.0.hand c desk.holds refl learns own)
+    → Allows KeepsTurnRule n id m 0 (λ _. 0) (λ _. freed c (step n 0 0 0 none) m 0)
+frees_as n id m c desk learns own = subst (λ (l : List (ℕ × DeskView)). Allows KeepsTurnRule n id (m.0, l) 0 (λ _. 0) (λ _. freed c (step n 0 0 0 none) (m.0, l) 0)) (sym desk.out) (frees n id m.0 m.0.hand c desk.holds refl learns own)
 
-pub frees_turn : (n id : ℕ) (m : Sat) → HasDesk m → Allows Kept n id m 0 (λ _. 0) (λ _. freed same_pass (step n 0 0 0 none) m 0)
+pub frees_turn : (n id : ℕ) (m : Sat) → HasDesk m → Allows KeepsTurnRule n id m 0 (λ _. 0) (λ _. freed same_pass (step n 0 0 0 none) m 0)
 frees_turn n id m desk = frees_as n id m same_pass desk (λ s stands fits. fits) refl
 
-pub frees_full : (n id : ℕ) (m : Sat) → HasDesk m → Allows Kept n id m 0 (λ _. 0) (λ _. freed with_full_hand (step n 0 0 0 none) m 0)
+pub frees_full : (n id : ℕ) (m : Sat) → HasDesk m → Allows KeepsTurnRule n id m 0 (λ _. 0) (λ _. freed with_full_hand (step n 0 0 0 none) m 0)
 frees_full n id m desk = let d = m.0.hand in frees_as n id m with_full_hand desk
     (λ s stands fits. record {
       own = fits.own;
@@ -205,7 +205,7 @@ frees_full n id m desk = let d = m.0.hand in frees_as n id m with_full_hand desk
       limit = fits.limit;
     }) refl
 
-pub frees_named : (n id : ℕ) (m : Sat) (pair : ℕ × ChannelDef) → HasDesk m → NamedAt m.0.hand pair → Allows Kept n id m 0 (λ _. 0) (λ _. freed (with_name pair) (step n 0 0 0 none) m 0)
+pub frees_named : (n id : ℕ) (m : Sat) (pair : ℕ × ChannelDef) → HasDesk m → NamedAt m.0.hand pair → Allows KeepsTurnRule n id m 0 (λ _. 0) (λ _. freed (with_name pair) (step n 0 0 0 none) m 0)
 frees_named n id m pair desk named = let d = m.0.hand in frees_as n id m (with_name pair) desk
     (λ s stands fits. let there = named s stands in let p = parts d s stands in record {
       own = fits.own;
@@ -218,7 +218,7 @@ frees_named n id m pair desk named = let d = m.0.hand in frees_as n id m (with_n
       limit = fits.limit;
     }) refl
 
-pub frees_lacking : (n id : ℕ) (m : Sat) (pair : ChannelDef × DeclareRefused) → HasDesk m → LacksAt m.0.hand pair → Allows Kept n id m 0 (λ _. 0) (λ _. freed (with_lacking pair) (step n 0 0 0 none) m 0)
+pub frees_lacking : (n id : ℕ) (m : Sat) (pair : ChannelDef × DeclareRefused) → HasDesk m → LacksIdAt m.0.hand pair → Allows KeepsTurnRule n id m 0 (λ _. 0) (λ _. freed (with_lacking pair) (step n 0 0 0 none) m 0)
 frees_lacking n id m pair desk lacks = frees_as n id m (with_lacking pair) desk
     (λ s stands fits. record {
       own = fits.own;
@@ -236,12 +236,12 @@ by_bool X true f g = f refl
 by_bool X false f g = g refl
 
 -- an event of the seat that holds the turn: word 1 rises, and the desk, the history and its view change
-event : (t : St) (k : Kept t) (id : ℕ) (v w : View) (y : ℕ) (s : State) (d : DeskView) (head : Post) (halt : Option Stop) → get_elem? t.views id ≡ some v → v.holds ≡ true → w.holds ≡ true
-    → World s d head halt → Fits s.history d halt w → ((u : View) (j : ℕ) → j ≢ id → get_elem? t.views j ≡ some u → u.holds ≡ false → Fits k.s.history k.d k.halt u → Fits s.history d halt u)
+event : (t : St) (k : KeepsTurnRule t) (id : ℕ) (v w : View) (y : ℕ) (s : State) (d : DeskView) (head : Post) (halt : Option Stop) → get_elem? t.views id ≡ some v → v.holds ≡ true → w.holds ≡ true
+    → World s d head halt → ViewFits s.history d halt w → ((u : View) (j : ℕ) → j ≢ id → get_elem? t.views j ≡ some u → u.holds ≡ false → ViewFits k.s.history k.d k.halt u → ViewFits s.history d halt u)
     → (id ≡ 0 → w.post ≡ head) → (id ≢ 0 → k.head ≡ head) → (w.post.controls ≡ true → id ≡ 0)
-    → ((h : ℕ → ℕ) → numbers h w + total h (below k.head.made) ≡ numbers h v + total h (below head.made)) → is_drain w + one_if k.head.started ≡ is_drain v + one_if head.started
-    → ((h : ℕ × Rec → ℕ) → weigh h w + total h (placed_from 0 k.s.history) ≡ weigh h v + total h (placed_from 0 s.history))
-    → Kept (board (set t.words 1 y) t.homes (set t.views id w))
+    → ((h : ℕ → ℕ) → seat_numbers h w + total h (below k.head.made) ≡ seat_numbers h v + total h (below head.made)) → is_drain w + one_if k.head.started ≡ is_drain v + one_if head.started
+    → ((h : ℕ × Rec → ℕ) → weigh h w + total h (with_places 0 k.s.history) ≡ weigh h v + total h (with_places 0 s.history))
+    → KeepsTurnRule (board (set t.words 1 y) t.homes (set t.views id w))
 event t k id v w y s d head halt me holds still world mine others here there controls made drains pairs =
     let other = get_or-set_other t.words 1 0 y 0 (λ e. omega arith) in let busy = has v holds in let now = has w still in let part = term_le has_turn t.views id v me in let all = k.holders in let most = k.wired.turn in
     moved t k id v w (set t.words 1 y) t.homes s d head halt me world
@@ -254,58 +254,58 @@ rises : (n : ℕ) → IsEvent (step n 1 1 0 none)
 rises n = record { word = refl; one = refl; alone = refl }
 
 -- what an event tells
-abbrev ByEvent : ℕ → ℕ → Sat → Told → ℕ → ℕ → Type 0
-ByEvent n id m then i more = Allows Kept n id m i (λ y. (y + more) % 2 ^ 64) (then (step n i more 0 none) m)
+abbrev ByEvent : ℕ → ℕ → Sat → StepTold → ℕ → ℕ → Type 0
+ByEvent n id m then i more = Allows KeepsTurnRule n id m i (λ y. (y + more) % 2 ^ 64) (then (step n i more 0 none) m)
 
 -- whatever step it is by
-by_event : (n id : ℕ) (m : Sat) (then : Told) (i more : ℕ) → IsEvent (step n i more 0 none) → ByEvent n id m then 1 1 → ByEvent n id m then i more
+by_event : (n id : ℕ) (m : Sat) (then : StepTold) (i more : ℕ) → IsEvent (step n i more 0 none) → ByEvent n id m then 1 1 → ByEvent n id m then i more
 by_event n id m then i more event allows =
     subst (λ (j : ℕ). ByEvent n id m then j more) (sym event.word) (subst (λ (j : ℕ). ByEvent n id m then 1 j) (sym event.one) allows)
 
 -- pairs of records that stand behind a history
-placed_behind : (history records : List Rec) (n : ℕ) → n ≡ length history → Each (λ (pair : ℕ × Rec). At (history ++ records) pair.0 pair.1) (placed_from n records)
+placed_behind : (history records : List Rec) (n : ℕ) → n ≡ length history → Each (λ (pair : ℕ × Rec). At (history ++ records) pair.0 pair.1) (with_places n records)
 placed_behind history records n same j pair at =
     let there = placed_at n records j pair at in
     let place : length history + j ≡ pair.0 = omega (arith, there.0, same) in
     subst (λ (i : ℕ). At (history ++ records) i pair.1) place (at_second history records j pair.1 there.1)
 
-none_unended : (d : DeskView) → d.end ≡ None → (e : End) → end_of d ≡ Some e → ⊥
+none_unended : (d : DeskView) → d.end ≡ None → (e : End) → desk_end d ≡ Some e → ⊥
 none_unended d unended e is = none-some e (sym (ap first_of unended) ∙ is)
 
 -- What a step says that counts records, whether its seat keeps the turn or frees it: of the desk and the history behind it, of
 -- its own view, of the others, which don't hold the turn, and of the pairs.
-record Counting (t : St) (k : Kept t) (v : View) (records : List Rec) : Type 0 where
-  world : World (accept 0 records k.s) (added v.hand records) k.head k.halt
-  mine : (held : Bool) → Fits (k.s.history ++ records) (added v.hand records) k.halt (view held (added v.hand records) v.missed (counts v (added v.hand records)).pass v.post)
-  others : (u : View) → u.holds ≡ false → Fits k.s.history k.d k.halt u → Fits (k.s.history ++ records) (added v.hand records) k.halt u
-  pairs : (h : ℕ × Rec → ℕ) → weigh h (counts v (added v.hand records)) + total h (placed_from 0 k.s.history) ≡ weigh h v + total h (placed_from 0 (k.s.history ++ records))
+record Counting (t : St) (k : KeepsTurnRule t) (v : View) (records : List Rec) : Type 0 where
+  world : World (accept 0 records k.s) (with_more_records v.hand records) k.head k.halt
+  mine : (held : Bool) → ViewFits (k.s.history ++ records) (with_more_records v.hand records) k.halt (view held (with_more_records v.hand records) v.missed (counts v (with_more_records v.hand records)).pass v.post)
+  others : (u : View) → u.holds ≡ false → ViewFits k.s.history k.d k.halt u → ViewFits (k.s.history ++ records) (with_more_records v.hand records) k.halt u
+  pairs : (h : ℕ × Rec → ℕ) → weigh h (counts v (with_more_records v.hand records)) + total h (with_places 0 k.s.history) ≡ weigh h v + total h (with_places 0 (k.s.history ++ records))
 
-counting : (t : St) (k : Kept t) (id : ℕ) (v : View) (records : List Rec) → get_elem? t.views id ≡ some v → v.holds ≡ true → MayCount v.hand records (added v.hand records) → v.post.publishes ≡ true → Counting t k v records
-counting t k id v records me holds may named = let hand = v.hand in let d = added hand records in let f = k.each id v me in let is : hand ≡ k.d = f.hand holds in
+counting : (t : St) (k : KeepsTurnRule t) (id : ℕ) (v : View) (records : List Rec) → get_elem? t.views id ≡ some v → v.holds ≡ true → MayCount v.hand records (with_more_records v.hand records) → v.post.publishes ≡ true → Counting t k v records
+counting t k id v records me holds may named = let hand = v.hand in let d = with_more_records hand records in let f = k.each id v me in let is : hand ≡ k.d = f.hand holds in
     let history = k.s.history ++ records in
     let stands : DeskStandsFor hand k.s = subst (λ (z : DeskView). DeskStandsFor z k.s) (sym is) k.world.stands in let p = parts hand k.s stands in
-    let new : fresh hand d ≡ records = drop-append_seam hand.primary records in
+    let new : fresh_records hand d ≡ records = drop-append_seam hand.primary records in
     let spares = may.spares k.s stands in
     let unended = may.unended in
     let idle_view : View = view false v.hand v.missed v.pass v.post in
-    let was : Fits k.s.history hand k.halt idle_view = subst (λ (z : DeskView). Fits k.s.history z k.halt idle_view) (sym is)
+    let was : ViewFits k.s.history hand k.halt idle_view = subst (λ (z : DeskView). ViewFits k.s.history z k.halt idle_view) (sym is)
     record { hand = λ e. no e; pass = f.pass; known = f.known; note = f.note; drains = f.drains; idle = f.idle } in
-    let g : Fits history d k.halt idle_view = view_grown k.s.history records hand k.halt idle_view unended spares refl was in
-    let more = subst (λ (l : List Rec). Each (λ (pair : ℕ × Rec). At history pair.0 pair.1) (placed_from (accepted hand) l)) (sym new) (placed_behind k.s.history records (accepted hand) p.count) in record {
+    let g : ViewFits history d k.halt idle_view = view_grown k.s.history records hand k.halt idle_view unended spares refl was in
+    let more = subst (λ (l : List Rec). Each (λ (pair : ℕ × Rec). At history pair.0 pair.1) (with_places (accepted hand) l)) (sym new) (placed_behind k.s.history records (accepted hand) p.count) in record {
       world = record {
         stands = may.stands k.s stands;
         last = λ e at end. absurd (none-some _ (sym unended ∙ end));
         controls = k.world.controls;
         unstarted = λ e. (ap (λ (z : DeskView). z.taken) is ∙ (k.world.unstarted e).0, (k.world.unstarted e).1);
         closed = λ e. absurd (none_unended hand unended Closed e);
-        shut = λ e. ap end_of is ∙ k.world.shut e;
+        shut = λ e. ap desk_end is ∙ k.world.shut e;
         halted = λ stop e. absurd (none_unended hand unended (Stopped stop) e);
-        stood = λ stop e. ap end_of is ∙ k.world.stood stop e;
+        stood = λ stop e. ap desk_end is ∙ k.world.stood stop e;
       };
       mine = λ held. record {
         hand = λ _. refl;
         pass = λ e. let there = g.pass e in record {
-          own = each_joined (λ (pair : ℕ × Rec). At history pair.0 pair.1) v.pass.own (placed_from (accepted hand) (fresh hand d)) there.own more;
+          own = each_joined (λ (pair : ℕ × Rec). At history pair.0 pair.1) v.pass.own (with_places (accepted hand) (fresh_records hand d)) there.own more;
           named = there.named;
           named_ids = there.named_ids;
           fulls = there.fulls;
@@ -319,20 +319,20 @@ counting t k id v records me holds may named = let hand = v.hand in let d = adde
         drains = g.drains;
         idle = λ z. absurd (true≢false (sym named ∙ z));
       };
-      others = λ u idle h. view_grown k.s.history records hand k.halt u unended spares idle (subst (λ (z : DeskView). Fits k.s.history z k.halt u) (sym is) h);
+      others = λ u idle h. view_grown k.s.history records hand k.halt u unended spares idle (subst (λ (z : DeskView). ViewFits k.s.history z k.halt u) (sym is) h);
       pairs = λ h.
-          let a : total h (v.pass.own ++ placed_from (accepted hand) (fresh hand d)) ≡ total h v.pass.own + total h (placed_from (length k.s.history) records) =
-          total-append h v.pass.own (placed_from (accepted hand) (fresh hand d)) ∙ ap (λ (z : ℕ × List Rec). total h v.pass.own + total h (placed_from z.0 z.1)) (λ i. (p.count i, new i)) in
+          let a : total h (v.pass.own ++ with_places (accepted hand) (fresh_records hand d)) ≡ total h v.pass.own + total h (with_places (length k.s.history) records) =
+          total-append h v.pass.own (with_places (accepted hand) (fresh_records hand d)) ∙ ap (λ (z : ℕ × List Rec). total h v.pass.own + total h (with_places z.0 z.1)) (λ i. (p.count i, new i)) in
           let size : 0 + length k.s.history ≡ length k.s.history = omega arith in
-          let b : total h (placed_from 0 history) ≡ total h (placed_from 0 k.s.history) + total h (placed_from (length k.s.history) records) =
-          ap (total h) (placed_more 0 k.s.history records ∙ ap (λ (z : ℕ). placed_from 0 k.s.history ++ placed_from z records) size) ∙ total-append h (placed_from 0 k.s.history) (placed_from (length k.s.history) records) in
+          let b : total h (with_places 0 history) ≡ total h (with_places 0 k.s.history) + total h (with_places (length k.s.history) records) =
+          ap (total h) (placed_more 0 k.s.history records ∙ ap (λ (z : ℕ). with_places 0 k.s.history ++ with_places z records) size) ∙ total-append h (with_places 0 k.s.history) (with_places (length k.s.history) records) in
           omega (arith, a, b);
     }
 
 -- records are counted
-counts_records : (n id : ℕ) (v : View) (records : List Rec) → v.holds ≡ true → MayCount v.hand records (added v.hand records) → v.post.publishes ≡ true → let d = added v.hand records in
-    Allows Kept n id (v, (0, d) ∷ []) 1 (λ y. (y + 1) % 2 ^ 64) (counted (step n 1 1 0 none) (v, (0, d) ∷ []))
-counts_records n id v records holds may named t k wide me _ = let d = added v.hand records in let w : View = counts v d in let it = counting t k id v records me holds may named in (
+counts_records : (n id : ℕ) (v : View) (records : List Rec) → v.holds ≡ true → MayCount v.hand records (with_more_records v.hand records) → v.post.publishes ≡ true → let d = with_more_records v.hand records in
+    Allows KeepsTurnRule n id (v, (0, d) ∷ []) 1 (λ y. (y + 1) % 2 ^ 64) (records_counted (step n 1 1 0 none) (v, (0, d) ∷ []))
+counts_records n id v records holds may named t k wide me _ = let d = with_more_records v.hand records in let w : View = counts v d in let it = counting t k id v records me holds may named in (
   w,
   keeps,
   tt,
@@ -342,11 +342,11 @@ counts_records n id v records holds may named t k wide me _ = let d = added v.ha
 )
 
 -- records are counted as the turn is freed
-frees_records : (n id : ℕ) (v : View) (records : List Rec) → v.holds ≡ true → MayCount v.hand records (added v.hand records) → v.post.publishes ≡ true → let d = added v.hand records in
-    Allows Kept n id (v, (0, d) ∷ []) 0 (λ _. 0) (λ _. freed_counting (step n 0 0 0 none) (v, (0, d) ∷ []) 0)
+frees_records : (n id : ℕ) (v : View) (records : List Rec) → v.holds ≡ true → MayCount v.hand records (with_more_records v.hand records) → v.post.publishes ≡ true → let d = with_more_records v.hand records in
+    Allows KeepsTurnRule n id (v, (0, d) ∷ []) 0 (λ _. 0) (λ _. freed_counting (step n 0 0 0 none) (v, (0, d) ∷ []) 0)
 frees_records n id v records holds may named t k wide me _ = let x : ℕ = get_or t.words 0 0 in let long = k.wired.wide in let near = k.wired.homes_one in let most = k.wired.turn in
     let busy = has v holds in let part = term_le has_turn t.views id v me in let all = k.holders in
-    let d = added v.hand records in let w : View = frees_counting v d in let same = get_or-set_same t.words 0 0 0 (omega arith) in let it = counting t k id v records me holds may named in (
+    let d = with_more_records v.hand records in let w : View = frees_counting v d in let same = get_or-set_same t.words 0 0 0 (omega arith) in let it = counting t k id v records me holds may named in (
       w,
       gives,
       tt,
@@ -366,13 +366,13 @@ frees_records n id v records holds may named t k wide me _ = let x : ℕ = get_o
     )
 
 pub frees_as_counted : (n id : ℕ) (m : Sat) (d : DeskView) (records : List Rec) → m.1 ≡ (0, d) ∷ [] → m.0.holds ≡ true → MayCount m.0.hand records d → m.0.post.publishes ≡ true
-    → Allows Kept n id m 0 (λ _. 0) (λ _. freed_counting (step n 0 0 0 none) m 0)
-frees_as_counted n id m d records out holds may named = subst (λ (c : List (ℕ × DeskView)). Allows Kept n id (m.0, c) 0 (λ _. 0) (λ _. freed_counting (step n 0 0 0 none) (m.0, c) 0))
+    → Allows KeepsTurnRule n id m 0 (λ _. 0) (λ _. freed_counting (step n 0 0 0 none) m 0)
+frees_as_counted n id m d records out holds may named = subst (λ (c : List (ℕ × DeskView)). Allows KeepsTurnRule n id (m.0, c) 0 (λ _. 0) (λ _. freed_counting (step n 0 0 0 none) (m.0, c) 0))
     (ap (λ (z : DeskView). (0, z) ∷ []) (sym may.is) ∙ sym out) (frees_records n id m.0 records holds (subst (MayCount m.0.hand records) may.is may) named)
 
 pub counts_as : (n id : ℕ) (m : Sat) (d : DeskView) (records : List Rec) (i more : ℕ) → IsEvent (step n i more 0 none) → m.1 ≡ (0, d) ∷ [] → m.0.holds ≡ true → MayCount m.0.hand records d → m.0.post.publishes ≡ true
-    → ByEvent n id m counted i more
-counts_as n id m d records i more event out holds may named = by_event n id m counted i more event (subst (λ (c : List (ℕ × DeskView)). Allows Kept n id (m.0, c) 1 (λ y. (y + 1) % 2 ^ 64) (counted (step n 1 1 0 none) (m.0, c)))
+    → ByEvent n id m records_counted i more
+counts_as n id m d records i more event out holds may named = by_event n id m records_counted i more event (subst (λ (c : List (ℕ × DeskView)). Allows KeepsTurnRule n id (m.0, c) 1 (λ y. (y + 1) % 2 ^ 64) (records_counted (step n 1 1 0 none) (m.0, c)))
     (ap (λ (z : DeskView). (0, z) ∷ []) (sym may.is) ∙ sym out) (counts_records n id m.0 records holds (subst (MayCount m.0.hand records) may.is may) named))
 
 one_most : (b : Bool) → one_if b ≤ 1
@@ -381,7 +381,7 @@ one_most false = omega arith
 
 -- the buffer is handed over
 hands_primary : (n id : ℕ) (v : View) → v.holds ≡ true → v.post ≡ drain_post v.post.stop v.post.taken → let d = swapped v.hand in
-    Allows Kept n id (v, (0, d) ∷ []) 1 (λ y. (y + 1) % 2 ^ 64) (handed_over (step n 1 1 0 none) (v, (0, d) ∷ []))
+    Allows KeepsTurnRule n id (v, (0, d) ∷ []) 1 (λ y. (y + 1) % 2 ^ 64) (handed_over (step n 1 1 0 none) (v, (0, d) ∷ []))
 hands_primary n id v holds shape t k wide me _ = let hand = v.hand in let d = swapped hand in let f = k.each id v me in let is : hand ≡ k.d = f.hand holds in
     let history = k.s.history in let s : State = all_taken k.s in let w : View = hands_over v d in
     let stands : DeskStandsFor hand k.s = subst (λ (z : DeskView). DeskStandsFor z k.s) (sym is) k.world.stands in let p = parts hand k.s stands in
@@ -404,10 +404,10 @@ hands_primary n id v holds shape t k wide me _ = let hand = v.hand in let d = sw
             last = λ e at end. let same = k.world.last e at (ap (λ (z : DeskView). z.end) (sym is) ∙ end) in omega (arith, same, ap accepted is);
             controls = k.world.controls;
             unstarted = λ e. absurd (omega (arith, ap one_if e, mine, term_le is_drain t.views id v me, k.drains));
-            closed = λ e. k.world.closed (ap end_of (sym is) ∙ e);
-            shut = λ e. ap end_of is ∙ k.world.shut e;
-            halted = λ stop e. k.world.halted stop (ap end_of (sym is) ∙ e);
-            stood = λ stop e. ap end_of is ∙ k.world.stood stop e;
+            closed = λ e. k.world.closed (ap desk_end (sym is) ∙ e);
+            shut = λ e. ap desk_end is ∙ k.world.shut e;
+            halted = λ stop e. k.world.halted stop (ap desk_end (sym is) ∙ e);
+            stood = λ stop e. ap desk_end is ∙ k.world.stood stop e;
           }
           record {
             hand = λ _. refl;
@@ -417,21 +417,21 @@ hands_primary n id v holds shape t k wide me _ = let hand = v.hand in let d = sw
               taken = record { within = omega (arith, ap length whole); same = whole ∙ sym (take_all (length (v.post.taken ++ hand.primary)) history (omega (arith, ap length whole))) };
               told = λ g e. absurd (none-some _ e);
               cause = λ g stop e. absurd (none-some _ e);
-              stood = λ stop e. ap end_of is ∙ f.note.stood stop e;
+              stood = λ stop e. ap desk_end is ∙ f.note.stood stop e;
             };
             drains = λ _. (ap length whole ∙ sym p.count, (f.drains drains).1);
             idle = λ _. f.idle none_made;
           }
           (λ u j apart e idle h. view_later history hand d k.halt k.halt u (later_swapped hand) idle
           (λ theirs. let both : is_drain u ≡ 1 = ap one_if theirs in let most = one_most k.head.started in absurd (omega (arith, terms_le is_drain t.views id j v u apart me e, k.drains)))
-          (subst (λ (z : DeskView). Fits history z k.halt u) (sym is) h))
+          (subst (λ (z : DeskView). ViewFits history z k.halt u) (sym is) h))
           (λ z. absurd (not_first z)) (λ _. refl) (λ e. no e) (λ h. omega (arith, ap (numbers_in h) shape)) (omega arith) (λ h. omega (arith, ap (total (λ (x : Gathered). total h x.pass.own)) none_known)),
       (rises n, refl, subst Numbered (sym whole) k.world.stands.numbered),
     )
 
 pub hands_as : (n id : ℕ) (m : Sat) (i more : ℕ) → IsEvent (step n i more 0 none) → m.1 ≡ (0, swapped m.0.hand) ∷ [] → m.0.holds ≡ true → m.0.post ≡ drain_post m.0.post.stop m.0.post.taken
     → ByEvent n id m handed_over i more
-hands_as n id m i more event out holds shape = by_event n id m handed_over i more event (subst (λ (c : List (ℕ × DeskView)). Allows Kept n id (m.0, c) 1 (λ y. (y + 1) % 2 ^ 64) (handed_over (step n 1 1 0 none) (m.0, c)))
+hands_as n id m i more event out holds shape = by_event n id m handed_over i more event (subst (λ (c : List (ℕ × DeskView)). Allows KeepsTurnRule n id (m.0, c) 1 (λ y. (y + 1) % 2 ^ 64) (handed_over (step n 1 1 0 none) (m.0, c)))
     (sym out) (hands_primary n id m.0 holds shape))
 
 abbrev placed_end : End → ℕ → End × ℕ
@@ -439,7 +439,7 @@ placed_end end at = (end, at)
 
 -- the end of a desk that had none
 end_is : (d : DeskView) (end : End) → d.end ≡ None → (ended d end).end ≡ Some (placed_end end (accepted d))
-end_is d end unended = ap (λ (x : Option (End × ℕ)). end_or x end (accepted d)) unended
+end_is d end unended = ap (λ (x : Option (End × ℕ)). end_unless x end (accepted d)) unended
 
 same_place : (end e : End) (count at : ℕ) → Some (placed_end end count) ≡ Some (placed_end e at) → at ≡ count
 same_place end e count at is = ap (λ (x : End × ℕ). x.1) (same_Some (placed_end e at) (placed_end end count) (sym is))
@@ -447,10 +447,10 @@ same_place end e count at is = ap (λ (x : End × ℕ). x.1) (same_Some (placed_
 ended_last : (d : DeskView) (end : End) → d.end ≡ None → EndIsLast (ended d end)
 ended_last d end unended e at is = same_place end e (accepted d) at (sym (end_is d end unended) ∙ is)
 
-end_is_found : (d : DeskView) (end : End) → d.end ≡ None → end_of (ended d end) ≡ Some end
+end_is_found : (d : DeskView) (end : End) → d.end ≡ None → desk_end (ended d end) ≡ Some end
 end_is_found d end unended = ap first_of (end_is d end unended)
 
-end_of_is : (d : DeskView) (end e : End) → d.end ≡ None → end_of (ended d end) ≡ Some e → end ≡ e
+end_of_is : (d : DeskView) (end e : End) → d.end ≡ None → desk_end (ended d end) ≡ Some e → end ≡ e
 end_of_is d end e unended is = same_Some end e (ap first_of (sym (end_is d end unended)) ∙ is)
 
 closed_stopped : {X : Type 0} (stop : Stop) → Closed ≡ Stopped stop → X
@@ -461,7 +461,7 @@ stopped_same a b e = cc
 
 -- the control closes
 closes_log : (n id : ℕ) (v : View) → v.holds ≡ true → v.hand.end ≡ None → v.post.controls ≡ true → v.post.drains ≡ false → let d = ended v.hand Closed in
-    Allows Kept n id (v, (0, d) ∷ []) 1 (λ y. (y + 1) % 2 ^ 64) (closed (step n 1 1 0 none) (v, (0, d) ∷ []))
+    Allows KeepsTurnRule n id (v, (0, d) ∷ []) 1 (λ y. (y + 1) % 2 ^ 64) (closed (step n 1 1 0 none) (v, (0, d) ∷ []))
 closes_log n id v holds unended controls quiet t k wide me _ = let hand = v.hand in let d = ended hand Closed in let f = k.each id v me in let is : hand ≡ k.d = f.hand holds in
     let history = k.s.history in let s : State = end_with Closed k.s in let w : View = closes v d in
     let stands : DeskStandsFor hand k.s = subst (λ (z : DeskView). DeskStandsFor z k.s) (sym is) k.world.stands in
@@ -479,7 +479,7 @@ closes_log n id v holds unended controls quiet t k wide me _ = let hand = v.hand
             closed = λ _. refl;
             shut = λ _. end_is_found hand Closed unended;
             halted = λ stop e. closed_stopped stop (end_of_is hand Closed (Stopped stop) unended e);
-            stood = λ stop e. absurd (none_unended hand unended (Stopped stop) (ap end_of is ∙ k.world.stood stop e));
+            stood = λ stop e. absurd (none_unended hand unended (Stopped stop) (ap desk_end is ∙ k.world.stood stop e));
           }
           record {
             hand = λ _. refl;
@@ -490,19 +490,19 @@ closes_log n id v holds unended controls quiet t k wide me _ = let hand = v.hand
             idle = f.idle;
           }
           (λ u j apart e idle h. view_later history hand d k.halt k.halt u go idle (λ theirs. let there = h.drains theirs in (there.0 ∙ ap (λ (z : DeskView). z.taken) (sym is), there.1))
-          (subst (λ (z : DeskView). Fits history z k.halt u) (sym is) h))
+          (subst (λ (z : DeskView). ViewFits history z k.halt u) (sym is) h))
           (λ _. ap shuts mine) (λ nz. absurd (nz zero_id)) (λ _. zero_id) (λ h. refl) (omega (arith, ap (λ (x : Post). one_if x.started) mine)) (λ h. refl),
       (rises n, refl),
     )
 
 pub closes_as : (n id : ℕ) (m : Sat) (i more : ℕ) → IsEvent (step n i more 0 none) → m.1 ≡ (0, ended m.0.hand Closed) ∷ [] → m.0.holds ≡ true → m.0.hand.end ≡ None → m.0.post.controls ≡ true → m.0.post.drains ≡ false
     → ByEvent n id m closed i more
-closes_as n id m i more event out holds unended controls quiet = by_event n id m closed i more event (subst (λ (c : List (ℕ × DeskView)). Allows Kept n id (m.0, c) 1 (λ y. (y + 1) % 2 ^ 64) (closed (step n 1 1 0 none) (m.0, c)))
+closes_as n id m i more event out holds unended controls quiet = by_event n id m closed i more event (subst (λ (c : List (ℕ × DeskView)). Allows KeepsTurnRule n id (m.0, c) 1 (λ y. (y + 1) % 2 ^ 64) (closed (step n 1 1 0 none) (m.0, c)))
     (sym out) (closes_log n id m.0 holds unended controls quiet))
 
 -- the drain stops
 stops_log : (n id : ℕ) (v : View) (stop : Stop) → v.holds ≡ true → v.hand.end ≡ None → v.post ≡ drain_post v.post.stop v.post.taken → let d = ended v.hand (Stopped stop) in
-    Allows Kept n id (v, (0, d) ∷ []) 1 (λ y. (y + 1) % 2 ^ 64) (stopped (step n 1 1 0 none) (v, (0, d) ∷ []))
+    Allows KeepsTurnRule n id (v, (0, d) ∷ []) 1 (λ y. (y + 1) % 2 ^ 64) (stopped (step n 1 1 0 none) (v, (0, d) ∷ []))
 stops_log n id v stop holds unended shape t k wide me _ = let hand = v.hand in let d = ended hand (Stopped stop) in let f = k.each id v me in let is : hand ≡ k.d = f.hand holds in
     let history = k.s.history in let s : State = end_with (Stopped stop) k.s in let w : View = stops v d in
     let stands : DeskStandsFor hand k.s = subst (λ (z : DeskView). DeskStandsFor z k.s) (sym is) k.world.stands in
@@ -515,7 +515,7 @@ stops_log n id v stop holds unended shape t k wide me _ = let hand = v.hand in l
     let not_first : id ≢ 0 = λ z. true≢false (sym (k.world.controls) ∙ ap (λ (x : Post). x.controls) (sym (heads t k id v me z)) ∙ kind) in
     let go = later_ended hand (Stopped stop) unended in
     let set_to : stop_in d.end ≡ Some stop = ap stop_in (end_is hand (Stopped stop) unended) in
-    let stops_so : (other : Stop) → Some stop ≡ Some other → end_of d ≡ Some (Stopped other) =
+    let stops_so : (other : Stop) → Some stop ≡ Some other → desk_end d ≡ Some (Stopped other) =
     λ other e. end_is_found hand (Stopped stop) unended ∙ ap (λ (x : Stop). Some (Stopped x)) (same_Some stop other e) in (
       w,
       keeps,
@@ -527,7 +527,7 @@ stops_log n id v stop holds unended shape t k wide me _ = let hand = v.hand in l
             controls = k.world.controls;
             unstarted = λ e. absurd (omega (arith, ap one_if e, mine, term_le is_drain t.views id v me, k.drains));
             closed = λ e. closed_stopped stop (sym (end_of_is hand (Stopped stop) Closed unended e));
-            shut = λ e. absurd (none_unended hand unended Closed (ap end_of is ∙ k.world.shut e));
+            shut = λ e. absurd (none_unended hand unended Closed (ap desk_end is ∙ k.world.shut e));
             halted = λ other e. ap Some (stopped_same stop other (end_of_is hand (Stopped stop) (Stopped other) unended e));
             stood = stops_so;
           }
@@ -541,23 +541,23 @@ stops_log n id v stop holds unended shape t k wide me _ = let hand = v.hand in l
           }
           (λ u j apart e idle h. view_later history hand d k.halt (Some stop) u go idle
           (λ theirs. let both : is_drain u ≡ 1 = ap one_if theirs in let most = one_most k.head.started in absurd (omega (arith, terms_le is_drain t.views id j v u apart me e, k.drains)))
-          (subst (λ (z : DeskView). Fits history z k.halt u) (sym is) h))
+          (subst (λ (z : DeskView). ViewFits history z k.halt u) (sym is) h))
           (λ z. absurd (not_first z)) (λ _. refl) (λ e. no e) (λ h. omega (arith, ap (numbers_in h) shape)) (omega arith) (λ h. omega (arith, ap (total (λ (x : Gathered). total h x.pass.own)) none_known)),
       (rises n, refl),
     )
 
 pub stops_as : (n id : ℕ) (m : Sat) (stop : Stop) (i more : ℕ) → IsEvent (step n i more 0 none) → m.1 ≡ (0, ended m.0.hand (Stopped stop)) ∷ [] → m.0.holds ≡ true → m.0.hand.end ≡ None → m.0.post ≡ drain_post m.0.post.stop m.0.post.taken
     → ByEvent n id m stopped i more
-stops_as n id m stop i more event out holds unended shape = by_event n id m stopped i more event (subst (λ (c : List (ℕ × DeskView)). Allows Kept n id (m.0, c) 1 (λ y. (y + 1) % 2 ^ 64) (stopped (step n 1 1 0 none) (m.0, c)))
+stops_as n id m stop i more event out holds unended shape = by_event n id m stopped i more event (subst (λ (c : List (ℕ × DeskView)). Allows KeepsTurnRule n id (m.0, c) 1 (λ y. (y + 1) % 2 ^ 64) (stopped (step n 1 1 0 none) (m.0, c)))
     (sym out) (stops_log n id m.0 stop holds unended shape))
 
 -- ---- seats that are made and spent
 
 -- a seat is cut in two
-split : (t : St) (k : Kept t) (id : ℕ) (v w r : View) (head : Post) → get_elem? t.views id ≡ some v → w.holds ≡ v.holds → r.holds ≡ false
-    → World k.s k.d head k.halt → Fits k.s.history k.d k.halt w → Fits k.s.history k.d k.halt r → (id ≡ 0 → w.post ≡ head) → (id ≢ 0 → k.head ≡ head) → (w.post.controls ≡ true → id ≡ 0) → r.post.controls ≡ false
-    → ((h : ℕ → ℕ) → numbers h w + numbers h r + total h (below k.head.made) ≡ numbers h v + total h (below head.made)) → is_drain w + is_drain r + one_if k.head.started ≡ is_drain v + one_if head.started
-    → ((h : ℕ × Rec → ℕ) → weigh h w ≡ weigh h v) → ((h : ℕ × Rec → ℕ) → weigh h r ≡ 0) → Kept (board t.words t.homes (set t.views id w ++ r ∷ []))
+split : (t : St) (k : KeepsTurnRule t) (id : ℕ) (v w r : View) (head : Post) → get_elem? t.views id ≡ some v → w.holds ≡ v.holds → r.holds ≡ false
+    → World k.s k.d head k.halt → ViewFits k.s.history k.d k.halt w → ViewFits k.s.history k.d k.halt r → (id ≡ 0 → w.post ≡ head) → (id ≢ 0 → k.head ≡ head) → (w.post.controls ≡ true → id ≡ 0) → r.post.controls ≡ false
+    → ((h : ℕ → ℕ) → seat_numbers h w + seat_numbers h r + total h (below k.head.made) ≡ seat_numbers h v + total h (below head.made)) → is_drain w + is_drain r + one_if k.head.started ≡ is_drain v + one_if head.started
+    → ((h : ℕ × Rec → ℕ) → weigh h w ≡ weigh h v) → ((h : ℕ × Rec → ℕ) → weigh h r ≡ 0) → KeepsTurnRule (board t.words t.homes (set t.views id w ++ r ∷ []))
 split t k id v w r head me holds idle world mine new here there controls not_control made drains same none_yet = let vs : List View = set t.views id w in record {
   s = k.s;
   d = k.d;
@@ -566,20 +566,20 @@ split t k id v w r head me holds idle world mine new here there controls not_con
   world = world;
   wired = k.wired;
   holders = omega (arith, total-append has_turn vs (r ∷ []), total-set has_turn t.views id v w me, ap one_if holds, has_not r idle, k.holders);
-  each = λ j u e. ⊎_elim (λ old. ⊎_elim (λ x. subst (Fits k.s.history k.d k.halt) x.1 mine) (λ x. k.each j u x.1) (at_set t.views id j w u old)) (λ (x : r ≡ u). subst (Fits k.s.history k.d k.halt) x new) (at_snoc vs r u j e);
+  each = λ j u e. ⊎_elim (λ old. ⊎_elim (λ x. subst (ViewFits k.s.history k.d k.halt) x.1 mine) (λ x. k.each j u x.1) (at_set t.views id j w u old)) (λ (x : r ≡ u). subst (ViewFits k.s.history k.d k.halt) x new) (at_snoc vs r u j e);
   first = dite (ℕ_discrete 0 id)
       (λ z. (w, at_longer vs (r ∷ []) 0 w (ap (λ (i : ℕ). get_elem? vs i) z ∙ set_at t.views id v w me), here (sym z)))
       (λ nz. (k.first.0, at_longer vs (r ∷ []) 0 k.first.0 (set_else t.views id 0 w nz ∙ k.first.1), k.first.2 ∙ there (λ z. nz (sym z))));
   controls = λ j u e c. ⊎_elim (λ old. ⊎_elim (λ (x : (j ≡ id) × (w ≡ u)). x.0 ∙ controls (ap (λ (y : View). y.post.controls) x.1 ∙ c)) (λ x. k.controls j u x.1 c) (at_set t.views id j w u old))
       (λ (x : r ≡ u). no (sym not_control ∙ (ap (λ (y : View). y.post.controls) x ∙ c))) (at_snoc vs r u j e);
-  made = λ h. omega (arith, total-append (numbers h) vs (r ∷ []), total-set (numbers h) t.views id v w me, k.made h, made h);
+  made = λ h. omega (arith, total-append (seat_numbers h) vs (r ∷ []), total-set (seat_numbers h) t.views id v w me, k.made h, made h);
   drains = omega (arith, total-append is_drain vs (r ∷ []), total-set is_drain t.views id v w me, k.drains, drains);
   pairs = λ h. omega (arith, total-append (weigh h) vs (r ∷ []), total-set (weigh h) t.views id v w me, same h, none_yet h, k.pairs h);
 }
 
 -- what a seat says that has done nothing
 fits_new : (history : List Rec) (d : DeskView) (halt : Option Stop) (limit : ℕ) (p : Post) → (p.seated ≡ true → limit ≡ d.limit) → p.known ≡ [] → p.taken ≡ [] → p.told ≡ None → p.stop ≡ None
-    → (p.drains ≡ true → (d.taken ≡ 0) × (p.stop ≡ halt)) → Fits history d halt (newcomer limit p)
+    → (p.drains ≡ true → (d.taken ≡ 0) × (p.stop ≡ halt)) → ViewFits history d halt (newcomer limit p)
 fits_new history d halt limit p limited unknown untaken untold unset drains = record {
   hand = λ e. no e;
   pass = λ e. fits_none history d limit (limited e);
@@ -591,7 +591,7 @@ fits_new history d halt limit p limited unknown untaken untold unset drains = re
 
 -- the same view with another post, which tells as much
 fits_post : (history : List Rec) (d : DeskView) (halt : Option Stop) (v : View) (p : Post) → v.post.seated ≡ true → p.known ≡ v.post.known → p.drains ≡ false → p.publishes ≡ v.post.publishes
-    → p.taken ≡ v.post.taken → p.told ≡ v.post.told → p.stop ≡ v.post.stop → Fits history d halt v → Fits history d halt (view v.holds v.hand v.missed v.pass p)
+    → p.taken ≡ v.post.taken → p.told ≡ v.post.told → p.stop ≡ v.post.stop → ViewFits history d halt v → ViewFits history d halt (view v.holds v.hand v.missed v.pass p)
 fits_post history d halt v p seated known quiet publishing taken told stop f = record {
   hand = f.hand;
   pass = λ e. f.pass seated;
@@ -607,7 +607,7 @@ fits_post history d halt v p seated known quiet publishing taken told stop f = r
 }
 
 -- a publisher is made
-pub hires_seat : (id : ℕ) (v : View) → v.post.controls ≡ true → v.post.drains ≡ false → v.post.seated ≡ true → Splits Kept id v (hires v) (hired v)
+pub hires_seat : (id : ℕ) (v : View) → v.post.controls ≡ true → v.post.drains ≡ false → v.post.seated ≡ true → Splits KeepsTurnRule id v (hires v) (hired v)
 hires_seat id v controls quiet seated t k me = let z = k.controls id v me controls in let mine = heads t k id v me z in let f = k.each id v me in let w = hires v in
     let head : Post = record k.head { made = k.head.made + 1 } in
     split t k id v w (hired v) head me refl refl
@@ -618,7 +618,7 @@ hires_seat id v controls quiet seated t k me = let z = k.controls id v me contro
     (λ h. omega (arith, ap (λ (p : Post). h p.made) mine, below-more h k.head.made)) (omega arith) (λ h. refl) (λ h. refl)
 
 -- the drain is made at the start
-pub starts_drain : (id : ℕ) (v : View) → v.post.controls ≡ true → v.post.drains ≡ false → v.post.seated ≡ true → v.post.started ≡ false → Splits Kept id v (starts v) (drainer v)
+pub starts_drain : (id : ℕ) (v : View) → v.post.controls ≡ true → v.post.drains ≡ false → v.post.seated ≡ true → v.post.started ≡ false → Splits KeepsTurnRule id v (starts v) (drainer v)
 starts_drain id v controls quiet seated fresh_one t k me = let z = k.controls id v me controls in let mine = heads t k id v me z in let f = k.each id v me in let w = starts v in
     let unstarted : k.head.started ≡ false = ap (λ (p : Post). p.started) (sym mine) ∙ fresh_one in
     let not_yet : one_if k.head.started ≡ 0 = ap one_if unstarted in
@@ -633,11 +633,11 @@ starts_drain id v controls quiet seated fresh_one t k me = let z = k.controls id
     (λ h. omega arith) (omega arith) (λ h. refl) (λ h. refl)
 
 -- a note is made
-pub notes_drain : (id : ℕ) (v : View) → v.post ≡ drain_post v.post.stop v.post.taken → Splits Kept id v v (noted v)
+pub notes_drain : (id : ℕ) (v : View) → v.post ≡ drain_post v.post.stop v.post.taken → Splits KeepsTurnRule id v v (drain_noted v)
 notes_drain id v shape t k me = let f = k.each id v me in
     let drains : v.post.drains ≡ true = ap (λ (p : Post). p.drains) shape in
     let seated : v.post.seated ≡ true = ap (λ (p : Post). p.seated) shape in
-    split t k id v v (noted v) k.head me refl refl k.world f
+    split t k id v v (drain_noted v) k.head me refl refl k.world f
     record {
       hand = λ e. no e;
       pass = λ e. no e;
@@ -654,11 +654,11 @@ notes_drain id v shape t k me = let f = k.each id v me in
     (heads t k id v me) (λ _. refl) (k.controls id v me) refl (λ h. omega arith) (omega arith) (λ h. refl) (λ h. refl)
 
 -- two seats become one
-joined : (t : St) (k : Kept t) (id : ℕ) (v : View) (other : ℕ) (u w : View) (head : Post) → get_elem? t.views id ≡ some v → ¬ (other ≡ id) → get_elem? (set t.views id w) other ≡ some u → id ≡ 0
-    → w.holds ≡ v.holds → u.holds ≡ false → World k.s k.d head k.halt → Fits k.s.history k.d k.halt w → w.post ≡ head
-    → ((h : ℕ → ℕ) → numbers h w + total h (below k.head.made) ≡ numbers h v + numbers h u + total h (below head.made)) → is_drain w + one_if k.head.started ≡ is_drain v + is_drain u + one_if head.started
+joined : (t : St) (k : KeepsTurnRule t) (id : ℕ) (v : View) (other : ℕ) (u w : View) (head : Post) → get_elem? t.views id ≡ some v → ¬ (other ≡ id) → get_elem? (set t.views id w) other ≡ some u → id ≡ 0
+    → w.holds ≡ v.holds → u.holds ≡ false → World k.s k.d head k.halt → ViewFits k.s.history k.d k.halt w → w.post ≡ head
+    → ((h : ℕ → ℕ) → seat_numbers h w + total h (below k.head.made) ≡ seat_numbers h v + seat_numbers h u + total h (below head.made)) → is_drain w + one_if k.head.started ≡ is_drain v + is_drain u + one_if head.started
     → ((h : ℕ × Rec → ℕ) → weigh h w ≡ weigh h v + weigh h u)
-    → Kept (board t.words t.homes (set (set t.views id w) other nobody))
+    → KeepsTurnRule (board t.words t.homes (set (set t.views id w) other nobody))
 joined t k id v other u w head me apart them z holds idle world mine here made drains same = let vs : List View = set t.views id w in
     let both : (g : View → ℕ) → total g (set vs other nobody) + g u + g v ≡ total g t.views + g w + g nobody = λ g. omega (arith, total-set g t.views id v w me, total-set g vs other u nobody them) in
     record {
@@ -669,18 +669,18 @@ joined t k id v other u w head me apart them z holds idle world mine here made d
       world = world;
       wired = k.wired;
       holders = omega (arith, both has_turn, ap one_if holds, has_not u idle, k.holders);
-      each = λ j x e. ⊎_elim (λ y. subst (Fits k.s.history k.d k.halt) y.1 (fits_new k.s.history k.d k.halt 0 no_post (λ e'. no e') refl refl refl refl (λ e'. no e')))
-          (λ y. ⊎_elim (λ q. subst (Fits k.s.history k.d k.halt) q.1 mine) (λ q. k.each j x q.1) (at_set t.views id j w x y.1)) (at_set vs other j nobody x e);
+      each = λ j x e. ⊎_elim (λ y. subst (ViewFits k.s.history k.d k.halt) y.1 (fits_new k.s.history k.d k.halt 0 no_post (λ e'. no e') refl refl refl refl (λ e'. no e')))
+          (λ y. ⊎_elim (λ q. subst (ViewFits k.s.history k.d k.halt) q.1 mine) (λ q. k.each j x q.1) (at_set t.views id j w x y.1)) (at_set vs other j nobody x e);
       first = (w, set_else vs other 0 nobody (λ e. apart (sym e ∙ sym z)) ∙ (ap (λ (i : ℕ). get_elem? vs i) (sym z) ∙ set_at t.views id v w me), here);
       controls = λ j x e c. ⊎_elim (λ (y : (j ≡ other) × (nobody ≡ x)). no (ap (λ (q : View). q.post.controls) y.1 ∙ c))
           (λ y. ⊎_elim (λ (q : (j ≡ id) × (w ≡ x)). q.0 ∙ z) (λ q. k.controls j x q.1 c) (at_set t.views id j w x y.1)) (at_set vs other j nobody x e);
-      made = λ h. omega (arith, both (numbers h), k.made h, made h);
+      made = λ h. omega (arith, both (seat_numbers h), k.made h, made h);
       drains = omega (arith, both is_drain, k.drains, drains);
       pairs = λ h. omega (arith, both (weigh h), same h, k.pairs h);
     }
 
 -- the control gathers a publisher
-pub gathers_seat : (id : ℕ) (v : View) (other : ℕ) (u : View) (number : ℕ) → v.post.controls ≡ true → v.post.drains ≡ false → v.post.seated ≡ true → u.holds ≡ false → u.post ≡ publisher_post number → Joins Kept id v other u (gathers v u) nobody
+pub gathers_seat : (id : ℕ) (v : View) (other : ℕ) (u : View) (number : ℕ) → v.post.controls ≡ true → v.post.drains ≡ false → v.post.seated ≡ true → u.holds ≡ false → u.post ≡ publisher_post number → Joins KeepsTurnRule id v other u (gathers v u) nobody
 gathers_seat id v other u number controls quiet seated idle shape t k me apart them = let z = k.controls id v me controls in let mine = heads t k id v me z in let f = k.each id v me in let w = gathers v u in
     let there : get_elem? t.views other ≡ some u = sym (set_else t.views id other w apart) ∙ them in let g = k.each other u there in
     let silent : is_drain u ≡ 0 = ap (λ (p : Post). one_if p.drains) shape in
@@ -702,7 +702,7 @@ gathers_seat id v other u number controls quiet seated idle shape t k me apart t
     (λ h. omega (arith, total-append (λ (x : Gathered). total h x.pass.own) v.post.known (gathered u ∷ []), ap (total (λ (x : Gathered). total h x.pass.own)) unknown))
 
 -- the control reads a note
-pub reads_note : (id : ℕ) (v : View) (other : ℕ) (u : View) → v.post.controls ≡ true → v.post.drains ≡ false → v.post.seated ≡ true → u ≡ newcomer 0 (note_post u.post.stop u.post.taken u.post.told) → Joins Kept id v other u (reads v u) nobody
+pub reads_note : (id : ℕ) (v : View) (other : ℕ) (u : View) → v.post.controls ≡ true → v.post.drains ≡ false → v.post.seated ≡ true → u ≡ newcomer 0 (note_post u.post.stop u.post.taken u.post.told) → Joins KeepsTurnRule id v other u (reads v u) nobody
 reads_note id v other u controls quiet seated shape t k me apart them = let z = k.controls id v me controls in let mine = heads t k id v me z in let f = k.each id v me in let w = reads v u in
     let there : get_elem? t.views other ≡ some u = sym (set_else t.views id other w apart) ∙ them in let g = k.each other u there in
     let head : Post = record k.head { stop = u.post.stop; taken = u.post.taken; told = u.post.told } in
@@ -717,13 +717,13 @@ reads_note id v other u controls quiet seated shape t k me apart them = let z = 
       idle = f.idle;
     }
     (ap (λ (p : Post). record p { stop = u.post.stop; taken = u.post.taken; told = u.post.told }) mine)
-    (λ h. omega (arith, ap (numbers h) shape)) (omega (arith, ap is_drain shape))
+    (λ h. omega (arith, ap (seat_numbers h) shape)) (omega (arith, ap is_drain shape))
     (λ h. omega (arith, ap (weigh h) shape))
 
 -- ---- looks
 
 -- a load changes nothing
-loads : (t : St) (k : Kept t) (id : ℕ) (v : View) → get_elem? t.views id ≡ some v → Kept (board (set t.words 1 (get_or t.words 1 0)) t.homes (set t.views id v))
+loads : (t : St) (k : KeepsTurnRule t) (id : ℕ) (v : View) → get_elem? t.views id ≡ some v → KeepsTurnRule (board (set t.words 1 (get_or t.words 1 0)) t.homes (set t.views id v))
 loads t k id v me = let x : ℕ = get_or t.words 1 0 in let f = k.each id v me in let same = set-get_or t.words 1 0 in
     moved t k id v v (set t.words 1 x) t.homes k.s k.d k.head k.halt me k.world
     record {
@@ -737,7 +737,7 @@ loads t k id v me = let x : ℕ = get_or t.words 1 0 in let f = k.each id v me i
     (heads t k id v me) (λ _. refl) (k.controls id v me) (λ h. refl) (omega arith) (λ h. refl)
 
 -- a look behind a publisher that was gathered
-pub settles : (n id : ℕ) (m : Sat) → Allows Kept n id m 1 (λ y. y) (settled (step n 1 0 0 none) m)
+pub settles : (n id : ℕ) (m : Sat) → Allows KeepsTurnRule n id m 1 (λ y. y) (settled (step n 1 0 0 none) m)
 settles n id m t k wide me _ = let v = m.0 in let f = k.each id v me in (
   v,
   keeps,
@@ -755,7 +755,7 @@ settles n id m t k wide me _ = let v = m.0 in let f = k.each id v me in (
 )
 
 -- what a pass showed, where the intake has ended and the history is whole
-shown_to : (s : State) (d : DeskView) (end : End) (p : PassState) → DeskStandsFor d s → end_of d ≡ Some end → PassFits s.history d p → ShownTo s.history end p
+shown_to : (s : State) (d : DeskView) (end : End) (p : PassState) → DeskStandsFor d s → desk_end d ≡ Some end → PassFits s.history d p → ShownTo s.history end p
 shown_to s d end p stands is fits =
     let parts_of = parts d s stands in
     record {
@@ -776,13 +776,13 @@ shown_to s d end p stands is fits =
     }
 
 -- a view without a number of a publisher
-silent : (u : View) → numbers one u ≡ 0 → (u.post.publishes ≡ false) × (u.post.known ≡ [])
+silent : (u : View) → seat_numbers one u ≡ 0 → (u.post.publishes ≡ false) × (u.post.known ≡ [])
 silent u nothing = by_bool ((u.post.publishes ≡ false) × (u.post.known ≡ [])) u.post.publishes
     (λ publishing. absurd (omega (arith, nothing, ap one_if publishing)))
     (λ quiet. (quiet, nil_from_length u.post.known (omega (arith, nothing, total-ones u.post.known))))
 
 -- a look where all is gathered
-pub meets : (n id : ℕ) (m : Sat) → Allows Kept n id m 1 (λ y. y) (met (step n 1 0 0 none) m)
+pub meets : (n id : ℕ) (m : Sat) → Allows KeepsTurnRule n id m 1 (λ y. y) (met (step n 1 0 0 none) m)
 meets n id m t k wide me _ = let v = m.0 in let f = k.each id v me in (
   v,
   keeps,
@@ -796,21 +796,21 @@ meets n id m t k wide me _ = let v = m.0 in let f = k.each id v me in (
         let mine = heads t k id v me z in
         let p = parts k.d k.s k.world.stands in
         let told = f.note.told all.found all.told in
-        let stood : end_of k.d ≡ Some end = told.later.end end all.ended in
+        let stood : desk_end k.d ≡ Some end = told.later.end end all.ended in
         let size : length v.post.taken ≡ length history = sym all.count ∙ (told.all end all.ended ∙ p.count) in
         let whole : v.post.taken ≡ history = f.note.taken.same ∙ take_all (length v.post.taken) history (omega (arith, size)) in
-        let own_none : (h : ℕ → ℕ) → numbers h v ≡ total (λ (x : Gathered). h x.number) v.post.known = λ h. omega (arith, ap (λ (b : Bool). cond b (h v.post.number) 0) all.quiet) in
-        let everyone : total (numbers one) t.views ≡ numbers one v =
+        let own_none : (h : ℕ → ℕ) → seat_numbers h v ≡ total (λ (x : Gathered). h x.number) v.post.known = λ h. omega (arith, ap (λ (b : Bool). cond b (h v.post.number) 0) all.quiet) in
+        let everyone : total (seat_numbers one) t.views ≡ seat_numbers one v =
         omega (arith, k.made one, below-ones k.head.made, ap (λ (x : Post). x.made) mine, all.all, total-ones v.post.known, own_none one) in
         record {
           publishers = λ h.
-              let alone = total-alone (numbers one) (numbers h) t.views id v me everyone (λ i u e none_there. let quiet = silent u none_there in omega (arith, ap (λ (b : Bool). cond b (h u.post.number) 0) quiet.0, ap (total (λ (x : Gathered). h x.number)) quiet.1)) in
+              let alone = total-alone (seat_numbers one) (seat_numbers h) t.views id v me everyone (λ i u e none_there. let quiet = silent u none_there in omega (arith, ap (λ (b : Bool). cond b (h u.post.number) 0) quiet.0, ap (total (λ (x : Gathered). h x.number)) quiet.1)) in
               omega (arith, alone, k.made h, own_none h, ap (λ (x : Post). total h (below x.made)) mine);
           numbered = subst Numbered (sym whole) k.world.stands.numbered;
           pairs = λ h.
-              let alone = total-alone (numbers one) (weigh h) t.views id v me everyone
+              let alone = total-alone (seat_numbers one) (weigh h) t.views id v me everyone
               (λ i u e none_there. let quiet = silent u none_there in omega (arith, ap (total h) ((k.each i u e).idle quiet.0), ap (total (λ (x : Gathered). total h x.pass.own)) quiet.1)) in
-              omega (arith, alone, k.pairs h, ap (total h) all.own, ap (λ (l : List Rec). total h (placed_from 0 l)) whole);
+              omega (arith, alone, k.pairs h, ap (total h) all.own, ap (λ (l : List Rec). total h (with_places 0 l)) whole);
           shown = λ j x at. subst (λ (l : List Rec). ShownTo l end x.pass) (sym whole) (shown_to k.s k.d end x.pass k.world.stands stood (f.known j x at));
           closes = λ is. ap (λ (x : Post). x.closed) mine ∙ k.world.closed (stood ∙ ap Some is);
           stops = λ stop is. f.note.cause all.found stop all.told (all.ended ∙ ap Some is);
@@ -825,7 +825,7 @@ meets n id m t k wide me _ = let v = m.0 in let f = k.each id v me in (
 start_stands : (limit : ℕ) → DeskStandsFor (new_desk limit) start
 start_stands limit = record { desk = refl; within = omega arith; numbered = λ n x at. absurd (at_none n x at) }
 
-pub opens : (limit : ℕ) → Kept (opening (0 ∷ 0 ∷ []) (new_desk limit ∷ []) (newcomer limit first_post))
+pub opens : (limit : ℕ) → KeepsTurnRule (opening (0 ∷ 0 ∷ []) (new_desk limit ∷ []) (newcomer limit first_post))
 opens limit = let d = new_desk limit in let v = newcomer limit first_post in record {
   s = start;
   d = d;
@@ -843,7 +843,7 @@ opens limit = let d = new_desk limit in let v = newcomer limit first_post in rec
   };
   wired = record { wide = refl; homes_one = refl; turn = omega arith; free = λ _. refl; out = λ e. absurd (omega arith) };
   holders = refl;
-  each = λ j u e. ⊎_elim (λ (x : get_elem? [] j ≡ some u). absurd (some-ne-none u (sym x))) (λ (x : v ≡ u). subst (Fits [] d None) x (fits_new [] d None limit first_post (λ _. refl) refl refl refl refl (λ e'. no e'))) (at_snoc [] v u j e);
+  each = λ j u e. ⊎_elim (λ (x : get_elem? [] j ≡ some u). absurd (some-ne-none u (sym x))) (λ (x : v ≡ u). subst (ViewFits [] d None) x (fits_new [] d None limit first_post (λ _. refl) refl refl refl refl (λ e'. no e'))) (at_snoc [] v u j e);
   first = (v, refl, refl);
   controls = λ j u e _. at_zero v j u e;
   made = λ h. refl;

@@ -8,7 +8,7 @@ use Rattle.std.proofs.lemmas.Option.{same_Some}
 use Rattle.rec_data.specs.declared.owned.Rec.{Rec}
 use Rattle.mcap_model.specs.Places.{At, Has}
 use Rattle.mcap_model.proofs.Places.{at_none}
-use Rattle.feed_lane.specs.Pass.{placed_from}
+use Rattle.feed_lane.specs.Pass.{with_places}
 use Rattle.buffer_swap.specs.Weights.{total, one_if}
 use Rattle.buffer_swap.specs.Posts.{Gathered}
 use Rattle.buffer_swap.specs.Laws.{PlacesAreKnown}
@@ -30,17 +30,17 @@ is_here place pair some = dite (ℕ_discrete pair.0 place) (λ is. is) (λ not. 
 abbrev put : ℕ → Rec → ℕ × Rec
 put n r = (n, r)
 
-none_below : (taken : List Rec) (n place : ℕ) → place < n → total (here place) (placed_from n taken) ≡ 0
+none_below : (taken : List Rec) (n place : ℕ) → place < n → total (here place) (with_places n taken) ≡ 0
 none_below [] n place less = refl
 none_below (r ∷ rs) n place less = omega (arith, here_not place (put n r) (λ e. omega (arith, e, less)), none_below rs (n + 1) place (omega (arith, less)))
 
-at_most_one : (taken : List Rec) (n place : ℕ) → total (here place) (placed_from n taken) ≤ 1
+at_most_one : (taken : List Rec) (n place : ℕ) → total (here place) (with_places n taken) ≤ 1
 at_most_one [] n place = omega arith
 at_most_one (r ∷ rs) n place = dite (ℕ_discrete n place)
     (λ is. omega (arith, here_is place (put n r) is, none_below rs (n + 1) place (omega (arith, is))))
     (λ not. omega (arith, here_not place (put n r) not, at_most_one rs (n + 1) place))
 
-one_there : (taken : List Rec) (n place : ℕ) → n ≤ place → place < n + length taken → 1 ≤ total (here place) (placed_from n taken)
+one_there : (taken : List Rec) (n place : ℕ) → n ≤ place → place < n + length taken → 1 ≤ total (here place) (with_places n taken)
 one_there [] n place le lt = absurd (omega (arith, le, lt))
 one_there (r ∷ rs) n place le lt = dite (ℕ_discrete n place)
     (λ is. omega (arith, here_is place (put n r) is))

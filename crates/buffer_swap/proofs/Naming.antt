@@ -12,7 +12,7 @@ use Rattle.record_core.specs.declared.answers.NewMessage.{NewMessage}
 use Rattle.record_core.specs.declared.answers.PublishRefused.{PublishRefused}
 use Rattle.record_core.specs.declared.answers.PublishRefused.TheVariants as publishing
 use Rattle.feed_lane.specs.Pass.{PassState, PublishedBy, DeclaredInto}
-use Rattle.buffer_swap.specs.Calls.{reasoned, Publishes, Declares, NamesSchema, MayName, last_of, LooksOn}
+use Rattle.buffer_swap.specs.Calls.{reasoned, PublishesMessage, DeclaresChannel, NamesSchema, MayName, last_of, LooksOn}
 
 abbrev named_there : {a b : PassState} → a ≡ b → a.named ≡ b.named
 named_there is = ap (λ (p : PassState). p.named) is
@@ -45,27 +45,27 @@ names_looking before after None schema looks names = tt
 names_looking before after (Some id) schema looks names = names_on before after id schema (named_there looks.same) names
 
 -- nor does a message
-pub names_behind_message : (before after : PassState) (m : NewMessage) (result : Result ℕ PublishRefused) (last now : ℕ) → Publishes before after m result → now ≡ last
+pub names_behind_message : (before after : PassState) (m : NewMessage) (result : Result ℕ PublishRefused) (last now : ℕ) → PublishesMessage before after m result → now ≡ last
     → (schema : Option SchemaDef) → NamesSchema before last schema → NamesSchema after now schema
 names_behind_message before after m result last now published same schema names =
     let call = published [] in
     subst (λ (id : ℕ). NamesSchema after id schema) (sym same)
     (names_on before after last schema (published_names (reasoned before []) (reasoned after call.0) m result call.1) names)
 
-declared_names : (before after : PassState) (c : ChannelDef) (given : Declared) → Declares before after c (Ok given) → NamesSchema after given.channel c.schema
+declared_names : (before after : PassState) (c : ChannelDef) (given : Declared) → DeclaresChannel before after c (Ok given) → NamesSchema after given.channel c.schema
 declared_names before after c given declared =
     let call = declared [] in
     let named : after.named ≡ before.named ++ (given.channel, c) ∷ [] = named_there call.1.9 in
     (c, subst (λ (l : List (ℕ × ChannelDef)). Has l (given.channel, c)) (sym named) (has_last before.named (given.channel, c) []), refl)
 
 -- a channel that got an id is named
-pub names_if : (before after : PassState) (c : ChannelDef) (result : Result Declared DeclareRefused) (last now : ℕ) → Declares before after c result → now ≡ last_of last result
+pub names_if : (before after : PassState) (c : ChannelDef) (result : Result Declared DeclareRefused) (last now : ℕ) → DeclaresChannel before after c result → now ≡ last_of last result
     → OnOk result (NamesSchema after now c.schema)
 names_if before after c (Ok given) last now declared is = subst (λ (id : ℕ). NamesSchema after id c.schema) (sym is) (declared_names before after c given declared)
 names_if before after c (Err refusal) last now declared is = tt
 
 -- and else the pass names what it did
-pub names_still : (before after : PassState) (c : ChannelDef) (result : Result Declared DeclareRefused) (last now : ℕ) → Declares before after c result → now ≡ last_of last result
+pub names_still : (before after : PassState) (c : ChannelDef) (result : Result Declared DeclareRefused) (last now : ℕ) → DeclaresChannel before after c result → now ≡ last_of last result
     → NamesSchema before last c.schema → NamesSchema after now c.schema
 names_still before after c (Ok given) last now declared is names = names_if before after c (Ok given) last now declared is
 names_still before after c (Err refusal) last now declared is names =

@@ -17,7 +17,7 @@ use Rattle.record_core.proofs.Numbering.{HasContents, schema_at, channel_at}
 use Rattle.record_core.proofs.Searches.{found, not_found, schema_own, schema_same, channel_own, channel_same, schemas_counted, channels_counted, schemas_more, channels_more, schema_content, channel_content}
 use Rattle.record_core.specs.Desk.{DeskView, found_of}
 use Rattle.feed_lane.specs.Pass.{PassState, AreAdded, GetsId}
-use Rattle.buffer_swap.specs.Shown.{SchemaStands, ChannelStands, LacksSchema, LacksChannel, Spares}
+use Rattle.buffer_swap.specs.Shown.{SchemaStands, ChannelStands, LacksSchema, LacksChannelId, Spares}
 use Rattle.buffer_swap.proofs.Reasons.{MayHave}
 use Rattle.buffer_swap.proofs.NumberedOnce.{schema_id_one}
 
@@ -251,7 +251,7 @@ stands_nowhere ids history c id has numbered none stands =
     no_channel_found ids history c id has none (subst (λ (k : ℕ). Has history (channel_of id (fields_with c k))) same stands.has)
 
 pub lacks_channel : (ids : Ids) (history : List Rec) (c : ChannelDef) → HasContents ids history → Numbered history → length ids.channels ≤ 65535 → 65535 ≤ length ids.channels
-    → channel_place ids c ≡ None → LacksChannel history c
+    → channel_place ids c ≡ None → LacksChannelId history c
 lacks_channel ids history c has numbered few full none = (
   channels_counted history ∙ sym (ap length has.channels) ∙ omega (arith, few, full),
   λ id stands. stands_nowhere ids history c id has numbered none stands,

@@ -7,20 +7,20 @@ use Rattle.rec_data.specs.declared.channel.ChannelDef.{ChannelDef}
 use Rattle.mcap_model.specs.declared.ends.End.TheVariants as ends
 use Rattle.mcap_model.proofs.Places.{at_within}
 use Rattle.record_core.specs.Ids.{channel_place, channel_id, new_records}
-use Rattle.record_core.specs.Tables.{IsTable, HasSchemaOf, MayShare}
-use Rattle.record_core.specs.Desk.{DeskView, accepted, added, first_of, found_of, fields_of_message, Published, declared_size, DeclaredBy}
+use Rattle.record_core.specs.Tables.{HasFewIds, HasSchemaOf, MayShare}
+use Rattle.record_core.specs.Desk.{DeskView, accepted, with_more_records, first_of, found_of, fields_of_message, Published, declared_size, DeclaredBy}
 use Rattle.record_core.specs.declared.answers.Declared.{Declared}
 use Rattle.record_core.specs.declared.answers.NewMessage.{NewMessage}
 use Rattle.record_core.specs.declared.answers.PublishRefused.{PublishRefused}
 use Rattle.record_core.specs.declared.answers.PublishRefused.TheVariants as publishing
 use Rattle.record_core.specs.declared.answers.DeclareRefused.{DeclareRefused}
 use Rattle.record_core.specs.declared.answers.DeclareRefused.TheVariants as declaring
-use Rattle.feed_lane.specs.Pass.{PassState, Reason, for_size, for_close, for_stop, for_channel, for_count, for_room, for_id, Finds, full_at, with_found, placed_from, message_record, MayTake, HasPlace, IsUnnamed, AreAdded, GetsId, with_declared}
+use Rattle.feed_lane.specs.Pass.{PassState, Reason, for_size, for_close, for_stop, for_channel, for_count, for_room, for_id, Finds, full_at, with_found, with_places, message_record, MayTakeMessage, HasPlace, IsUnnamed, AreAdded, GetsId, with_declared}
 use Rattle.buffer_swap.specs.Shown.{ChannelStands}
 use Rattle.buffer_swap.specs.Posts.{Post}
 use Rattle.buffer_swap.specs.Turns.{view}
-use Rattle.buffer_swap.specs.Plays.{Sat, Stood, Took, fresh}
-use Rattle.buffer_swap.specs.Calls.{counts_message, pass_published, counts_declared, pass_declared, PublishedInTurn, DeclaredInTurn, reasoned, Publishes, Declares, NamesSchema, MayName, TriesBy}
+use Rattle.buffer_swap.specs.Plays.{Sat, Stood, Took, fresh_records}
+use Rattle.buffer_swap.specs.Calls.{counts_message, pass_published, counts_declared, pass_declared, PublishedInTurn, DeclaredInTurn, reasoned, PublishesMessage, DeclaresChannel, NamesSchema, MayName, TriesBy}
 use Rattle.buffer_swap.specs.declared.view.View.{View}
 use Rattle.buffer_swap.proofs.Desks.{parts, known_id, unknown_id}
 use Rattle.buffer_swap.proofs.Reasons.{PublishReason, HasRecords, HasAll, MayHave, publish_reason, declare_reason}
@@ -38,7 +38,7 @@ finds d p reasons stood =
     }
 
 -- nothing refuses the message
-may_take : (d : DeskView) (p : PassState) (reasons : List Reason) (channel : ℕ) {len : ℕ} → Stood d p → PublishReason d channel len None → MayTake (reasoned p reasons) (found_of d) channel
+may_take : (d : DeskView) (p : PassState) (reasons : List Reason) (channel : ℕ) {len : ℕ} → Stood d p → PublishReason d channel len None → MayTakeMessage (reasoned p reasons) (found_of d) channel
 may_take d p reasons channel stood (open_end, known, few, room, small) = record {
   finds = finds d p reasons stood;
   unended = ap first_of open_end;
@@ -51,14 +51,14 @@ abbrev pub sees : DeskView → ℕ → PassState → Post → View
 sees d missed p post = view true d missed (with_found p (found_of d)) post
 
 abbrev grown : PassState → DeskView → List Reason → List Rec → PassState
-grown p d reasons records = record p { own = p.own ++ placed_from (accepted d) records; reasons = reasons; found = Some (found_of d) }
+grown p d reasons records = record p { own = p.own ++ with_places (accepted d) records; reasons = reasons; found = Some (found_of d) }
 
-grown_same : (p : PassState) (d after : DeskView) (reasons : List Reason) (records : List Rec) → after ≡ added d records → grown p d reasons (fresh d after) ≡ grown p d reasons records
+grown_same : (p : PassState) (d after : DeskView) (reasons : List Reason) (records : List Rec) → after ≡ with_more_records d records → grown p d reasons (fresh_records d after) ≡ grown p d reasons records
 grown_same p d after reasons records is =
     ap (grown p d reasons) (ap (λ (x : DeskView). drop (length d.primary) x.primary) is ∙ drop-append_seam d.primary records)
 
 publishes : (d after : DeskView) (missed : ℕ) (p : PassState) (post : Post) (m : NewMessage) (result : Result ℕ PublishRefused) → Stood d p → length m.payload.now ≤ 33554432
-    → Published d m.channel (fields_of_message m) result after → let v = counts_message (sees d missed p post) after result in Publishes p (pass_published v result) m result
+    → Published d m.channel (fields_of_message m) result after → let v = counts_message (sees d missed p post) after result in PublishesMessage p (pass_published v result) m result
 publishes d after missed p post m (Ok place) stood small is reasons =
     let why = publish_reason d m.channel (length m.payload.now) None is.0 in
     (reasons, (found_of d, small, may_take d p reasons m.channel stood why, is.1, grown_same p d after reasons (message_record m ∷ []) is.2))
@@ -82,14 +82,14 @@ publishes d after missed p post m (Err (publishing.Full h)) stood small is reaso
     (reasons ++ for_room (full_at (found_of d)) ∷ [], (found_of d, why.5, finds d p reasons stood, ap first_of why.0, known_id d.ids m.channel why.3, why.4, why.1, omega (arith, why.2, stood.fits.limit), refl))
 
 pub published_answer : (m n behind : Sat) (message : NewMessage) (result : Result ℕ PublishRefused) → Took m n → m.0.post.seated ≡ true → length message.payload.now ≤ 33554432
-    → PublishedInTurn n message result behind → Publishes m.0.pass behind.0.pass message result
+    → PublishedInTurn n message result behind → PublishesMessage m.0.pass behind.0.pass message result
 published_answer m n behind message result took seated small published =
     let it = subst (λ (x : Sat). PublishedInTurn x message result behind) took.is published in
-    subst (λ (x : Sat). Publishes m.0.pass x.0.pass message result) (sym it.is)
+    subst (λ (x : Sat). PublishesMessage m.0.pass x.0.pass message result) (sym it.is)
     (publishes took.d it.after took.missed m.0.pass m.0.post message result (took.stood seated) small it.published)
 
 -- a message that is too large is refused without a step
-pub too_large : (p : PassState) (message : NewMessage) (len : ℕ) → len ≡ length message.payload.now → 33554432 < len → Publishes p p message (Err (publishing.TooLarge len))
+pub too_large : (p : PassState) (message : NewMessage) (len : ℕ) → len ≡ length message.payload.now → 33554432 < len → PublishesMessage p p message (Err (publishing.TooLarge len))
 too_large p message len is over reasons = (reasons ++ for_size len ∷ [], (is, over, refl))
 
 -- ---- declarations
@@ -104,13 +104,13 @@ placed d p reasons stood has = let room = has.room in record { few = has.few; ro
 abbrev named_grown : PassState → DeskView → ChannelDef → ℕ → List Reason → List Rec → PassState
 named_grown p d c channel reasons records = with_declared (reasoned p reasons) (found_of d) c channel records
 
-named_same : (p : PassState) (d after : DeskView) (c : ChannelDef) (channel : ℕ) (reasons : List Reason) (records : List Rec) → after ≡ added d records
-    → named_grown p d c channel reasons (fresh d after) ≡ named_grown p d c channel reasons records
+named_same : (p : PassState) (d after : DeskView) (c : ChannelDef) (channel : ℕ) (reasons : List Reason) (records : List Rec) → after ≡ with_more_records d records
+    → named_grown p d c channel reasons (fresh_records d after) ≡ named_grown p d c channel reasons records
 named_same p d after c channel reasons records is =
     ap (named_grown p d c channel reasons) (ap (λ (x : DeskView). drop (length d.primary) x.primary) is ∙ drop-append_seam d.primary records)
 
-declares : (d after : DeskView) (missed : ℕ) (p : PassState) (post : Post) (c : ChannelDef) (result : Result Declared DeclareRefused) → Stood d p → declared_size c ≤ 1048576 → IsTable after.ids
-    → DeclaredBy d c result after → let v = counts_declared (sees d missed p post) after result in Declares p (pass_declared v c result) c result
+declares : (d after : DeskView) (missed : ℕ) (p : PassState) (post : Post) (c : ChannelDef) (result : Result Declared DeclareRefused) → Stood d p → declared_size c ≤ 1048576 → HasFewIds after.ids
+    → DeclaredBy d c result after → let v = counts_declared (sees d missed p post) after result in DeclaresChannel p (pass_declared v c result) c result
 declares d after missed p post c (Ok given) stood small few is reasons =
     let why = declare_reason d c None is.0 in
     let records = new_records d.ids c in
@@ -158,13 +158,13 @@ declares d after missed p post c (Err declaring.Memory) stood small few is reaso
     (reasons, (found_of d, small, finds d p reasons stood, ap first_of why.0, unnamed d p reasons c stood is.1, placed d p reasons stood has.place, has.channels, refl))
 
 pub declared_answer : (m n behind : Sat) (c : ChannelDef) (result : Result Declared DeclareRefused) → Took m n → m.0.post.seated ≡ true → declared_size c ≤ 1048576
-    → DeclaredInTurn n c result behind → Declares m.0.pass behind.0.pass c result
+    → DeclaredInTurn n c result behind → DeclaresChannel m.0.pass behind.0.pass c result
 declared_answer m n behind c result took seated small declared =
     let it = subst (λ (x : Sat). DeclaredInTurn x c result behind) took.is declared in
-    subst (λ (x : Sat). Declares m.0.pass x.0.pass c result) (sym it.is)
+    subst (λ (x : Sat). DeclaresChannel m.0.pass x.0.pass c result) (sym it.is)
     (declares took.d it.after took.missed m.0.pass m.0.post c result (took.stood seated) small it.few it.declared)
 
-pub too_wide : (p : PassState) (c : ChannelDef) (len : ℕ) → len ≡ declared_size c → 1048576 < len → Declares p p c (Err (declaring.TooLarge len))
+pub too_wide : (p : PassState) (c : ChannelDef) (len : ℕ) → len ≡ declared_size c → 1048576 < len → DeclaresChannel p p c (Err (declaring.TooLarge len))
 too_wide p c len is over reasons = (reasons ++ for_size len ∷ [], (is, over, refl))
 
 -- ---- a schema that another channel has

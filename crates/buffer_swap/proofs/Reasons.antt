@@ -5,9 +5,9 @@ use Rattle.std.proofs.lemmas.Bool.{ltb-true, leb-true}
 use Rattle.rec_data.specs.declared.channel.ChannelDef.{ChannelDef}
 use Rattle.mcap_model.specs.declared.ends.End.{End}
 use Rattle.mcap_model.specs.declared.ends.End.TheVariants.{Closed, Stopped}
-use Rattle.record_core.specs.Ids.{is_known, channel_place}
+use Rattle.record_core.specs.Ids.{is_known_channel, channel_place}
 use Rattle.record_core.specs.Tables.{schemas_lack, ids_lack}
-use Rattle.record_core.specs.Desk.{DeskView, accepted, held, publish_ended, publish_refusal, declared_size, declare_at, declare_ended, declare_refusal}
+use Rattle.record_core.specs.Desk.{DeskView, accepted, bytes_held, publish_ended, publish_refusal, declared_size, declare_at, declare_ended, declare_refusal}
 use Rattle.record_core.specs.declared.answers.PublishRefused.{PublishRefused}
 use Rattle.record_core.specs.declared.answers.PublishRefused.TheVariants as publishing
 use Rattle.record_core.specs.declared.answers.DeclareRefused.{DeclareRefused}
@@ -24,31 +24,31 @@ le_false a b e = grind arith
 -- ---- messages
 
 abbrev pub PublishReason : DeskView → ℕ → ℕ → Option PublishRefused → Type 0
-PublishReason d channel len None = (d.end ≡ None) × (is_known d.ids channel ≡ true) × (accepted d < 2 ^ 48) × (held d < d.limit) × (len ≤ 33554432)
+PublishReason d channel len None = (d.end ≡ None) × (is_known_channel d.ids channel ≡ true) × (accepted d < 2 ^ 48) × (bytes_held d < d.limit) × (len ≤ 33554432)
 PublishReason d channel len (Some (publishing.TooLarge l)) = (l ≡ len) × (33554432 < l)
 PublishReason d channel len (Some (publishing.Closed at)) = (d.end ≡ Some (Closed, at)) × (len ≤ 33554432)
 PublishReason d channel len (Some (publishing.Stopped at stop)) = (d.end ≡ Some (Stopped stop, at)) × (len ≤ 33554432)
-PublishReason d channel len (Some publishing.UnknownChannel) = (d.end ≡ None) × (is_known d.ids channel ≡ false) × (len ≤ 33554432)
-PublishReason d channel len (Some (publishing.TooManyRecords count)) = (d.end ≡ None) × (count ≡ accepted d) × (2 ^ 48 ≤ count) × (is_known d.ids channel ≡ true) × (len ≤ 33554432)
-PublishReason d channel len (Some (publishing.Full h)) = (d.end ≡ None) × (h ≡ held d) × (d.limit ≤ h) × (is_known d.ids channel ≡ true) × (accepted d < 2 ^ 48) × (len ≤ 33554432)
+PublishReason d channel len (Some publishing.UnknownChannel) = (d.end ≡ None) × (is_known_channel d.ids channel ≡ false) × (len ≤ 33554432)
+PublishReason d channel len (Some (publishing.TooManyRecords count)) = (d.end ≡ None) × (count ≡ accepted d) × (2 ^ 48 ≤ count) × (is_known_channel d.ids channel ≡ true) × (len ≤ 33554432)
+PublishReason d channel len (Some (publishing.Full h)) = (d.end ≡ None) × (h ≡ bytes_held d) × (d.limit ≤ h) × (is_known_channel d.ids channel ≡ true) × (accepted d < 2 ^ 48) × (len ≤ 33554432)
 
-open_full : (d : DeskView) (channel len : ℕ) (b : Bool) → nat_le d.limit (held d) ≡ b → d.end ≡ None → is_known d.ids channel ≡ true → accepted d < 2 ^ 48 → len ≤ 33554432
-    → PublishReason d channel len (if b then Some (publishing.Full (held d)) else None)
-open_full d channel len true is unended known few small = (unended, refl, leb-true d.limit (held d) is, known, few, small)
-open_full d channel len false is unended known few small = (unended, known, few, le_false d.limit (held d) is, small)
+open_full : (d : DeskView) (channel len : ℕ) (b : Bool) → nat_le d.limit (bytes_held d) ≡ b → d.end ≡ None → is_known_channel d.ids channel ≡ true → accepted d < 2 ^ 48 → len ≤ 33554432
+    → PublishReason d channel len (if b then Some (publishing.Full (bytes_held d)) else None)
+open_full d channel len true is unended known few small = (unended, refl, leb-true d.limit (bytes_held d) is, known, few, small)
+open_full d channel len false is unended known few small = (unended, known, few, le_false d.limit (bytes_held d) is, small)
 
-open_many : (d : DeskView) (channel len : ℕ) (b : Bool) → nat_le (2 ^ 48) (accepted d) ≡ b → d.end ≡ None → is_known d.ids channel ≡ true → len ≤ 33554432
-    → PublishReason d channel len (if b then Some (publishing.TooManyRecords (accepted d)) else (if nat_le d.limit (held d) then Some (publishing.Full (held d)) else None))
+open_many : (d : DeskView) (channel len : ℕ) (b : Bool) → nat_le (2 ^ 48) (accepted d) ≡ b → d.end ≡ None → is_known_channel d.ids channel ≡ true → len ≤ 33554432
+    → PublishReason d channel len (if b then Some (publishing.TooManyRecords (accepted d)) else (if nat_le d.limit (bytes_held d) then Some (publishing.Full (bytes_held d)) else None))
 open_many d channel len true is unended known small = (unended, refl, leb-true (2 ^ 48) (accepted d) is, known, small)
-open_many d channel len false is unended known small = open_full d channel len (nat_le d.limit (held d)) refl unended known (le_false (2 ^ 48) (accepted d) is) small
+open_many d channel len false is unended known small = open_full d channel len (nat_le d.limit (bytes_held d)) refl unended known (le_false (2 ^ 48) (accepted d) is) small
 
-open_known : (d : DeskView) (channel len : ℕ) (b : Bool) → is_known d.ids channel ≡ b → d.end ≡ None → len ≤ 33554432
-    → PublishReason d channel len (if b then (if nat_le (2 ^ 48) (accepted d) then Some (publishing.TooManyRecords (accepted d)) else (if nat_le d.limit (held d) then Some (publishing.Full (held d)) else None)) else Some publishing.UnknownChannel)
+open_known : (d : DeskView) (channel len : ℕ) (b : Bool) → is_known_channel d.ids channel ≡ b → d.end ≡ None → len ≤ 33554432
+    → PublishReason d channel len (if b then (if nat_le (2 ^ 48) (accepted d) then Some (publishing.TooManyRecords (accepted d)) else (if nat_le d.limit (bytes_held d) then Some (publishing.Full (bytes_held d)) else None)) else Some publishing.UnknownChannel)
 open_known d channel len true is unended small = open_many d channel len (nat_le (2 ^ 48) (accepted d)) refl unended is small
 open_known d channel len false is unended small = (unended, is, small)
 
 ended_reason : (d : DeskView) (channel len : ℕ) (end : Option (End × ℕ)) → d.end ≡ end → len ≤ 33554432 → PublishReason d channel len (publish_ended end d channel)
-ended_reason d channel len None is small = open_known d channel len (is_known d.ids channel) refl is small
+ended_reason d channel len None is small = open_known d channel len (is_known_channel d.ids channel) refl is small
 ended_reason d channel len (Some (Closed, at)) is small = (is, small)
 ended_reason d channel len (Some (Stopped stop, at)) is small = (is, small)
 
@@ -64,7 +64,7 @@ publish_reason d channel len refusal is = subst (PublishReason d channel len) is
 -- the desk has a place for the records of a channel that is new
 pub record HasRecords (d : DeskView) : Type 0 where
   pub few : accepted d < 2 ^ 48
-  pub room : held d < d.limit
+  pub room : bytes_held d < d.limit
 
 -- and ids for it
 pub record HasAll (d : DeskView) (c : ChannelDef) : Type 0 where
@@ -84,7 +84,7 @@ DeclareReason d c (Some (declaring.TooLarge l)) = (l ≡ declared_size c) × (10
 DeclareReason d c (Some (declaring.Closed at)) = d.end ≡ Some (Closed, at)
 DeclareReason d c (Some (declaring.Stopped at stop)) = d.end ≡ Some (Stopped stop, at)
 DeclareReason d c (Some (declaring.TooManyRecords count)) = (d.end ≡ None) × (count ≡ accepted d) × (2 ^ 48 ≤ count) × (channel_place d.ids c ≡ None)
-DeclareReason d c (Some (declaring.Full h)) = (d.end ≡ None) × (h ≡ held d) × (d.limit ≤ h) × (channel_place d.ids c ≡ None) × (accepted d < 2 ^ 48)
+DeclareReason d c (Some (declaring.Full h)) = (d.end ≡ None) × (h ≡ bytes_held d) × (d.limit ≤ h) × (channel_place d.ids c ≡ None) × (accepted d < 2 ^ 48)
 DeclareReason d c (Some declaring.TooManySchemas) = (d.end ≡ None) × (schemas_lack d.ids c.schema ≡ true) × (channel_place d.ids c ≡ None) × HasRecords d
 DeclareReason d c (Some declaring.TooManyChannels) = (d.end ≡ None) × (channel_place d.ids c ≡ None) × (65535 ≤ length d.ids.channels) × (schemas_lack d.ids c.schema ≡ false) × HasRecords d
 DeclareReason d c (Some declaring.Memory) = ⊥
@@ -102,15 +102,15 @@ ids_reason : (d : DeskView) (c : ChannelDef) (b : Bool) → schemas_lack d.ids c
 ids_reason d c true is unended new place = (unended, is, new, place)
 ids_reason d c false is unended new place = channels_reason d c (nat_le 65535 (length d.ids.channels)) refl unended new place is
 
-full_reason : (d : DeskView) (c : ChannelDef) (b : Bool) → nat_le d.limit (held d) ≡ b → d.end ≡ None → channel_place d.ids c ≡ None → accepted d < 2 ^ 48
-    → DeclareReason d c (if b then Some (declaring.Full (held d)) else ids_lack d.ids c)
-full_reason d c true is unended new few = (unended, refl, leb-true d.limit (held d) is, new, few)
-full_reason d c false is unended new few = ids_reason d c (schemas_lack d.ids c.schema) refl unended new (record { few = few; room = le_false d.limit (held d) is })
+full_reason : (d : DeskView) (c : ChannelDef) (b : Bool) → nat_le d.limit (bytes_held d) ≡ b → d.end ≡ None → channel_place d.ids c ≡ None → accepted d < 2 ^ 48
+    → DeclareReason d c (if b then Some (declaring.Full (bytes_held d)) else ids_lack d.ids c)
+full_reason d c true is unended new few = (unended, refl, leb-true d.limit (bytes_held d) is, new, few)
+full_reason d c false is unended new few = ids_reason d c (schemas_lack d.ids c.schema) refl unended new (record { few = few; room = le_false d.limit (bytes_held d) is })
 
 many_reason : (d : DeskView) (c : ChannelDef) (b : Bool) → nat_le (2 ^ 48) (accepted d) ≡ b → d.end ≡ None → channel_place d.ids c ≡ None
-    → DeclareReason d c (if b then Some (declaring.TooManyRecords (accepted d)) else (if nat_le d.limit (held d) then Some (declaring.Full (held d)) else ids_lack d.ids c))
+    → DeclareReason d c (if b then Some (declaring.TooManyRecords (accepted d)) else (if nat_le d.limit (bytes_held d) then Some (declaring.Full (bytes_held d)) else ids_lack d.ids c))
 many_reason d c true is unended new = (unended, refl, leb-true (2 ^ 48) (accepted d) is, new)
-many_reason d c false is unended new = full_reason d c (nat_le d.limit (held d)) refl unended new (le_false (2 ^ 48) (accepted d) is)
+many_reason d c false is unended new = full_reason d c (nat_le d.limit (bytes_held d)) refl unended new (le_false (2 ^ 48) (accepted d) is)
 
 place_reason : (d : DeskView) (c : ChannelDef) (place : Option ℕ) → channel_place d.ids c ≡ place → d.end ≡ None → DeclareReason d c (declare_at place d c)
 place_reason d c (Some place) is unended = (unended, may_have d c (Some place) is tt)

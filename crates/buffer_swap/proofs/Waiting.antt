@@ -10,9 +10,9 @@ use Rattle.record_core.specs.declared.answers.PublishRefused.{PublishRefused}
 use Rattle.record_core.specs.declared.answers.PublishRefused.TheVariants as publishing
 use Rattle.record_core.specs.declared.answers.DeclareRefused.{DeclareRefused}
 use Rattle.record_core.specs.declared.answers.DeclareRefused.TheVariants as declaring
-use Rattle.feed_lane.specs.Pass.{PassState, Reason, IsLater, Finds, with_found, MayTake, HasPlace, GetsId, PublishedBy, DeclaredInto}
+use Rattle.feed_lane.specs.Pass.{PassState, Reason, IsLater, Finds, with_found, MayTakeMessage, HasPlace, GetsId, PublishedBy, DeclaredInto}
 use Rattle.buffer_swap.specs.Plays.{Sat, Stood, Took, taking, frees}
-use Rattle.buffer_swap.specs.Calls.{counts_message, pass_published, counts_declared, pass_declared, pass_named, TriedInTurn, NamedInTurn, reasoned, Publishes, Declares, LooksOn, NotFull, NeverFull}
+use Rattle.buffer_swap.specs.Calls.{counts_message, pass_published, counts_declared, pass_declared, pass_named, TriedInTurn, NamedInTurn, reasoned, PublishesMessage, DeclaresChannel, LooksOn, NotFull, NeverFull}
 use Rattle.buffer_swap.specs.declared.view.View.{View}
 use Rattle.buffer_swap.proofs.Publishing.{finds, published_answer, declared_answer}
 
@@ -31,7 +31,7 @@ abbrev freed_with : View → PassState → Sat
 freed_with v pass = (frees v pass, [])
 
 pub tried_published : (m n behind : Sat) (message : NewMessage) (result : Result ℕ PublishRefused) → Took m n → m.0.post.seated ≡ true → length message.payload.now ≤ 33554432
-    → TriedInTurn n message result behind → NotFull result → Publishes m.0.pass behind.0.pass message result
+    → TriedInTurn n message result behind → NotFull result → PublishesMessage m.0.pass behind.0.pass message result
 tried_published m n behind message result took seated small tried unfull =
     let v = counts_message n.0 tried.after result in
     published_answer m n behind message result took seated small (record {
@@ -52,7 +52,7 @@ same_pass_declared v c (Err declaring.TooManyChannels) unfull = refl
 same_pass_declared v c (Err declaring.Memory) unfull = refl
 
 pub named_declared : (m n behind : Sat) (c : ChannelDef) (result : Result Declared DeclareRefused) → Took m n → m.0.post.seated ≡ true → declared_size c ≤ 1048576
-    → NamedInTurn n c result behind → NeverFull result → Declares m.0.pass behind.0.pass c result
+    → NamedInTurn n c result behind → NeverFull result → DeclaresChannel m.0.pass behind.0.pass c result
 named_declared m n behind c result took seated small named unfull =
     let v = counts_declared n.0 named.after result in
     declared_answer m n behind c result took seated small (record {
@@ -120,7 +120,7 @@ found_earlier p found reasons f earlier is = record {
   within = is.within;
 }
 
-may_earlier : (p : PassState) (found : Option Found) (reasons : List Reason) (f : Found) (channel : ℕ) → Earlier p found → MayTake (seen p found reasons) f channel → MayTake (reasoned p reasons) f channel
+may_earlier : (p : PassState) (found : Option Found) (reasons : List Reason) (f : Found) (channel : ℕ) → Earlier p found → MayTakeMessage (seen p found reasons) f channel → MayTakeMessage (reasoned p reasons) f channel
 may_earlier p found reasons f channel earlier may = record {
   finds = found_earlier p found reasons f earlier may.finds;
   unended = may.unended;
@@ -147,7 +147,7 @@ short_enough before after m result reasons small is len there =
     let it = subst (PublishedBy before after m) there is in
     omega (arith, it.0, it.1, small)
 
-pub published_behind : (p q after : PassState) (m : NewMessage) (result : Result ℕ PublishRefused) → LooksOn p q → length m.payload.now ≤ 33554432 → Publishes q after m result → Publishes p after m result
+pub published_behind : (p q after : PassState) (m : NewMessage) (result : Result ℕ PublishRefused) → LooksOn p q → length m.payload.now ≤ 33554432 → PublishesMessage q after m result → PublishesMessage p after m result
 published_behind p q after m result looks small publishes reasons =
     let (more, is) = publishes reasons in
     let there = subst (λ (x : PassState). PublishedBy (reasoned x reasons) (reasoned after more) m result) looks.same is in
@@ -182,7 +182,7 @@ narrow_enough before after c result small is len there =
     let it = subst (DeclaredInto before after c) there is in
     omega (arith, it.0, it.1, small)
 
-pub declared_behind : (p q after : PassState) (c : ChannelDef) (result : Result Declared DeclareRefused) → LooksOn p q → declared_size c ≤ 1048576 → Declares q after c result → Declares p after c result
+pub declared_behind : (p q after : PassState) (c : ChannelDef) (result : Result Declared DeclareRefused) → LooksOn p q → declared_size c ≤ 1048576 → DeclaresChannel q after c result → DeclaresChannel p after c result
 declared_behind p q after c result looks small declares reasons =
     let (more, is) = declares reasons in
     let there = subst (λ (x : PassState). DeclaredInto (reasoned x reasons) (reasoned after more) c result) looks.same is in

@@ -8,8 +8,8 @@ use Rattle.mcap_model.specs.declared.ends.Stop.{Stop}
 use Rattle.mcap_model.specs.Places.{Has}
 use Rattle.mcap_model.specs.History.{Numbered}
 use Rattle.record_cache.specs.Buffers.{Buffer}
-use Rattle.record_core.specs.Desk.{DeskView, swapped, ended, end_of, fields_of_message, Published, DeclaredBy, SwapAnswered, EndsAt}
-use Rattle.record_core.specs.Tables.{IsTable}
+use Rattle.record_core.specs.Desk.{DeskView, swapped, ended, desk_end, fields_of_message, Published, DeclaredBy, SwapAnswered, EndIsSetAt}
+use Rattle.record_core.specs.Tables.{HasFewIds}
 use Rattle.record_core.specs.declared.answers.Declared.{Declared}
 use Rattle.record_core.specs.declared.answers.Empty.{Empty}
 use Rattle.record_core.specs.declared.answers.Found.{Found}
@@ -18,7 +18,7 @@ use Rattle.record_core.specs.declared.answers.PublishRefused.{PublishRefused}
 use Rattle.record_core.specs.declared.answers.PublishRefused.TheVariants as publishing
 use Rattle.record_core.specs.declared.answers.DeclareRefused.{DeclareRefused}
 use Rattle.record_core.specs.declared.answers.DeclareRefused.TheVariants as declaring
-use Rattle.feed_lane.specs.Pass.{PassState, Reason, with_found, IsLater, Finds, IsShort, PublishedBy, DeclaredInto}
+use Rattle.feed_lane.specs.Pass.{PassState, Reason, with_found, IsLater, Finds, FitsDataLimit, PublishedBy, DeclaredInto}
 use Rattle.atomic_table.specs.Seated.{TableId}
 use Rattle.atomic_table.specs.declared.shared.Seat.{Seat}
 use Rattle.buffer_swap.specs.Posts.{Post, first_post, drain_post}
@@ -69,7 +69,7 @@ pub record PublishedInTurn (m : Sat) (message : NewMessage) (result : Result ℕ
 pub record DeclaredInTurn (m : Sat) (c : ChannelDef) (result : Result Declared DeclareRefused) (n : Sat) : Type 0 where
   pub after : DeskView
   pub declared : DeclaredBy m.0.hand c result after
-  pub few : IsTable after.ids
+  pub few : HasFewIds after.ids
   pub is : n ≡ (frees (counts_declared m.0 after result) (pass_declared (counts_declared m.0 after result) c result), [])
 
 -- what a drain hands over
@@ -89,8 +89,8 @@ closes_if v None = closes v (ended v.hand Closed)
 closes_if v (Some end) = v
 
 pub record ClosedInTurn (m : Sat) (at : ℕ) (n : Sat) : Type 0 where
-  pub place : EndsAt (ended m.0.hand Closed) at
-  pub is : n ≡ (frees (closes_if m.0 (end_of m.0.hand)) (closes_if m.0 (end_of m.0.hand)).pass, [])
+  pub place : EndIsSetAt (ended m.0.hand Closed) at
+  pub is : n ≡ (frees (closes_if m.0 (desk_end m.0.hand)) (closes_if m.0 (desk_end m.0.hand)).pass, [])
 
 -- how a drain stops where it found that end
 abbrev pub stops_if : View → Option End → Stop → View
@@ -98,8 +98,8 @@ stops_if v None stop = stops v (ended v.hand (Stopped stop))
 stops_if v (Some end) stop = v
 
 pub record StoppedInTurn (m : Sat) (stop : Stop) (at : ℕ) (n : Sat) : Type 0 where
-  pub place : EndsAt (ended m.0.hand (Stopped stop)) at
-  pub is : n ≡ (frees (stops_if m.0 (end_of m.0.hand) stop) (stops_if m.0 (end_of m.0.hand) stop).pass, [])
+  pub place : EndIsSetAt (ended m.0.hand (Stopped stop)) at
+  pub is : n ≡ (frees (stops_if m.0 (desk_end m.0.hand) stop) (stops_if m.0 (desk_end m.0.hand) stop).pass, [])
 
 -- the same behind a turn that shows nothing of a full buffer
 pub record TriedInTurn (m : Sat) (message : NewMessage) (result : Result ℕ PublishRefused) (n : Sat) : Type 0 where
@@ -116,7 +116,7 @@ pass_named v c (Err refusal) = v.pass
 pub record NamedInTurn (m : Sat) (c : ChannelDef) (result : Result Declared DeclareRefused) (n : Sat) : Type 0 where
   pub after : DeskView
   pub declared : DeclaredBy m.0.hand c result after
-  pub few : IsTable after.ids
+  pub few : HasFewIds after.ids
   pub is : n ≡ (frees (counts_declared m.0 after result) (pass_named (counts_declared m.0 after result) c result), [])
 
 -- ---- a publisher's calls
@@ -127,11 +127,11 @@ reasoned p reasons = record p { reasons = reasons }
 
 -- A message was published or refused as a pass says it. Why earlier calls were refused is no part of a seat's pass, since a
 -- message that is too large is refused without a step.
-abbrev pub Publishes : PassState → PassState → NewMessage → Result ℕ PublishRefused → Type 0
-Publishes before after m result = (reasons : List Reason) → (more : List Reason) × PublishedBy (reasoned before reasons) (reasoned after more) m result
+abbrev pub PublishesMessage : PassState → PassState → NewMessage → Result ℕ PublishRefused → Type 0
+PublishesMessage before after m result = (reasons : List Reason) → (more : List Reason) × PublishedBy (reasoned before reasons) (reasoned after more) m result
 
-abbrev pub Declares : PassState → PassState → ChannelDef → Result Declared DeclareRefused → Type 0
-Declares before after c result = (reasons : List Reason) → (more : List Reason) × DeclaredInto (reasoned before reasons) (reasoned after more) c result
+abbrev pub DeclaresChannel : PassState → PassState → ChannelDef → Result Declared DeclareRefused → Type 0
+DeclaresChannel before after c result = (reasons : List Reason) → (more : List Reason) × DeclaredInto (reasoned before reasons) (reasoned after more) c result
 
 -- the pass has that id for a channel with this schema, or with none where this is none
 abbrev pub NamesSchema : PassState → ℕ → Option SchemaDef → Type 0
@@ -167,8 +167,8 @@ answer_of (Err (Refused refusal)) = Some (Err refusal)
 
 -- Where the turn was another's, the pass missed it once more and shows nothing else; else it never missed it.
 abbrev pub TriesBy : PassState → ℕ → PassState → ℕ → NewMessage → Option (Result ℕ PublishRefused) → Type 0
-TriesBy before missed after now m None = IsShort m × (now ≡ missed + 1) × (after ≡ before)
-TriesBy before missed after now m (Some answer) = (now ≡ missed) × Publishes before after m answer
+TriesBy before missed after now m None = FitsDataLimit m × (now ≡ missed + 1) × (after ≡ before)
+TriesBy before missed after now m (Some answer) = (now ≡ missed) × PublishesMessage before after m answer
 
 -- ---- the drain's calls and the control's
 
@@ -211,7 +211,7 @@ pub record ClosesBy (before : PassState) (post : Post) (after : PassState) (now 
 -- ---- where all is over
 
 -- the drain took all that it found, and found that end
-pub record IsOver (pass : PassState) (post : Post) (end : End) : Type 0 where
+pub record DrainIsOver (pass : PassState) (post : Post) (end : End) : Type 0 where
   pub found : Found
   pub shown : pass.found ≡ Some found
   pub ended : found.end ≡ Some end

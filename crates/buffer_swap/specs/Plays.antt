@@ -8,12 +8,12 @@ use Rattle.mcap_model.specs.declared.ends.End.TheVariants.{Closed, Stopped}
 use Rattle.mcap_model.specs.declared.ends.Stop.{Stop}
 use Rattle.mcap_model.specs.Places.{Each}
 use Rattle.mcap_model.specs.History.{Numbered}
-use Rattle.record_core.specs.Desk.{DeskView, new_desk, accepted, added, end_of, found_of, EndIsLast}
+use Rattle.record_core.specs.Desk.{DeskView, new_desk, accepted, with_more_records, desk_end, found_of, EndIsLast}
 use Rattle.record_core.specs.Machine.{State, accept}
 use Rattle.record_core.specs.Stands.{DeskStandsFor}
 use Rattle.record_core.specs.declared.answers.DeclareRefused.{DeclareRefused}
 use Rattle.record_core.specs.declared.answers.Found.{Found}
-use Rattle.feed_lane.specs.Pass.{PassState, placed_from, full_at, with_found}
+use Rattle.feed_lane.specs.Pass.{PassState, with_places, full_at, with_found}
 use Rattle.buffer_swap.specs.Weights.{total, below}
 use Rattle.buffer_swap.specs.Shown.{ChannelStands, IdsLack, Spares, ShownTo}
 use Rattle.buffer_swap.specs.Posts.{Gathered, Post, drain_post, publisher_post, note_post}
@@ -23,13 +23,13 @@ use Rattle.buffer_swap.specs.declared.view.View.{View}
 abbrev pub Sat : Type 0
 Sat = Me DeskView View
 
-abbrev pub Told : Type 1
-Told = Step DeskView → Sat → ℕ → Sat → Type 0
+abbrev pub StepTold : Type 1
+StepTold = Step DeskView → Sat → ℕ → Sat → Type 0
 
 -- the desk that the seat has out
-abbrev pub desk_of : List (ℕ × DeskView) → DeskView
-desk_of [] = new_desk 0
-desk_of (x ∷ xs) = x.1
+abbrev pub desk_out : List (ℕ × DeskView) → DeskView
+desk_out [] = new_desk 0
+desk_out (x ∷ xs) = x.1
 
 -- between two steps of a turn: the seat holds the turn, and has out the desk that it counts
 pub record HasDesk (m : Sat) : Type 0 where
@@ -82,40 +82,40 @@ pub record Took (m n : Sat) : Type 0 where
   pub is : n ≡ taking m.0 missed d
   pub stood : m.0.post.seated ≡ true → Stood d m.0.pass
   pub drained : m.0.post.drains ≡ true → length m.0.post.taken ≡ d.taken
-  pub halted : (stop : Stop) → m.0.post.stop ≡ Some stop → end_of d ≡ Some (Stopped stop)
+  pub halted : (stop : Stop) → m.0.post.stop ≡ Some stop → desk_end d ≡ Some (Stopped stop)
 
 -- the turn was another's
 abbrev pub missing : View → View
 missing v = view false v.hand (v.missed + 1) v.pass v.post
 
-abbrev pub took : Told
+abbrev pub took : StepTold
 took st m r n = TriesTurn st × (r ≡ 0 → Took m n × (n.0.missed ≡ m.0.missed)) × (r ≢ 0 → n ≡ (missing m.0, m.1))
 
 -- ---- events
 
 -- the records that the desk has got since it came out
-abbrev pub fresh : DeskView → DeskView → List Rec
-fresh hand d = drop (length hand.primary) d.primary
+abbrev pub fresh_records : DeskView → DeskView → List Rec
+fresh_records hand d = drop (length hand.primary) d.primary
 
 -- the desk has these records more, in whatever state it stood
 pub record MayCount (hand : DeskView) (records : List Rec) (d : DeskView) : Type 0 where
-  pub is : d ≡ added hand records
+  pub is : d ≡ with_more_records hand records
   pub unended : hand.end ≡ None
   pub stands : (s : State) → DeskStandsFor hand s → DeskStandsFor d (accept 0 records s)
   pub spares : (s : State) → DeskStandsFor hand s → Spares s.history records
 
 abbrev pub counts : View → DeskView → View
-counts v d = view true d v.missed (record v.pass { own = v.pass.own ++ placed_from (accepted v.hand) (fresh v.hand d) }) v.post
+counts v d = view true d v.missed (record v.pass { own = v.pass.own ++ with_places (accepted v.hand) (fresh_records v.hand d) }) v.post
 
-abbrev pub counted : Told
-counted st m r n = IsEvent st × (n ≡ (counts m.0 (desk_of m.1), m.1))
+abbrev pub records_counted : StepTold
+records_counted st m r n = IsEvent st × (n ≡ (counts m.0 (desk_out m.1), m.1))
 
 -- the primary is handed over
 abbrev pub hands_over : View → DeskView → View
 hands_over v d = view true d v.missed v.pass (drain_post v.post.stop (v.post.taken ++ v.hand.primary))
 
-abbrev pub handed_over : Told
-handed_over st m r n = IsEvent st × (n ≡ (hands_over m.0 (desk_of m.1), m.1)) × Numbered (m.0.post.taken ++ m.0.hand.primary)
+abbrev pub handed_over : StepTold
+handed_over st m r n = IsEvent st × (n ≡ (hands_over m.0 (desk_out m.1), m.1)) × Numbered (m.0.post.taken ++ m.0.hand.primary)
 
 abbrev pub shuts : Post → Post
 shuts p = record p { closed = true }
@@ -123,8 +123,8 @@ shuts p = record p { closed = true }
 abbrev pub closes : View → DeskView → View
 closes v d = view true d v.missed v.pass (shuts v.post)
 
-abbrev pub closed : Told
-closed st m r n = IsEvent st × (n ≡ (closes m.0 (desk_of m.1), m.1))
+abbrev pub closed : StepTold
+closed st m r n = IsEvent st × (n ≡ (closes m.0 (desk_out m.1), m.1))
 
 -- the stop that is an end
 abbrev pub stop_in : Option (End × ℕ) → Option Stop
@@ -135,8 +135,8 @@ stop_in (Some (Stopped stop, at)) = Some stop
 abbrev pub stops : View → DeskView → View
 stops v d = view true d v.missed v.pass (drain_post (stop_in d.end) v.post.taken)
 
-abbrev pub stopped : Told
-stopped st m r n = IsEvent st × (n ≡ (stops m.0 (desk_of m.1), m.1))
+abbrev pub stopped : StepTold
+stopped st m r n = IsEvent st × (n ≡ (stops m.0 (desk_out m.1), m.1))
 
 -- ---- freeing the turn
 
@@ -144,7 +144,7 @@ stopped st m r n = IsEvent st × (n ≡ (stops m.0 (desk_of m.1), m.1))
 abbrev pub frees : View → PassState → View
 frees v pass = view false v.hand v.missed pass v.post
 
-abbrev pub freed : (View → PassState) → Told
+abbrev pub freed : (View → PassState) → StepTold
 freed f st m r n = FreesTurn st m × (n ≡ (frees m.0 (f m.0), rest m.1))
 
 abbrev pub same_pass : View → PassState
@@ -154,8 +154,8 @@ same_pass v = v.pass
 abbrev pub frees_counting : View → DeskView → View
 frees_counting v d = frees (counts v d) (counts v d).pass
 
-abbrev pub freed_counting : Told
-freed_counting st m r n = FreesTurn st m × (n ≡ (frees_counting m.0 (desk_of m.1), rest m.1))
+abbrev pub freed_counting : StepTold
+freed_counting st m r n = FreesTurn st m × (n ≡ (frees_counting m.0 (desk_out m.1), rest m.1))
 
 -- where the buffer was full
 abbrev pub with_full_hand : View → PassState
@@ -173,8 +173,8 @@ with_lacking pair v = record v.pass { lacks = v.pass.lacks ++ pair ∷ [] }
 abbrev pub NamedAt : DeskView → ℕ × ChannelDef → Type 0
 NamedAt d pair = (s : State) → DeskStandsFor d s → ChannelStands s.history pair.0 pair.1 × (1 ≤ pair.0) × (pair.0 ≤ length d.ids.channels)
 
-abbrev pub LacksAt : DeskView → ChannelDef × DeclareRefused → Type 0
-LacksAt d pair = (s : State) → DeskStandsFor d s → IdsLack s.history pair.0 pair.1
+abbrev pub LacksIdAt : DeskView → ChannelDef × DeclareRefused → Type 0
+LacksIdAt d pair = (s : State) → DeskStandsFor d s → IdsLack s.history pair.0 pair.1
 
 -- ---- seats that are made and spent
 
@@ -201,8 +201,8 @@ abbrev pub gathers : View → View → View
 gathers v w = view v.holds v.hand v.missed v.pass (record v.post { known = v.post.known ++ gathered w ∷ [] })
 
 -- a note of what the drain took and found
-abbrev pub noted : View → View
-noted v = newcomer 0 (note_post v.post.stop v.post.taken v.pass.found)
+abbrev pub drain_noted : View → View
+drain_noted v = newcomer 0 (note_post v.post.stop v.post.taken v.pass.found)
 
 abbrev pub reads : View → View → View
 reads v w = view v.holds v.hand v.missed v.pass (record v.post { stop = w.post.stop; taken = w.post.taken; told = w.post.told })
@@ -214,7 +214,7 @@ abbrev pub Unclosed : PassState → Type 0
 Unclosed p = (f : Found) → p.found ≡ Some f → f.end ≡ Some Closed → ⊥
 
 -- where the control hasn't closed, no pass that it knows found that
-abbrev pub settled : Told
+abbrev pub settled : StepTold
 settled st m r n = (n ≡ m) × (m.0.post.controls ≡ true → m.0.post.closed ≡ false → Each (λ g. Unclosed g.pass) m.0.post.known)
 
 -- All publishers were gathered, and the drain that is noted took all and found the end.
@@ -230,7 +230,7 @@ pub record IsMet (v : View) (end : End) : Type 0 where
 
 -- However pairs of a place and a record are weighed, those of the passes weigh what the records weigh at their places.
 abbrev pub WeighAlike : List Gathered → List Rec → Type 0
-WeighAlike known taken = (h : ℕ × Rec → ℕ) → total (λ (g : Gathered). total h g.pass.own) known ≡ total h (placed_from 0 taken)
+WeighAlike known taken = (h : ℕ × Rec → ℕ) → total (λ (g : Gathered). total h g.pass.own) known ≡ total h (with_places 0 taken)
 
 -- the publishers that are known are all that were made, each once
 abbrev pub AreAll : List Gathered → ℕ → Type 0
@@ -249,5 +249,5 @@ pub record Met (made : ℕ) (known : List Gathered) (closed : Bool) (stop : Opti
   pub closed_is : closed ≡ true → end ≡ Closed
   pub stop_is : (s : Stop) → stop ≡ Some s → end ≡ Stopped s
 
-abbrev pub met : Told
+abbrev pub met : StepTold
 met st m r n = (n ≡ m) × ((end : End) → IsMet m.0 end → Met m.0.post.made m.0.post.known m.0.post.closed m.0.post.stop m.0.post.taken end)

@@ -33,8 +33,8 @@ LacksSchema history None = ⊥
 LacksSchema history (Some s) = (schema_count history ≡ id_limit) × ((id : ℕ) → Has history (schema_of id (fields_of_schema s)) → ⊥)
 
 -- all ids of channels were given, and none to this content
-abbrev pub LacksChannel : List Rec → ChannelDef → Type 0
-LacksChannel history d = (channel_count history ≡ id_limit) × ((id : ℕ) → ChannelStands history id d → ⊥)
+abbrev pub LacksChannelId : List Rec → ChannelDef → Type 0
+LacksChannelId history d = (channel_count history ≡ id_limit) × ((id : ℕ) → ChannelStands history id d → ⊥)
 
 -- Why a declaration got no id: where ids of both lacked, that is told of schemas.
 abbrev pub IdsLack : List Rec → ChannelDef → DeclareRefused → Type 0
@@ -44,7 +44,7 @@ IdsLack history d (declaring.Stopped at stop) = ⊥
 IdsLack history d (declaring.TooManyRecords count) = ⊥
 IdsLack history d (declaring.Full held) = ⊥
 IdsLack history d declaring.TooManySchemas = LacksSchema history d.schema
-IdsLack history d declaring.TooManyChannels = LacksChannel history d × (LacksSchema history d.schema → ⊥)
+IdsLack history d declaring.TooManyChannels = LacksChannelId history d × (LacksSchema history d.schema → ⊥)
 IdsLack history d declaring.Memory = ⊥
 
 -- records that take no id where all are given

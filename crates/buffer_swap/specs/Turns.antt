@@ -9,11 +9,11 @@ use Rattle.mcap_model.specs.declared.ends.End.TheVariants.{Closed, Stopped}
 use Rattle.mcap_model.specs.declared.ends.Stop.{Stop}
 use Rattle.mcap_model.specs.Places.{At, Each}
 use Rattle.record_core.specs.Ids.{channels_in}
-use Rattle.record_core.specs.Desk.{DeskView, new_desk, accepted, end_of, found_of, EndIsLast}
+use Rattle.record_core.specs.Desk.{DeskView, new_desk, accepted, desk_end, found_of, EndIsLast}
 use Rattle.record_core.specs.Machine.{State}
 use Rattle.record_core.specs.Stands.{DeskStandsFor}
 use Rattle.record_core.specs.declared.answers.Found.{Found}
-use Rattle.feed_lane.specs.Pass.{PassState, no_calls, placed_from, IsLater}
+use Rattle.feed_lane.specs.Pass.{PassState, no_calls, with_places, IsLater}
 use Rattle.buffer_swap.specs.Weights.{total, one_if, below}
 use Rattle.buffer_swap.specs.Shown.{ChannelStands, IdsLack, HeldThere, FoundThere}
 use Rattle.buffer_swap.specs.Posts.{Gathered, Post, no_post}
@@ -39,8 +39,8 @@ is_drain v = one_if v.post.drains
 abbrev pub numbers_in : (ℕ → ℕ) → Post → ℕ
 numbers_in h p = cond p.publishes (h p.number) 0 + total (λ (g : Gathered). h g.number) p.known
 
-abbrev pub numbers : (ℕ → ℕ) → View → ℕ
-numbers h v = numbers_in h v.post
+abbrev pub seat_numbers : (ℕ → ℕ) → View → ℕ
+seat_numbers h v = numbers_in h v.post
 
 -- the pairs of a view: those of its pass, and those of the passes that it knows
 abbrev pub weigh : (ℕ × Rec → ℕ) → View → ℕ
@@ -74,10 +74,10 @@ pub record NoteFits (history : List Rec) (d : DeskView) (p : Post) : Type 0 wher
   pub taken : IsFront p.taken history
   pub told : (f : Found) → p.told ≡ Some f → FoundFits d f
   pub cause : (f : Found) (stop : Stop) → p.told ≡ Some f → f.end ≡ Some (Stopped stop) → p.stop ≡ Some stop
-  pub stood : (stop : Stop) → p.stop ≡ Some stop → end_of d ≡ Some (Stopped stop)
+  pub stood : (stop : Stop) → p.stop ≡ Some stop → desk_end d ≡ Some (Stopped stop)
 
 -- What a view says of the history and of the desk. The last stop that the drain set is handed in.
-pub record Fits (history : List Rec) (d : DeskView) (halt : Option Stop) (v : View) : Type 0 where
+pub record ViewFits (history : List Rec) (d : DeskView) (halt : Option Stop) (v : View) : Type 0 where
   pub hand : v.holds ≡ true → v.hand ≡ d
   pub pass : v.post.seated ≡ true → PassFits history d v.pass
   pub known : Each (λ g. PassFits history d g.pass) v.post.known
@@ -94,10 +94,10 @@ pub record World (s : State) (d : DeskView) (head : Post) (halt : Option Stop) :
   pub last : EndIsLast d
   pub controls : head.controls ≡ true
   pub unstarted : head.started ≡ false → (d.taken ≡ 0) × (halt ≡ None)
-  pub closed : end_of d ≡ Some Closed → head.closed ≡ true
-  pub shut : head.closed ≡ true → end_of d ≡ Some Closed
-  pub halted : (stop : Stop) → end_of d ≡ Some (Stopped stop) → halt ≡ Some stop
-  pub stood : (stop : Stop) → halt ≡ Some stop → end_of d ≡ Some (Stopped stop)
+  pub closed : desk_end d ≡ Some Closed → head.closed ≡ true
+  pub shut : head.closed ≡ true → desk_end d ≡ Some Closed
+  pub halted : (stop : Stop) → desk_end d ≡ Some (Stopped stop) → halt ≡ Some stop
+  pub stood : (stop : Stop) → halt ≡ Some stop → desk_end d ≡ Some (Stopped stop)
 
 -- the words and the slot of a table: where no seat holds the turn, the desk is at home
 pub record Wired (words : List ℕ) (homes : List (mathlib.Core.Option.Option DeskView)) (d : DeskView) : Type 0 where
@@ -107,7 +107,7 @@ pub record Wired (words : List ℕ) (homes : List (mathlib.Core.Option.Option De
   pub free : slice_index words 0 ≡ 0 → get_elem? homes 0 ≡ some (some d)
   pub out : slice_index words 0 ≡ 1 → get_elem? homes 0 ≡ some none
 
-pub record Kept (t : TableState DeskView View) : Type 0 where
+pub record KeepsTurnRule (t : TableState DeskView View) : Type 0 where
   pub s : State
   pub d : DeskView
   pub head : Post
@@ -116,13 +116,13 @@ pub record Kept (t : TableState DeskView View) : Type 0 where
   pub wired : Wired t.words t.homes d
   -- the turn word is 1 exactly where one seat holds the turn
   pub holders : total has_turn t.views ≡ slice_index t.words 0
-  pub each : (j : ℕ) (v : View) → get_elem? t.views j ≡ some v → Fits s.history d halt v
+  pub each : (j : ℕ) (v : View) → get_elem? t.views j ≡ some v → ViewFits s.history d halt v
   -- the first seat is the control's
   pub first : (c : View) × (get_elem? t.views 0 ≡ some c) × (c.post ≡ head)
   pub controls : (j : ℕ) (v : View) → get_elem? t.views j ≡ some v → v.post.controls ≡ true → j ≡ 0
   -- the numbers of publishers in all views are those that the control gave out, each once, and there is one drain once that
   -- was given out
-  pub made : (h : ℕ → ℕ) → total (numbers h) t.views ≡ total h (below head.made)
+  pub made : (h : ℕ → ℕ) → total (seat_numbers h) t.views ≡ total h (below head.made)
   pub drains : total is_drain t.views ≡ one_if head.started
   -- the pairs of all views are the places of the history with their records, each once
-  pub pairs : (h : ℕ × Rec → ℕ) → total (weigh h) t.views ≡ total h (placed_from 0 s.history)
+  pub pairs : (h : ℕ × Rec → ℕ) → total (weigh h) t.views ≡ total h (with_places 0 s.history)

@@ -4,14 +4,14 @@ ghost use Rattle.rec_data.specs.declared.owned.Rec.{Rec};
 ghost use Rattle.mcap_model.specs.declared.ends.End.TheVariants.{Closed, Stopped};
 ghost use Rattle.mcap_model.specs.History.{Numbered};
 ghost use Rattle.record_core.specs.Ids.{new_records};
-ghost use Rattle.record_core.specs.Tables.{IsTable, MayShare};
+ghost use Rattle.record_core.specs.Tables.{HasFewIds, MayShare};
 ghost use Rattle.record_core.specs.Sights.{DefFits};
 ghost use Rattle.record_core.specs.declared.answers.DeclareRefused.TheVariants.{TooManySchemas, TooManyChannels};
-ghost use Rattle.record_core.specs.Desk.{DeskView, new_desk, found_of, swapped, ended, end_of, fields_of_message, Published, DeclaredBy, SwapAnswered, EndsAt, IsCause, EndIsLast};
+ghost use Rattle.record_core.specs.Desk.{DeskView, new_desk, found_of, swapped, ended, desk_end, fields_of_message, Published, DeclaredBy, SwapAnswered, EndIsSetAt, IsCause, EndIsLast};
 ghost use Rattle.feed_lane.specs.Pass.{message_record, with_found};
 ghost use Rattle.buffer_swap.specs.Posts.{first_post, drain_post};
 ghost use Rattle.buffer_swap.specs.Turns.{newcomer};
-ghost use Rattle.buffer_swap.specs.Plays.{desk_of, HasDesk, IsIdle, Took, MayCount, NamedAt, LacksAt, missing, counts, hands_over, closes, stops, frees, frees_counting, same_pass, with_full_hand, with_name, with_lacking};
+ghost use Rattle.buffer_swap.specs.Plays.{desk_out, HasDesk, IsIdle, Took, MayCount, NamedAt, LacksIdAt, missing, counts, hands_over, closes, stops, frees, frees_counting, same_pass, with_full_hand, with_name, with_lacking};
 ghost use Rattle.buffer_swap.specs.Calls.{frees_published, frees_behind, counts_declared, pass_declared, PublishedInTurn, DeclaredInTurn, TriedInTurn, pass_named, NamedInTurn, hands_if, SwappedInTurn, closes_if, ClosedInTurn, stops_if, StoppedInTurn};
 
 use crate::doorbell::Doorbell;
@@ -169,10 +169,10 @@ impl Board {
         requires desk { HasDesk seat.old.me }
         ensures id { seat.new.table_id ≡ seat.old.table_id }
         ensures same { seat.new.me.0 ≡ seat.old.me.0 }
-        ensures out { seat.new.me.1 ≡ (0, desk_of seat.new.me.1) ∷ [] }
-        ensures published { Published seat.old.me.0.hand m.now.channel (fields_of_message m.now) result (desk_of seat.new.me.1) }
-        ensures counts { OnOk result (MayCount seat.old.me.0.hand (message_record m.now ∷ []) (desk_of seat.new.me.1)) }
-        ensures refused { OnErr result (desk_of seat.new.me.1 ≡ seat.old.me.0.hand) }
+        ensures out { seat.new.me.1 ≡ (0, desk_out seat.new.me.1) ∷ [] }
+        ensures published { Published seat.old.me.0.hand m.now.channel (fields_of_message m.now) result (desk_out seat.new.me.1) }
+        ensures counts { OnOk result (MayCount seat.old.me.0.hand (message_record m.now ∷ []) (desk_out seat.new.me.1)) }
+        ensures refused { OnErr result (desk_out seat.new.me.1 ≡ seat.old.me.0.hand) }
     {
         let desk = seat.slot_mut(&self.table.shared, 0);
         desk.publish(m)
@@ -191,15 +191,15 @@ impl Board {
         requires shares { MayShare seat.old.me.0.hand.ids channel.now.schema like }
         ensures id { seat.new.table_id ≡ seat.old.table_id }
         ensures same { seat.new.me.0 ≡ seat.old.me.0 }
-        ensures out { seat.new.me.1 ≡ (0, desk_of seat.new.me.1) ∷ [] }
-        ensures declared { DeclaredBy seat.old.me.0.hand channel.now result (desk_of seat.new.me.1) }
-        ensures counts { OnOk result (MayCount seat.old.me.0.hand (new_records seat.old.me.0.hand.ids channel.now) (desk_of seat.new.me.1)) }
-        ensures known { IfOk result (λ given. given.count ≡ 0 → desk_of seat.new.me.1 ≡ seat.old.me.0.hand) }
-        ensures refused { OnErr result (desk_of seat.new.me.1 ≡ seat.old.me.0.hand) }
-        ensures named { IfOk result (λ given. NamedAt (desk_of seat.new.me.1) (given.channel, channel.now)) }
-        ensures few { IsTable (desk_of seat.new.me.1).ids }
-        ensures no_schemas { result ≡ Err TooManySchemas → LacksAt seat.old.me.0.hand (channel.now, TooManySchemas) }
-        ensures no_channels { result ≡ Err TooManyChannels → LacksAt seat.old.me.0.hand (channel.now, TooManyChannels) }
+        ensures out { seat.new.me.1 ≡ (0, desk_out seat.new.me.1) ∷ [] }
+        ensures declared { DeclaredBy seat.old.me.0.hand channel.now result (desk_out seat.new.me.1) }
+        ensures counts { OnOk result (MayCount seat.old.me.0.hand (new_records seat.old.me.0.hand.ids channel.now) (desk_out seat.new.me.1)) }
+        ensures known { IfOk result (λ given. given.count ≡ 0 → desk_out seat.new.me.1 ≡ seat.old.me.0.hand) }
+        ensures refused { OnErr result (desk_out seat.new.me.1 ≡ seat.old.me.0.hand) }
+        ensures named { IfOk result (λ given. NamedAt (desk_out seat.new.me.1) (given.channel, channel.now)) }
+        ensures few { HasFewIds (desk_out seat.new.me.1).ids }
+        ensures no_schemas { result ≡ Err TooManySchemas → LacksIdAt seat.old.me.0.hand (channel.now, TooManySchemas) }
+        ensures no_channels { result ≡ Err TooManyChannels → LacksIdAt seat.old.me.0.hand (channel.now, TooManyChannels) }
     {
         let desk = seat.slot_mut(&self.table.shared, 0);
         desk.declare_sharing(channel, like)
@@ -212,8 +212,8 @@ impl Board {
         requires empty { empty ≡ record { limit = seat.old.me.0.hand.limit; records = [] } }
         ensures id { seat.new.table_id ≡ seat.old.table_id }
         ensures same { seat.new.me.0 ≡ seat.old.me.0 }
-        ensures out { seat.new.me.1 ≡ (0, desk_of seat.new.me.1) ∷ [] }
-        ensures swapped { SwapAnswered seat.old.me.0.hand result (desk_of seat.new.me.1) }
+        ensures out { seat.new.me.1 ≡ (0, desk_out seat.new.me.1) ∷ [] }
+        ensures swapped { SwapAnswered seat.old.me.0.hand result (desk_out seat.new.me.1) }
     {
         let desk = seat.slot_mut(&self.table.shared, 0);
         desk.swap(empty)
@@ -226,7 +226,7 @@ impl Board {
         ensures id { seat.new.table_id ≡ seat.old.table_id }
         ensures same { seat.new.me.0 ≡ seat.old.me.0 }
         ensures out { seat.new.me.1 ≡ (0, ended seat.old.me.0.hand Closed) ∷ [] }
-        ensures at { EndsAt (ended seat.old.me.0.hand Closed) result }
+        ensures at { EndIsSetAt (ended seat.old.me.0.hand Closed) result }
     {
         let desk = seat.slot_mut(&self.table.shared, 0);
         desk.close()
@@ -240,7 +240,7 @@ impl Board {
         ensures id { seat.new.table_id ≡ seat.old.table_id }
         ensures same { seat.new.me.0 ≡ seat.old.me.0 }
         ensures out { seat.new.me.1 ≡ (0, ended seat.old.me.0.hand (Stopped stop)) ∷ [] }
-        ensures at { EndsAt (ended seat.old.me.0.hand (Stopped stop)) result }
+        ensures at { EndIsSetAt (ended seat.old.me.0.hand (Stopped stop)) result }
     {
         let desk = seat.slot_mut(&self.table.shared, 0);
         desk.stop(stop)
@@ -251,11 +251,11 @@ impl Board {
     // The records of a declaration are counted.
     fn count(&self, seat: &mut Seat)
         requires id { seat.old.table_id ≡ self.now.table.shared.table_id }
-        requires desk { (seat.old.me.0.holds ≡ true) × (seat.old.me.1 ≡ (0, desk_of seat.old.me.1) ∷ []) }
+        requires desk { (seat.old.me.0.holds ≡ true) × (seat.old.me.1 ≡ (0, desk_out seat.old.me.1) ∷ []) }
         requires publisher { seat.old.me.0.post.publishes ≡ true }
-        requires counts { (records : List Rec) × MayCount seat.old.me.0.hand records (desk_of seat.old.me.1) }
+        requires counts { (records : List Rec) × MayCount seat.old.me.0.hand records (desk_out seat.old.me.1) }
         ensures id { seat.new.table_id ≡ seat.old.table_id }
-        ensures me { seat.new.me ≡ (counts seat.old.me.0 (desk_of seat.old.me.1), seat.old.me.1) }
+        ensures me { seat.new.me ≡ (counts seat.old.me.0 (desk_out seat.old.me.1), seat.old.me.1) }
     {
         self.doorbell.fill();
         self.table.shared.fetch_add::<Count>(seat, EVENTS, 1);
@@ -313,11 +313,11 @@ impl Board {
     // Counts the records that the desk got, and shows nothing more: one step in place of two.
     fn free_counting(&self, seat: &mut Seat)
         requires id { seat.old.table_id ≡ self.now.table.shared.table_id }
-        requires desk { (seat.old.me.0.holds ≡ true) × (seat.old.me.1 ≡ (0, desk_of seat.old.me.1) ∷ []) }
+        requires desk { (seat.old.me.0.holds ≡ true) × (seat.old.me.1 ≡ (0, desk_out seat.old.me.1) ∷ []) }
         requires publisher { seat.old.me.0.post.publishes ≡ true }
-        requires counts { (records : List Rec) × MayCount seat.old.me.0.hand records (desk_of seat.old.me.1) }
+        requires counts { (records : List Rec) × MayCount seat.old.me.0.hand records (desk_out seat.old.me.1) }
         ensures id { seat.new.table_id ≡ seat.old.table_id }
-        ensures me { seat.new.me ≡ (frees_counting seat.old.me.0 (desk_of seat.old.me.1), []) }
+        ensures me { seat.new.me ≡ (frees_counting seat.old.me.0 (desk_out seat.old.me.1), []) }
     {
         self.doorbell.fill();
         self.table.shared.store::<FreeCounting>(seat, TURN, 0);
@@ -353,7 +353,7 @@ impl Board {
         requires said { N.lacking ≡ (_def.now, _why) }
         requires id { seat.old.table_id ≡ self.now.table.shared.table_id }
         requires desk { HasDesk seat.old.me }
-        requires lacks { LacksAt seat.old.me.0.hand (_def.now, _why) }
+        requires lacks { LacksIdAt seat.old.me.0.hand (_def.now, _why) }
         ensures id { seat.new.table_id ≡ seat.old.table_id }
         ensures me { seat.new.me ≡ (frees seat.old.me.0 (with_lacking (_def.now, _why) seat.old.me.0), []) }
     {
@@ -371,12 +371,12 @@ impl Board {
         answer: &Result<u64, PublishRefused>,
     )
         requires id { seat.old.table_id ≡ self.now.table.shared.table_id }
-        requires desk { (seat.old.me.0.holds ≡ true) × (seat.old.me.1 ≡ (0, desk_of seat.old.me.1) ∷ []) }
+        requires desk { (seat.old.me.0.holds ≡ true) × (seat.old.me.1 ≡ (0, desk_out seat.old.me.1) ∷ []) }
         requires publisher { seat.old.me.0.post.publishes ≡ true }
-        requires counts { OnOk answer.now (MayCount seat.old.me.0.hand (message_record _m.now ∷ []) (desk_of seat.old.me.1)) }
-        requires refused { OnErr answer.now (desk_of seat.old.me.1 ≡ seat.old.me.0.hand) }
+        requires counts { OnOk answer.now (MayCount seat.old.me.0.hand (message_record _m.now ∷ []) (desk_out seat.old.me.1)) }
+        requires refused { OnErr answer.now (desk_out seat.old.me.1 ≡ seat.old.me.0.hand) }
         ensures id { seat.new.table_id ≡ seat.old.table_id }
-        ensures me { seat.new.me ≡ (frees_published seat.old.me.0 (desk_of seat.old.me.1) answer.now, []) }
+        ensures me { seat.new.me ≡ (frees_published seat.old.me.0 (desk_out seat.old.me.1) answer.now, []) }
     {
         match answer {
             Ok(_) => self.free_counting(seat),
@@ -412,13 +412,13 @@ impl Board {
         answer: &Result<Declared, DeclareRefused>,
     )
         requires id { seat.old.table_id ≡ self.now.table.shared.table_id }
-        requires desk { (seat.old.me.0.holds ≡ true) × (seat.old.me.1 ≡ (0, desk_of seat.old.me.1) ∷ []) }
+        requires desk { (seat.old.me.0.holds ≡ true) × (seat.old.me.1 ≡ (0, desk_out seat.old.me.1) ∷ []) }
         requires publisher { seat.old.me.0.post.publishes ≡ true }
-        requires counts { OnOk answer.now (MayCount seat.old.me.0.hand (new_records seat.old.me.0.hand.ids _channel.now) (desk_of seat.old.me.1)) }
-        requires known { IfOk answer.now (λ given. given.count ≡ 0 → desk_of seat.old.me.1 ≡ seat.old.me.0.hand) }
-        requires refused { OnErr answer.now (desk_of seat.old.me.1 ≡ seat.old.me.0.hand) }
+        requires counts { OnOk answer.now (MayCount seat.old.me.0.hand (new_records seat.old.me.0.hand.ids _channel.now) (desk_out seat.old.me.1)) }
+        requires known { IfOk answer.now (λ given. given.count ≡ 0 → desk_out seat.old.me.1 ≡ seat.old.me.0.hand) }
+        requires refused { OnErr answer.now (desk_out seat.old.me.1 ≡ seat.old.me.0.hand) }
         ensures id { seat.new.table_id ≡ seat.old.table_id }
-        ensures view { seat.new.me.0 ≡ counts_declared seat.old.me.0 (desk_of seat.old.me.1) answer.now }
+        ensures view { seat.new.me.0 ≡ counts_declared seat.old.me.0 (desk_out seat.old.me.1) answer.now }
         ensures desk { HasDesk seat.new.me }
     {
         match answer {
@@ -430,12 +430,12 @@ impl Board {
     // Counts records, if there are any.
     fn count_some(&self, seat: &mut Seat, count: u8, _channel: &ChannelDef)
         requires id { seat.old.table_id ≡ self.now.table.shared.table_id }
-        requires desk { (seat.old.me.0.holds ≡ true) × (seat.old.me.1 ≡ (0, desk_of seat.old.me.1) ∷ []) }
+        requires desk { (seat.old.me.0.holds ≡ true) × (seat.old.me.1 ≡ (0, desk_out seat.old.me.1) ∷ []) }
         requires publisher { seat.old.me.0.post.publishes ≡ true }
-        requires counts { MayCount seat.old.me.0.hand (new_records seat.old.me.0.hand.ids _channel.now) (desk_of seat.old.me.1) }
-        requires known { count ≡ 0 → desk_of seat.old.me.1 ≡ seat.old.me.0.hand }
+        requires counts { MayCount seat.old.me.0.hand (new_records seat.old.me.0.hand.ids _channel.now) (desk_out seat.old.me.1) }
+        requires known { count ≡ 0 → desk_out seat.old.me.1 ≡ seat.old.me.0.hand }
         ensures id { seat.new.table_id ≡ seat.old.table_id }
-        ensures view { seat.new.me.0 ≡ counts seat.old.me.0 (desk_of seat.old.me.1) }
+        ensures view { seat.new.me.0 ≡ counts seat.old.me.0 (desk_out seat.old.me.1) }
         ensures desk { HasDesk seat.new.me }
     {
         if count > 0 {
@@ -453,8 +453,8 @@ impl Board {
         requires id { seat.old.table_id ≡ self.now.table.shared.table_id }
         requires desk { HasDesk seat.old.me }
         requires named { IfOk answer.now (λ given. NamedAt seat.old.me.0.hand (given.channel, channel.now)) }
-        requires no_schemas { answer.now ≡ Err TooManySchemas → LacksAt seat.old.me.0.hand (channel.now, TooManySchemas) }
-        requires no_channels { answer.now ≡ Err TooManyChannels → LacksAt seat.old.me.0.hand (channel.now, TooManyChannels) }
+        requires no_schemas { answer.now ≡ Err TooManySchemas → LacksIdAt seat.old.me.0.hand (channel.now, TooManySchemas) }
+        requires no_channels { answer.now ≡ Err TooManyChannels → LacksIdAt seat.old.me.0.hand (channel.now, TooManyChannels) }
         ensures id { seat.new.table_id ≡ seat.old.table_id }
         ensures me { seat.new.me ≡ (frees seat.old.me.0 (pass_declared seat.old.me.0 channel.now answer.now), []) }
     {
@@ -497,9 +497,9 @@ impl Board {
     // The drain hands over what the desk gave.
     fn hand_swapped(&self, seat: &mut Seat, answer: &Result<Cache, Empty>)
         requires id { seat.old.table_id ≡ self.now.table.shared.table_id }
-        requires desk { (seat.old.me.0.holds ≡ true) × (seat.old.me.1 ≡ (0, desk_of seat.old.me.1) ∷ []) }
+        requires desk { (seat.old.me.0.holds ≡ true) × (seat.old.me.1 ≡ (0, desk_out seat.old.me.1) ∷ []) }
         requires drain { seat.old.me.0.post ≡ drain_post seat.old.me.0.post.stop seat.old.me.0.post.taken }
-        requires swapped { SwapAnswered seat.old.me.0.hand answer.now (desk_of seat.old.me.1) }
+        requires swapped { SwapAnswered seat.old.me.0.hand answer.now (desk_out seat.old.me.1) }
         ensures id { seat.new.table_id ≡ seat.old.table_id }
         ensures view { seat.new.me.0 ≡ hands_if seat.old.me.0 answer.now }
         ensures desk { HasDesk seat.new.me }
@@ -536,7 +536,7 @@ impl Board {
         requires id { seat.old.table_id ≡ self.now.table.shared.table_id }
         requires desk { (seat.old.me.0.holds ≡ true) × (seat.old.me.1 ≡ (0, ended seat.old.me.0.hand Closed) ∷ []) }
         requires control { (seat.old.me.0.post.controls ≡ true) × (seat.old.me.0.post.drains ≡ false) }
-        requires end { end ≡ end_of seat.old.me.0.hand }
+        requires end { end ≡ desk_end seat.old.me.0.hand }
         ensures id { seat.new.table_id ≡ seat.old.table_id }
         ensures view { seat.new.me.0 ≡ closes_if seat.old.me.0 end }
         ensures desk { HasDesk seat.new.me }
@@ -569,7 +569,7 @@ impl Board {
         requires id { seat.old.table_id ≡ self.now.table.shared.table_id }
         requires desk { (seat.old.me.0.holds ≡ true) × (seat.old.me.1 ≡ (0, ended seat.old.me.0.hand (Stopped stop)) ∷ []) }
         requires drain { seat.old.me.0.post ≡ drain_post seat.old.me.0.post.stop seat.old.me.0.post.taken }
-        requires end { end ≡ end_of seat.old.me.0.hand }
+        requires end { end ≡ desk_end seat.old.me.0.hand }
         ensures id { seat.new.table_id ≡ seat.old.table_id }
         ensures view { seat.new.me.0 ≡ stops_if seat.old.me.0 end stop }
         ensures desk { HasDesk seat.new.me }
@@ -608,12 +608,12 @@ impl Board {
         answer: &Result<u64, PublishRefused>,
     )
         requires id { seat.old.table_id ≡ self.now.table.shared.table_id }
-        requires desk { (seat.old.me.0.holds ≡ true) × (seat.old.me.1 ≡ (0, desk_of seat.old.me.1) ∷ []) }
+        requires desk { (seat.old.me.0.holds ≡ true) × (seat.old.me.1 ≡ (0, desk_out seat.old.me.1) ∷ []) }
         requires publisher { seat.old.me.0.post.publishes ≡ true }
-        requires counts { OnOk answer.now (MayCount seat.old.me.0.hand (message_record _m.now ∷ []) (desk_of seat.old.me.1)) }
-        requires refused { OnErr answer.now (desk_of seat.old.me.1 ≡ seat.old.me.0.hand) }
+        requires counts { OnOk answer.now (MayCount seat.old.me.0.hand (message_record _m.now ∷ []) (desk_out seat.old.me.1)) }
+        requires refused { OnErr answer.now (desk_out seat.old.me.1 ≡ seat.old.me.0.hand) }
         ensures id { seat.new.table_id ≡ seat.old.table_id }
-        ensures me { seat.new.me ≡ (frees_behind seat.old.me.0 (desk_of seat.old.me.1) answer.now, []) }
+        ensures me { seat.new.me ≡ (frees_behind seat.old.me.0 (desk_out seat.old.me.1) answer.now, []) }
     {
         match answer {
             Ok(_) => self.free_counting(seat),
@@ -650,8 +650,8 @@ impl Board {
         requires id { seat.old.table_id ≡ self.now.table.shared.table_id }
         requires desk { HasDesk seat.old.me }
         requires named { IfOk answer.now (λ given. NamedAt seat.old.me.0.hand (given.channel, channel.now)) }
-        requires no_schemas { answer.now ≡ Err TooManySchemas → LacksAt seat.old.me.0.hand (channel.now, TooManySchemas) }
-        requires no_channels { answer.now ≡ Err TooManyChannels → LacksAt seat.old.me.0.hand (channel.now, TooManyChannels) }
+        requires no_schemas { answer.now ≡ Err TooManySchemas → LacksIdAt seat.old.me.0.hand (channel.now, TooManySchemas) }
+        requires no_channels { answer.now ≡ Err TooManyChannels → LacksIdAt seat.old.me.0.hand (channel.now, TooManyChannels) }
         ensures id { seat.new.table_id ≡ seat.old.table_id }
         ensures me { seat.new.me ≡ (frees seat.old.me.0 (pass_named seat.old.me.0 channel.now answer.now), []) }
     {

@@ -3,7 +3,7 @@ ghost use Rattle.std.specs.Prelude.{◌≡◌, ℕ, length, Some};
 ghost use Rattle.mcap_model.specs.declared.ends.End.{End};
 ghost use Rattle.record_core.specs.declared.answers.Found.{Found};
 ghost use Rattle.buffer_swap.specs.Plays.{Met};
-ghost use Rattle.buffer_swap.specs.Calls.{IsOver};
+ghost use Rattle.buffer_swap.specs.Calls.{DrainIsOver};
 
 use crate::board::EVENTS;
 use crate::plays::{Meet, Note, Read};
@@ -18,7 +18,7 @@ pub fn meet(control: &mut Control<'_>, drain: &mut Drain<'_>)
     ensures made { (control.new.seat.me.0.post.made ≡ control.old.seat.me.0.post.made) × (control.new.seat.me.0.post.known ≡ control.old.seat.me.0.post.known) }
     ensures closed { control.new.seat.me.0.post.closed ≡ control.old.seat.me.0.post.closed }
     ensures drain { (drain.new.seat.table_id ≡ drain.old.seat.table_id) × (drain.new.seat.me ≡ drain.old.seat.me) }
-    ensures met { (end : End) → IsOver drain.old.seat.me.0.pass drain.old.seat.me.0.post end
+    ensures met { (end : End) → DrainIsOver drain.old.seat.me.0.pass drain.old.seat.me.0.post end
         → Met control.old.seat.me.0.post.made control.old.seat.me.0.post.known control.old.seat.me.0.post.closed drain.old.seat.me.0.post.stop drain.old.seat.me.0.post.taken end }
 {
     let shared = &control.board.table.shared;

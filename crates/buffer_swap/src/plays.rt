@@ -1,8 +1,8 @@
 //! The rule of the turn, and the kinds of its steps. A turn is told once from how many bytes on its buffer is full. What a
 //! call promises of its steps rests on these kinds: each names the word and the change that it is of.
 ghost use Rattle.buffer_swap.specs.Posts.{first_post};
-ghost use Rattle.buffer_swap.specs.Turns.{Kept, newcomer, nobody};
-ghost use Rattle.buffer_swap.specs.Plays.{took, counted, handed_over, closed, stopped, freed, freed_counting, same_pass, with_full_hand, with_name, with_lacking, starts, drainer, hires, hired, gathers, noted, reads, settled, met};
+ghost use Rattle.buffer_swap.specs.Turns.{KeepsTurnRule, newcomer, nobody};
+ghost use Rattle.buffer_swap.specs.Plays.{took, records_counted, handed_over, closed, stopped, freed, freed_counting, same_pass, with_full_hand, with_name, with_lacking, starts, drainer, hires, hired, gathers, drain_noted, reads, settled, met};
 
 use crate::view::View;
 use atomic_table::{Join, Play, Split, TableRule};
@@ -12,7 +12,7 @@ use std::marker::{Brand, PhantomData};
 pub(crate) struct Order;
 
 impl TableRule<Desk, View, u64> for Order {
-    ghost holds = { λ _. Kept };
+    ghost holds = { λ _. KeepsTurnRule };
 
     ghost first = { λ limit. newcomer limit first_post };
 }
@@ -28,7 +28,7 @@ impl Play<Desk, View> for Take {
 pub(crate) struct Count;
 
 impl Play<Desk, View> for Count {
-    ghost then = { counted };
+    ghost then = { records_counted };
 }
 
 // The buffer is handed over.
@@ -129,7 +129,7 @@ pub(crate) struct Note;
 impl Split<View> for Note {
     ghost left = { λ v. v };
 
-    ghost right = { noted };
+    ghost right = { drain_noted };
 }
 
 // The control takes in a publisher's seat, or a note.

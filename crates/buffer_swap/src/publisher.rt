@@ -6,7 +6,7 @@ ghost use Rattle.record_core.specs.Desk.{declared_size};
 ghost use Rattle.record_core.specs.declared.answers.PublishRefused.TheVariants.{Full};
 ghost use Rattle.record_core.specs.declared.answers.DeclareRefused.TheVariants.{Full as DeclareFull};
 ghost use Rattle.record_core.specs.Sights.{DefFits};
-ghost use Rattle.buffer_swap.specs.Calls.{Publishes, Declares, MayName, last_of, TriesBy, answer_of, LooksOn, NotFull, NeverFull};
+ghost use Rattle.buffer_swap.specs.Calls.{PublishesMessage, DeclaresChannel, MayName, last_of, TriesBy, answer_of, LooksOn, NotFull, NeverFull};
 
 use crate::answers::TryRefused;
 use crate::seats::{EndedPass, Publisher, Rouser};
@@ -91,7 +91,7 @@ impl<'t> Publisher<'t> {
         ensures turn { self.new.seat.table_id ≡ self.old.seat.table_id }
         ensures number { self.new.number ≡ self.old.number }
         ensures last { self.new.last ≡ self.old.last }
-        ensures answer { Publishes self.old.seat.me.0.pass self.new.seat.me.0.pass m.now result }
+        ensures answer { PublishesMessage self.old.seat.me.0.pass self.new.seat.me.0.pass m.now result }
     {
         let len = m.payload.len() as u64;
         if len > 33_554_432 {
@@ -114,7 +114,7 @@ impl<'t> Publisher<'t> {
         ensures turn { self.new.seat.table_id ≡ self.old.seat.table_id }
         ensures number { self.new.number ≡ self.old.number }
         ensures last { self.new.last ≡ last_of self.old.last result }
-        ensures answer { Declares self.old.seat.me.0.pass self.new.seat.me.0.pass channel.now result }
+        ensures answer { DeclaresChannel self.old.seat.me.0.pass self.new.seat.me.0.pass channel.now result }
     {
         self.declare_sharing(rt, channel, None)
     }
@@ -131,7 +131,7 @@ impl<'t> Publisher<'t> {
         ensures turn { self.new.seat.table_id ≡ self.old.seat.table_id }
         ensures number { self.new.number ≡ self.old.number }
         ensures last { self.new.last ≡ last_of self.old.last result }
-        ensures answer { Declares self.old.seat.me.0.pass self.new.seat.me.0.pass channel.now result }
+        ensures answer { DeclaresChannel self.old.seat.me.0.pass self.new.seat.me.0.pass channel.now result }
     {
         let len = declared_size(channel);
         if len > 1_048_576 {
@@ -153,7 +153,7 @@ impl<'t> Publisher<'t> {
         ensures turn { self.new.seat.table_id ≡ self.old.seat.table_id }
         ensures number { self.new.number ≡ self.old.number }
         ensures last { self.new.last ≡ self.old.last }
-        ensures answer { NotFull result → Publishes self.old.seat.me.0.pass self.new.seat.me.0.pass m.now result }
+        ensures answer { NotFull result → PublishesMessage self.old.seat.me.0.pass self.new.seat.me.0.pass m.now result }
         ensures full { (h : ℕ) → result ≡ Err (Full h) → LooksOn self.old.seat.me.0.pass self.new.seat.me.0.pass }
     {
         self.board.wait(rt, &mut self.seat);
@@ -171,7 +171,7 @@ impl<'t> Publisher<'t> {
         ensures turn { self.new.seat.table_id ≡ self.old.seat.table_id }
         ensures number { self.new.number ≡ self.old.number }
         ensures last { self.new.last ≡ self.old.last }
-        ensures answer { Publishes self.old.seat.me.0.pass self.new.seat.me.0.pass m.now result }
+        ensures answer { PublishesMessage self.old.seat.me.0.pass self.new.seat.me.0.pass m.now result }
         ensures unfull { NotFull result }
     {
         let len = m.payload.len() as u64;
@@ -202,7 +202,7 @@ impl<'t> Publisher<'t> {
         ensures turn { self.new.seat.table_id ≡ self.old.seat.table_id }
         ensures number { self.new.number ≡ self.old.number }
         ensures last { self.new.last ≡ last_of self.old.last result }
-        ensures answer { NeverFull result → Declares self.old.seat.me.0.pass self.new.seat.me.0.pass channel.now result }
+        ensures answer { NeverFull result → DeclaresChannel self.old.seat.me.0.pass self.new.seat.me.0.pass channel.now result }
         ensures full { (h : ℕ) → result ≡ Err (DeclareFull h) → LooksOn self.old.seat.me.0.pass self.new.seat.me.0.pass }
     {
         self.board.wait(rt, &mut self.seat);
@@ -226,7 +226,7 @@ impl<'t> Publisher<'t> {
         ensures turn { self.new.seat.table_id ≡ self.old.seat.table_id }
         ensures number { self.new.number ≡ self.old.number }
         ensures last { self.new.last ≡ last_of self.old.last result }
-        ensures answer { Declares self.old.seat.me.0.pass self.new.seat.me.0.pass channel.now result }
+        ensures answer { DeclaresChannel self.old.seat.me.0.pass self.new.seat.me.0.pass channel.now result }
         ensures unfull { NeverFull result }
     {
         self.declare_lossless_sharing(rt, channel, None)
@@ -244,7 +244,7 @@ impl<'t> Publisher<'t> {
         ensures turn { self.new.seat.table_id ≡ self.old.seat.table_id }
         ensures number { self.new.number ≡ self.old.number }
         ensures last { self.new.last ≡ last_of self.old.last result }
-        ensures answer { Declares self.old.seat.me.0.pass self.new.seat.me.0.pass channel.now result }
+        ensures answer { DeclaresChannel self.old.seat.me.0.pass self.new.seat.me.0.pass channel.now result }
         ensures unfull { NeverFull result }
     {
         let len = declared_size(channel);

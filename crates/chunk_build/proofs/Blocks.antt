@@ -15,7 +15,7 @@ use Rattle.mcap_model.specs.Blocks.{logged, logged_channels, entries_for, index_
 use Rattle.mcap_model.specs.Summary.{messages_on}
 use Rattle.mcap_model.specs.Built.{IsBlock, parts_from}
 use Rattle.chunk_build.specs.Rows.{row_bytes, rows_bytes, rows_parts}
-use Rattle.chunk_build.specs.Opened.{opened, IsBuilt}
+use Rattle.chunk_build.specs.Opened.{chunk_of_records, IsBuilt}
 use Rattle.chunk_build.proofs.RowLemmas.{length-row_bytes}
 
 abbrev row_for : List Rec → ℕ → ℕ × List ℕ
@@ -72,9 +72,9 @@ length-chunk bytes start end size crc =
       length-prefixed 8 bytes,
     )
 
-pub built_is_block : (records : List Rec) (b : Block) → IsBuilt (opened records) b → IsBlock b records
+pub built_is_block : (records : List Rec) (b : Block) → IsBuilt (chunk_of_records records) b → IsBlock b records
 built_is_block records b is =
-    let size : length (chunk_bytes records) ≡ 49 + length (opened records).bytes = length-chunk (opened records).bytes (opened records).start (opened records).end _ _ in
+    let size : length (chunk_bytes records) ≡ 49 + length (chunk_of_records records).bytes = length-chunk (chunk_of_records records).bytes (chunk_of_records records).start (chunk_of_records records).end _ _ in
     record {
       spelled = is.spelled ∙ ap (λ (l : List ℕ). chunk_bytes records ++ l) (all_indexes records (logged_channels records));
       chunk = is.chunk ∙ sym size;
@@ -82,5 +82,5 @@ built_is_block records b is =
       end = is.end;
       counted = is.counted;
       declaring = is.declaring;
-      parts = is.parts ∙ all_parts records (49 + length (opened records).bytes) (logged_channels records) ∙ ap (λ (n : ℕ). parts_from records n (logged_channels records)) (sym size);
+      parts = is.parts ∙ all_parts records (49 + length (chunk_of_records records).bytes) (logged_channels records) ∙ ap (λ (n : ℕ). parts_from records n (logged_channels records)) (sym size);
     }

@@ -15,8 +15,8 @@ use Rattle.mcap_model.specs.Blocks.{least, greatest, Logged, logged_one, logged,
 use Rattle.mcap_model.specs.Built.{declarations}
 use Rattle.mcap_model.proofs.Growth.{Above, Rises, IsIn, id_first, id_same, id_later, above_more, rises_fold, in_fold, fold_append, bytes_more, logged_all, time_of, least_more, greatest_more, declared_more}
 use Rattle.chunk_build.specs.Rows.{with_entry}
-use Rattle.chunk_build.specs.Opened.{Opened, opened, with_declaration, with_bytes}
-use Rattle.chunk_build.specs.Building.{mark_of, noted}
+use Rattle.chunk_build.specs.Opened.{Opened, chunk_of_records, with_declaration, with_bytes}
+use Rattle.chunk_build.specs.Building.{mark_of, record_counted}
 use Rattle.chunk_build.proofs.RowLemmas.{with_same, with_later}
 
 -- ---- rows by ids
@@ -122,7 +122,7 @@ same_opened b b' l l' s s' e e' m m' d d' p q r t u v =
     ∙ ap (λ (x : ℕ). make b' l' s' x m d) t ∙ ap (λ (x : ℕ). make b' l' s' e' x d) u ∙ ap (λ (x : ℕ). make b' l' s' e' m' x) v
 
 -- the same, where what is logged stays
-quiet : (ws : List Rec) (r : Rec) → logged_one (length (history_bytes ws)) r ≡ [] → length (declarations (r ∷ [])) ≡ 1 → opened (ws ++ r ∷ []) ≡ with_declaration (with_bytes (opened ws) (rec_bytes r))
+quiet : (ws : List Rec) (r : Rec) → logged_one (length (history_bytes ws)) r ≡ [] → length (declarations (r ∷ [])) ≡ 1 → chunk_of_records (ws ++ r ∷ []) ≡ with_declaration (with_bytes (chunk_of_records ws) (rec_bytes r))
 quiet ws r none one =
     let same : logged (ws ++ r ∷ []) ≡ logged ws = logged_all ws r ∙ ap (λ (l : List Logged). logged ws ++ l) none ∙ append-nil (logged ws) in
     let more = ap (λ (l : List Rec). length l) (declared_more ws r) in
@@ -135,7 +135,7 @@ quiet ws r none one =
     (ap (λ (l : List Logged). length l) same)
     count
 
-pub opened_more : (ws : List Rec) (r : Rec) → opened (ws ++ r ∷ []) ≡ noted (with_bytes (opened ws) (rec_bytes r)) (length (history_bytes ws)) (mark_of r)
+pub opened_more : (ws : List Rec) (r : Rec) → chunk_of_records (ws ++ r ∷ []) ≡ record_counted (with_bytes (chunk_of_records ws) (rec_bytes r)) (length (history_bytes ws)) (mark_of r)
 opened_more ws (Schema id schema) = quiet ws (Schema id schema) refl refl
 opened_more ws (Channel id schema topic encoding metadata) = quiet ws (Channel id schema topic encoding metadata) refl refl
 opened_more ws (Message channel sequence log_time publish_time payload) =

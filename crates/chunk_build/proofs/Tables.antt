@@ -7,7 +7,7 @@ use Rattle.std.specs.Ordering.{nat_cmp, is_lt, ordering_then}
 use Rattle.std.proofs.lemmas.Bool.{ltb-true, ltb-false, lt-ltb, le-leb, lt-leb, eqb-true, eqb-false}
 use Rattle.mcap_model.specs.declared.replay.Range.{Range}
 use Rattle.mcap_model.specs.Places.{At}
-use Rattle.mcap_model.specs.Plain.{is_within, is_before}
+use Rattle.mcap_model.specs.Plain.{is_within, is_before_end}
 use Rattle.std.proofs.lemmas.List.{length-drop}
 use Rattle.std.proofs.lemmas.List.Kept.{AllPairs-filter}
 use Rattle.mcap_model.proofs.Flat.{map-append}
@@ -126,14 +126,14 @@ filter_same p q same (x ∷ xs) =
 pub among_late : (xs late : List TimeAt) (range : Range) → late ≡ filter (λ e. nat_le range.start e.time) xs → range.end ≡ None → late ≡ filter (λ e. is_within range e.time) xs
 among_late xs late range is none =
     is ∙ filter_same (λ e. nat_le range.start e.time) (λ e. is_within range e.time)
-    (λ x. sym (ap (λ (end : Option ℕ). nat_le range.start x.time && is_before end x.time) none ∙ and_true (nat_le range.start x.time))) xs
+    (λ x. sym (ap (λ (end : Option ℕ). nat_le range.start x.time && is_before_end end x.time) none ∙ and_true (nat_le range.start x.time))) xs
 
 -- with an end
 pub among_both : (xs late some : List TimeAt) (range : Range) (end : ℕ) → late ≡ filter (λ e. nat_le range.start e.time) xs → some ≡ filter (λ e. nat_lt e.time end) late → range.end ≡ Some end → some ≡ filter (λ e. is_within range e.time) xs
 among_both xs late some range end is then ends =
     then ∙ ap (filter (λ e. nat_lt e.time end)) is ∙ filter_both (λ e. nat_le range.start e.time) (λ e. nat_lt e.time end) xs
     ∙ filter_same (λ e. nat_le range.start e.time && nat_lt e.time end) (λ e. is_within range e.time)
-    (λ x. sym (ap (λ (o : Option ℕ). nat_le range.start x.time && is_before o x.time) ends)) xs
+    (λ x. sym (ap (λ (o : Option ℕ). nat_le range.start x.time && is_before_end o x.time) ends)) xs
 
 -- ---- entries that are copied
 

@@ -10,11 +10,11 @@ use Rattle.chunk_build.specs.Rows.{rows_in, RowsSound, IsRowReady, rows_size}
 use Rattle.rec_data.specs.declared.owned.Rec.{Rec}
 use Rattle.rec_data.specs.declared.owned.Rec.TheVariants.{Schema, Channel, Message}
 use Rattle.mcap_model.specs.declared.block.Block.{Block}
-use Rattle.chunk_build.specs.Opened.{Opened, opened, with_message, with_declaration, IsBuilt}
+use Rattle.chunk_build.specs.Opened.{Opened, chunk_of_records, with_indexed_message, with_declaration, IsBuilt}
 
 -- what it holds: its records stand behind the room for the chunk's head
-abbrev pub seen : Building → Opened
-seen chunk = record {
+abbrev pub chunk_in_memory : Building → Opened
+chunk_in_memory chunk = record {
   bytes = drop 49 chunk.bytes.items;
   rows = rows_in chunk.rows.list.items;
   start = chunk.start;
@@ -37,9 +37,9 @@ mark_of (Channel id schema topic encoding metadata) = None
 mark_of (Message channel sequence log_time publish_time payload) = Some (record { channel = channel; time = log_time })
 
 -- a record is counted whose bytes stand at the end already
-abbrev pub noted : Opened → ℕ → Option Mark → Opened
-noted o offset None = with_declaration o
-noted o offset (Some mark) = with_message o offset mark.channel mark.time
+abbrev pub record_counted : Opened → ℕ → Option Mark → Opened
+record_counted o offset None = with_declaration o
+record_counted o offset (Some mark) = with_indexed_message o offset mark.channel mark.time
 
 -- a record is long enough for what it is
 abbrev pub IsLong : ℕ → Option Mark → Type 0
@@ -84,4 +84,4 @@ abbrev pub Settles : Opened → Option Closing → Option Block → Opened → T
 Settles o None None after = after ≡ o
 Settles o None (Some b) after = ⊥
 Settles o (Some closing) None after = ⊥
-Settles o (Some closing) (Some b) after = IsBuilt o b × (after ≡ opened [])
+Settles o (Some closing) (Some b) after = IsBuilt o b × (after ≡ chunk_of_records [])

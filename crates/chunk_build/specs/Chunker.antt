@@ -5,13 +5,13 @@ use Rattle.rec_data.specs.Owned.{rec_opcode, rec_text, rec_bytes, ShowsRec}
 use Rattle.mcap_model.specs.declared.block.Block.{Block}
 use Rattle.mcap_model.specs.Blocks.{block, Cuts, cuts, last_piece}
 use Rattle.mcap_model.specs.Built.{IsBlock}
-use Rattle.chunk_build.specs.Opened.{opened}
+use Rattle.chunk_build.specs.Opened.{chunk_of_records}
 use Rattle.chunk_build.specs.Chunking.{Chunking}
 
 -- A chunker stands for a history where its open chunk holds the records that wait for their block. Those before them stand
 -- in the blocks that it gave.
 abbrev pub StandsFor : Chunking → List Rec → Type 0
-StandsFor c history = c.chunk ≡ opened (cuts (Some c.size) history).waiting
+StandsFor c history = c.chunk ≡ chunk_of_records (cuts (Some c.size) history).waiting
 
 -- a block is given exactly where one more is cut, and it is that of the records that waited and this one
 abbrev pub Closes : Cuts → Rec → Cuts → Option Block → Type 0
@@ -19,7 +19,7 @@ Closes before r after None = after.pieces ≡ before.pieces
 Closes before r after (Some b) = (after.pieces ≡ before.pieces ++ block (before.waiting ++ r ∷ []) ∷ []) × IsBlock b (before.waiting ++ r ∷ [])
 
 -- a record was put behind a history
-pub record Puts (size : ℕ) (history : List Rec) (r : Rec) (closed : Option Block) (after : Chunking) : Type 0 where
+pub record PutsRecord (size : ℕ) (history : List Rec) (r : Rec) (closed : Option Block) (after : Chunking) : Type 0 where
   pub stands : StandsFor after (history ++ r ∷ [])
   pub same_size : after.size ≡ size
   pub closes : Closes (cuts (Some size) history) r (cuts (Some size) (history ++ r ∷ [])) closed

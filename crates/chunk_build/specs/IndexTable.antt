@@ -14,6 +14,6 @@ abbrev pub Rises : List TimeAt → Type 0
 Rises table = AllPairs NotAfter table
 
 -- just these entries, in order
-pub record IsTable (entries : List (ℕ × ℕ)) (table : List TimeAt) : Type 0 where
+pub record HasJustEntries (entries : List (ℕ × ℕ)) (table : List TimeAt) : Type 0 where
   pub same : IsPermutation (map time_at entries) table
   pub rises : Rises table

@@ -37,8 +37,8 @@ abbrev pub rows_of : List Rec → List (ℕ × List ℕ)
 rows_of records = map (λ id. (id, entry_texts 8 (entries_for records id))) (logged_channels records)
 
 -- what stands for these records
-abbrev pub opened : List Rec → Opened
-opened records = record {
+abbrev pub chunk_of_records : List Rec → Opened
+chunk_of_records records = record {
   bytes = history_bytes records;
   rows = rows_of records;
   start = least (log_times records);
@@ -50,8 +50,8 @@ opened records = record {
 -- ---- one record more, whose bytes stand at the end already
 
 -- a message is counted, which begins at that offset
-abbrev pub with_message : Opened → ℕ → ℕ → ℕ → Opened
-with_message o offset channel time = record {
+abbrev pub with_indexed_message : Opened → ℕ → ℕ → ℕ → Opened
+with_indexed_message o offset channel time = record {
   bytes = o.bytes;
   rows = with_entry o.rows channel (le 8 time ++ le 8 offset);
   start = if o.messages == 0 then time else min o.start time;

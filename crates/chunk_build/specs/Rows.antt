@@ -7,7 +7,7 @@ use Rattle.mcap_model.specs.declared.block.IndexPart.{IndexPart}
 use Rattle.mcap_model.specs.Summary.{has_some}
 use Rattle.chunk_build.specs.declared.row.Row.{Row}
 use Rattle.chunk_build.specs.declared.row.Rows.{Rows}
-use Rattle.chunk_build.specs.Keys.{FoundKey}
+use Rattle.chunk_build.specs.Keys.{FoundKeyPlace}
 
 -- ---- rows as pairs of a channel and the bytes of its entries
 
@@ -36,7 +36,7 @@ pub record RowsSound (rows : Rows) : Type 0 where
 
 -- the row of a channel, or where it is to stand
 abbrev pub FoundRow : List Row → ℕ → Result ℕ ℕ → Type 0
-FoundRow = FoundKey (λ (row : Row). row.channel)
+FoundRow = FoundKeyPlace (λ (row : Row). row.channel)
 
 -- a row of that channel with room for an entry
 pub record HasRow (rows : List Row) (i channel : ℕ) : Type 0 where

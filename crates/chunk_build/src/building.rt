@@ -5,8 +5,8 @@ ghost use Rattle.mcap_wire.specs.Limits.{chunk_size_limit};
 ghost use Rattle.mcap_wire.specs.Writing.{HasRoom};
 ghost use Rattle.rec_index.specs.Records.{chunk_text};
 ghost use Rattle.chunk_build.specs.Rows.{IsRowReady};
-ghost use Rattle.chunk_build.specs.Opened.{plain_chunk, opened, with_message, IsBuilt};
-ghost use Rattle.chunk_build.specs.Building.{seen, IsSound, RowReady, CanClose, IsReady, noted, StandsBehind, CanCloseBy, Settles};
+ghost use Rattle.chunk_build.specs.Opened.{plain_chunk, chunk_of_records, with_indexed_message, IsBuilt};
+ghost use Rattle.chunk_build.specs.Building.{chunk_in_memory, IsSound, RowReady, CanClose, IsReady, record_counted, StandsBehind, CanCloseBy, Settles};
 
 use crate::row::{Rows, put_entry, ready_row, take_indexes};
 use mcap_crc::crc_of;
@@ -61,7 +61,7 @@ pub(crate) struct Closing {
 
 /// An open chunk without a record.
 pub(crate) fn begin(alloc: Global) -> Building
-    ensures none { seen result ≡ opened [] }
+    ensures none { chunk_in_memory result ≡ chunk_of_records [] }
     ensures sound { IsSound result }
 {
     Building {
@@ -82,7 +82,7 @@ pub(crate) fn begin(alloc: Global) -> Building
 /// Keeps a vector for the next chunk, if its room is larger than that of the one that is kept.
 pub(crate) fn keep_room(chunk: &mut Building, room: Vec<u8>)
     requires { IsSound chunk.old }
-    ensures same { seen chunk.new ≡ seen chunk.old }
+    ensures same { chunk_in_memory chunk.new ≡ chunk_in_memory chunk.old }
     ensures sound { IsSound chunk.new }
     ensures bytes { chunk.new.bytes ≡ chunk.old.bytes }
 {
@@ -122,7 +122,7 @@ fn begin_chunk(bytes: &mut Vec<u8>, spare: &mut Vec<u8>, size: u64) -> Result<()
 // The row for a record.
 fn row_of(alloc: Global, chunk: &mut Building, mark: Option<Mark>) -> Result<usize, Memory>
     requires { IsSound chunk.old }
-    ensures same { seen chunk.new ≡ seen chunk.old }
+    ensures same { chunk_in_memory chunk.new ≡ chunk_in_memory chunk.old }
     ensures sound { IsSound chunk.new }
     ensures bytes { chunk.new.bytes ≡ chunk.old.bytes }
     ensures row { IfOk result (λ row. RowReady chunk.new.rows mark row) }
@@ -157,7 +157,7 @@ pub(crate) fn prepare(
     requires sound { IsSound chunk.old }
     requires small { chunk.old.index < 2 ^ 31 }
     requires size { size ≤ chunk_size_limit }
-    ensures same { seen chunk.new ≡ seen chunk.old }
+    ensures same { chunk_in_memory chunk.new ≡ chunk_in_memory chunk.old }
     ensures sound { IsSound chunk.new }
     ensures ready { IfOk result (λ ready. IsReady size len mark chunk.new ready) }
 {
@@ -203,7 +203,7 @@ pub(crate) fn prepare_open(
     mark: Option<Mark>,
 ) -> Result<usize, Memory>
     requires sound { IsSound chunk.old }
-    ensures same { seen chunk.new ≡ seen chunk.old }
+    ensures same { chunk_in_memory chunk.new ≡ chunk_in_memory chunk.old }
     ensures sound { IsSound chunk.new }
     ensures bytes { chunk.new.bytes.items ≡ chunk.old.bytes.items }
     ensures row { IfOk result (λ row. RowReady chunk.new.rows mark row) }
@@ -220,7 +220,7 @@ fn note_message(chunk: &mut Building, offset: u64, mark: Mark, row: usize)
     requires row { IsRowReady chunk.old.rows row mark.channel }
     requires before { 31 * chunk.old.messages + chunk.old.declared ≤ offset }
     requires behind { offset + 31 ≤ length (drop 49 chunk.old.bytes.items) }
-    ensures noted { seen chunk.new ≡ with_message (seen chunk.old) offset mark.channel mark.time }
+    ensures noted { chunk_in_memory chunk.new ≡ with_indexed_message (chunk_in_memory chunk.old) offset mark.channel mark.time }
     ensures sound { IsSound chunk.new }
     ensures bytes { chunk.new.bytes ≡ chunk.old.bytes }
     ensures used { length chunk.new.rows.used.items ≤ length chunk.old.rows.used.items + 1 }
@@ -248,7 +248,7 @@ pub(crate) fn note(chunk: &mut Building, offset: u64, mark: Option<Mark>, row: u
     requires row { RowReady chunk.old.rows mark row }
     requires before { 31 * chunk.old.messages + chunk.old.declared ≤ offset }
     requires behind { StandsBehind offset (length (drop 49 chunk.old.bytes.items)) mark }
-    ensures noted { seen chunk.new ≡ noted (seen chunk.old) offset mark }
+    ensures noted { chunk_in_memory chunk.new ≡ record_counted (chunk_in_memory chunk.old) offset mark }
     ensures sound { IsSound chunk.new }
     ensures bytes { chunk.new.bytes ≡ chunk.old.bytes }
     ensures used { length chunk.new.rows.used.items ≤ length chunk.old.rows.used.items + 1 }
@@ -277,7 +277,7 @@ pub(crate) fn settle(
     requires behind { StandsBehind offset (length (drop 49 chunk.old.bytes.items)) mark }
     requires closing { CanCloseBy chunk.old ready.closing }
     requires small { chunk.old.index < 2 ^ 31 }
-    ensures settled { Settles (noted (seen chunk.old) offset mark) ready.closing result (seen chunk.new) }
+    ensures settled { Settles (record_counted (chunk_in_memory chunk.old) offset mark) ready.closing result (chunk_in_memory chunk.new) }
     ensures sound { IsSound chunk.new }
 {
     let Ready { row, closing } = ready;
@@ -329,8 +329,8 @@ pub(crate) fn close(alloc: Global, chunk: &mut Building, closing: Closing) -> Bl
     requires small { chunk.old.index < 2 ^ 32 }
     requires room { HasRoom chunk.old.bytes chunk.old.index }
     requires closing { CanClose chunk.old 0 closing }
-    ensures built { IsBuilt (seen chunk.old) result }
-    ensures none { seen chunk.new ≡ opened [] }
+    ensures built { IsBuilt (chunk_in_memory chunk.old) result }
+    ensures none { chunk_in_memory chunk.new ≡ chunk_of_records [] }
     ensures sound { IsSound chunk.new }
 {
     let Closing {

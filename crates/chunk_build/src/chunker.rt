@@ -4,7 +4,7 @@ ghost use Rattle.mcap_wire.specs.Limits.{chunk_size_limit};
 ghost use Rattle.rec_data.specs.declared.owned.Rec.{Rec};
 ghost use Rattle.rec_data.specs.Owned.{rec_bytes, LengthsFit};
 ghost use Rattle.chunk_build.specs.Building.{mark_of, IsLong};
-ghost use Rattle.chunk_build.specs.Chunker.{StandsFor, Puts, AreFramed, Finishes};
+ghost use Rattle.chunk_build.specs.Chunker.{StandsFor, PutsRecord, AreFramed, Finishes};
 
 use crate::building::{
     Building, HEAD, Mark, begin, close, closing_for, keep_room, note, prepare, prepare_open,
@@ -33,11 +33,11 @@ impl Model for Chunker {
 
     ghost Value = { Chunking };
 
-    ghost use Rattle.chunk_build.specs.Held.{chunking, IsHeld};
+    ghost use Rattle.chunk_build.specs.Held.{chunking, HasOpenChunk};
 
     ghost view = { chunking };
 
-    ghost invariant = { IsHeld };
+    ghost invariant = { HasOpenChunk };
 }
 
 impl Chunker {
@@ -58,7 +58,7 @@ impl Chunker {
     pub fn put(&mut self, r: &Rec) -> Result<Option<Block>, Memory>
         requires { LengthsFit r.now }
         ensures put { IfOk result (λ closed. (history : List Rec) → StandsFor self.old history
-            → Puts self.old.size history r.now closed self.new) }
+            → PutsRecord self.old.size history r.now closed self.new) }
         ensures err { OnErr result (self.new ≡ self.old) }
     {
         let mark = mark_of_record(r);
@@ -80,7 +80,7 @@ impl Chunker {
     pub fn put_framed(&mut self, bytes: &[u8]) -> Result<Option<Block>, Memory>
         requires { (r : Rec) × AreFramed bytes.now r }
         ensures put { IfOk result (λ closed. (r : Rec) → AreFramed bytes.now r → (history : List Rec)
-            → StandsFor self.old history → Puts self.old.size history r closed self.new) }
+            → StandsFor self.old history → PutsRecord self.old.size history r closed self.new) }
         ensures err { OnErr result (self.new ≡ self.old) }
     {
         let len = bytes.len() as u64;
@@ -104,7 +104,7 @@ impl Chunker {
     fn put_any(&mut self, bytes: &[u8]) -> Result<Option<Block>, Memory>
         requires { (r : Rec) × AreFramed bytes.now r }
         ensures put { IfOk result (λ closed. (r : Rec) → AreFramed bytes.now r → (history : List Rec)
-            → StandsFor self.old history → Puts self.old.size history r closed self.new) }
+            → StandsFor self.old history → PutsRecord self.old.size history r closed self.new) }
         ensures err { OnErr result (self.new ≡ self.old) }
     {
         let mark = mark_of_bytes(bytes);

@@ -2,7 +2,7 @@
 ghost use Rattle.std.specs.Prelude.{◌≡◌, ◌↔◌, ◌≤◌, IfOk, IsTrue, IsPermutation, length, map, filter, take, drop, nat_lt, nat_le};
 ghost use Rattle.std.specs.List.{AllAdjacentBelow};
 ghost use Rattle.mcap_model.specs.Plain.{is_within};
-ghost use Rattle.chunk_build.specs.IndexTable.{time_at, NotAfter, Rises, IsTable};
+ghost use Rattle.chunk_build.specs.IndexTable.{time_at, NotAfter, Rises, HasJustEntries};
 
 use mcap_model::Range;
 use mcap_wire::{EntriesRef, Memory};
@@ -116,7 +116,7 @@ fn early(entries: &[TimeAt], time: u64) -> &[TimeAt]
 impl IndexTable {
     /// The entries of a Message Index.
     pub fn of(alloc: Global, index: &MessageIndex) -> Result<IndexTable, Memory>
-        ensures { IfOk result (λ table. IsTable index.now.entries table) }
+        ensures { IfOk result (λ table. HasJustEntries index.now.entries table) }
     {
         let mut entries = match copy_entries(alloc, &index.entries) {
             Ok(entries) => entries,

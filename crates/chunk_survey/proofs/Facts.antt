@@ -9,11 +9,11 @@ use Rattle.mcap_model.specs.Places.{At, Has, Each}
 use Rattle.mcap_model.proofs.Places.{at_none, at_kept, at_last, at_more, pairs_more}
 use Rattle.mcap_model.proofs.Lists.{pairs_at, pairs_from}
 use Rattle.chunk_survey.specs.declared.times.Extent.{Extent}
-use Rattle.chunk_survey.specs.Times.{with_time, extent_of, TimesAre}
+use Rattle.chunk_survey.specs.Times.{with_time, extent_of, TimesSpan}
 
 -- what is known of the times so far
 pub record ExtentStands (times : List ℕ) (e : Extent) : Type 0 where
-  pub are : TimesAre times e.least e.greatest e.in_order
+  pub are : TimesSpan times e.least e.greatest e.in_order
   pub last_there : (n : ℕ) × (length times ≡ suc n) × At times n e.last
   pub last_is : e.in_order ≡ true → e.last ≡ e.greatest
 
@@ -112,7 +112,7 @@ stands_one t = record {
     only (suc n) x at = absurd (at_none n x at)
 
 -- the extent of some times
-pub extent_is : (times : List ℕ) (e : Extent) → extent_of times ≡ Some e → TimesAre times e.least e.greatest e.in_order
+pub extent_is : (times : List ℕ) (e : Extent) → extent_of times ≡ Some e → TimesSpan times e.least e.greatest e.in_order
 extent_is [] e is = absurd (none_some e is)
   where
     none_some : (x : Extent) → None ≡ Some x → ⊥

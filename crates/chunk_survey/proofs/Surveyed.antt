@@ -8,7 +8,7 @@ use Rattle.mcap_model.specs.Kept.{reading_limits}
 use Rattle.mcap_model.specs.declared.tables.Tables.{Tables}
 use Rattle.mcap_model.proofs.Flat.{good_lists_are_scanned}
 use Rattle.mcap_scan.specs.declared.reader.Reader.{Reader}
-use Rattle.mcap_scan.specs.Scanning.{Stands, Gives, Finds, content_of}
+use Rattle.mcap_scan.specs.Scanning.{Stands, Gives, FindsEnd, content_of}
 use Rattle.chunk_survey.specs.declared.spans.Span.{Span}
 use Rattle.chunk_survey.specs.declared.surveying.Survey.{Survey}
 use Rattle.chunk_survey.specs.Spans.{spans_one, spans_of}
@@ -39,7 +39,7 @@ noted_on reader reader_new before now now_new old new op offset content was give
           ∙ sym (spans_joined 8 was.tops t);
     }
 
-pub noted_at_end : (reader reader_new : Reader) (before now now_new : SourceState) (spans : List Span) (s : Survey) (tables : Tables) (offset : ℕ) (was : NotedSoFar reader before now spans) → Finds reader_new before now_new was.tops offset
+pub noted_at_end : (reader reader_new : Reader) (before now now_new : SourceState) (spans : List Span) (s : Survey) (tables : Tables) (offset : ℕ) (was : NotedSoFar reader before now spans) → FindsEnd reader_new before now_new was.tops offset
     → tables ≡ reader_new.tables → s.tables ≡ tables → s.spans.items ≡ spans → IsSurveyOf before now_new s
 noted_at_end reader reader_new before now now_new spans s tables offset was finds same tables_are spans_are =
     let is = finds.is in

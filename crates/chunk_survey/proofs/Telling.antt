@@ -7,13 +7,13 @@ use Rattle.mcap_model.specs.Tops.{is_chunk, inner_tops}
 use Rattle.mcap_model.proofs.Places.{at_none}
 use Rattle.chunk_survey.specs.declared.spans.Span.{Span}
 use Rattle.chunk_survey.specs.declared.times.Extent.{Extent}
-use Rattle.chunk_survey.specs.Times.{times_of, extent_of, with_time, TimesAre}
+use Rattle.chunk_survey.specs.Times.{times_of, extent_of, with_time, TimesSpan}
 use Rattle.chunk_survey.specs.Spans.{spans_made, spans_in_chunk, spans_alone}
 use Rattle.chunk_survey.specs.Laws.{SpansTellTimes, SilentRecordsHaveNone}
 use Rattle.chunk_survey.proofs.Facts.{extent_is}
 
 abbrev IsTold : ℕ → List ℕ → Span → Type 0
-IsTold offset times s = (s.offset ≡ offset) × TimesAre times s.least s.greatest s.in_order × (s.messages ≡ length times)
+IsTold offset times s = (s.offset ≡ offset) × TimesSpan times s.least s.greatest s.in_order × (s.messages ≡ length times)
 
 made_of : (offset at len : ℕ) (times : List ℕ) (e : Option Extent) (s : Span) → extent_of times ≡ e → Has (spans_made offset at len (length times) e) s → IsTold offset times s
 made_of offset at len times None s is has = absurd (at_none has.0 s has.1)

@@ -1,7 +1,7 @@
 -- The Messages among some records, and where they stand.
 use Rattle.std.specs.Prelude.{ℕ, List, map}
 use Rattle.std.specs.List.{flat_map}
-use Rattle.mcap_model.specs.Tops.{Top, Placed, placed_inside, opened}
+use Rattle.mcap_model.specs.Tops.{Top, Placed, placed_inside, unchunked}
 use Rattle.record_walk.specs.declared.heads.MessageHead.{MessageHead}
 use Rattle.record_walk.specs.Heads.{heads_at}
 
@@ -19,7 +19,7 @@ heads_from at tops = flat_map heads_at (placed_inside 0 at tops)
 
 -- those that a record of the top level is or holds, which stands first where it is one itself
 abbrev pub heads_under : Top → List MessageHead
-heads_under t = heads_from 0 (opened t)
+heads_under t = heads_from 0 (unchunked t)
 
 abbrev pub times_in : List MessageHead → List ℕ
 times_in heads = map (λ h. h.time) heads

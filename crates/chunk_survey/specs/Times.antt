@@ -21,7 +21,7 @@ abbrev pub extent_of : List ℕ → Option Extent
 extent_of times = fold with_time None times
 
 -- these are the least and the greatest of some times, and whether none is less than one in front of it
-pub record TimesAre (times : List ℕ) (least greatest : ℕ) (in_order : Bool) : Type 0 where
+pub record TimesSpan (times : List ℕ) (least greatest : ℕ) (in_order : Bool) : Type 0 where
   pub least_there : Has times least
   pub greatest_there : Has times greatest
   pub within : Each (λ t. (least ≤ t) × (t ≤ greatest)) times

@@ -6,10 +6,10 @@ use Rattle.mcap_model.specs.Places.{At}
 use Rattle.chunk_walk.specs.declared.answers.WalkRefused.{WalkRefused}
 use Rattle.chunk_walk.specs.declared.pieces.Piece.{Piece}
 use Rattle.chunk_walk.specs.declared.walk.Walk.{Walk}
-use Rattle.chunk_walk.specs.Pieces.{Files}
-use Rattle.chunk_walk.specs.Cursors.{FindsFirst, TellsBefore}
+use Rattle.chunk_walk.specs.Pieces.{InputBytes}
+use Rattle.chunk_walk.specs.Cursors.{FindsFirstCursor, TellsBefore}
 use Rattle.chunk_walk.specs.Stores.{files_of, StoresFit, LeavesStores}
-use Rattle.chunk_walk.specs.Walks.{AllLeft, Stands, NextIsDue, LoadsNext, IsRefused, DueIs, StandsFrom, FindsDue}
+use Rattle.chunk_walk.specs.Walks.{AllLeft, StandsBehindSome, NextIsDue, LoadsNext, IsWalkRefused, DueIs, StandsFrom, FindsDue}
 use Rattle.chunk_walk.proofs.Ordered.{before_else}
 use Rattle.chunk_walk.proofs.Loading.{left_more}
 use Rattle.chunk_walk.proofs.Stayed.{files_stay, fit_on, leaves_so, leaves_on}
@@ -40,7 +40,7 @@ module _ (olds nows : List StoreState) (start now : Walk) (was : DueSoFar olds n
 
   pub due_goes_on : (news : List StoreState) (new : Walk) → LoadsNext (files_of nows) now new → LeavesStores nows news now new (Ok (tt {0})) → NextIsDue now → DueSoFar olds news start new
   due_goes_on news new loads leaves due =
-      let there : LoadsNext (files_of olds) now new = subst (λ (f : Files). LoadsNext f now new) same_files loads in
+      let there : LoadsNext (files_of olds) now new = subst (λ (f : InputBytes). LoadsNext f now new) same_files loads in
       let next = loads.next in
       let later = was.later in
       record {
@@ -52,11 +52,11 @@ module _ (olds nows : List StoreState) (start now : Walk) (was : DueSoFar olds n
         stands = one_more_loaded (files_of olds) start now new was.stands there was.left due;
       }
 
-  pub due_stands : Stands (files_of olds) start → Stands (files_of nows) now
-  due_stands stands = subst (λ (f : Files). Stands f now) (sym same_files) (stands_now (files_of olds) start now was.stands stands)
+  pub due_stands : StandsBehindSome (files_of olds) start → StandsBehindSome (files_of nows) now
+  due_stands stands = subst (λ (f : InputBytes). StandsBehindSome f now) (sym same_files) (stands_now (files_of olds) start now was.stands stands)
 
   -- how far it can have come
-  pub due_within : Stands (files_of olds) start → now.next ≤ length now.pieces.items
+  pub due_within : StandsBehindSome (files_of olds) start → now.next ≤ length now.pieces.items
   due_within stands = let (texts, given, there) = due_stands stands in there.next
 
   pub due_found : (found : Option ℕ) → DueIs now found → FindsDue (files_of olds) start now found
@@ -65,8 +65,8 @@ module _ (olds nows : List StoreState) (start now : Walk) (was : DueSoFar olds n
   pub due_leaves : (found : Option ℕ) → LeavesStores olds nows start now (Ok found)
   due_leaves found = record { stay = was.leaves.stay; counts = was.leaves.counts; asked = was.leaves.asked }
 
-  pub due_refused : (why : WalkRefused) → IsRefused (files_of nows) now why → IsRefused (files_of olds) start why
-  due_refused why it = refused_from (files_of olds) start now why was.pieces was.later (subst (λ (f : Files). IsRefused f now why) same_files it)
+  pub due_refused : (why : WalkRefused) → IsWalkRefused (files_of nows) now why → IsWalkRefused (files_of olds) start why
+  due_refused why it = refused_from (files_of olds) start now why was.pieces was.later (subst (λ (f : InputBytes). IsWalkRefused f now why) same_files it)
 
   pub refused_leaves : (news : List StoreState) (new : Walk) (why : WalkRefused) → LeavesStores {X = Unit {0}} nows news now new (Err why) → LeavesStores {X = Option ℕ} olds news start new (Err why)
   refused_leaves news new why leaves =
@@ -75,13 +75,13 @@ module _ (olds nows : List StoreState) (start now : Walk) (was : DueSoFar olds n
 
 -- ---- which message is next
 
-pub due_before_next : (w : Walk) (found : Option ℕ) (before : Bool) (next : Piece) → FindsFirst w.cursors.items found → TellsBefore w.cursors.items found next before → At w.pieces.items w.next next → before ≡ true → DueIs w found
+pub due_before_next : (w : Walk) (found : Option ℕ) (before : Bool) (next : Piece) → FindsFirstCursor w.cursors.items found → TellsBefore w.cursors.items found next before → At w.pieces.items w.next next → before ≡ true → DueIs w found
 due_before_next w None before next none tells at is = absurd (never (sym is ∙ tells))
   where
     never : true ≡ false → ⊥
     never e = cc
 due_before_next w (Some i) before next first (c, t, at_c, is_t, tells) at is = due_some w i c t next first at_c is_t at (tells.0 is)
 
-pub next_before_due : (w : Walk) (found : Option ℕ) (before : Bool) (next : Piece) → FindsFirst w.cursors.items found → TellsBefore w.cursors.items found next before → At w.pieces.items w.next next → before ≡ false → NextIsDue w
+pub next_before_due : (w : Walk) (found : Option ℕ) (before : Bool) (next : Piece) → FindsFirstCursor w.cursors.items found → TellsBefore w.cursors.items found next before → At w.pieces.items w.next next → before ≡ false → NextIsDue w
 next_before_due w None before next none tells at is = none_is_due w none
 next_before_due w (Some i) before next first (c, t, at_c, is_t, tells) at is = next_is_due w i c t next first at_c is_t at (before_else t next (λ less. both_ways before is (tells.1 less)))

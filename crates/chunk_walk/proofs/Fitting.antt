@@ -6,16 +6,16 @@ use Rattle.mcap_model.specs.Places.{Has}
 use Rattle.mcap_model.specs.Tops.{records_in}
 use Rattle.mcap_model.proofs.Places.{at_more}
 use Rattle.chunk_window.specs.declared.window.Loaded.{Loaded}
-use Rattle.chunk_window.specs.Parts.{loaded_part, IsLoaded}
+use Rattle.chunk_window.specs.Parts.{loaded_part, IsPartLoaded}
 use Rattle.chunk_survey.specs.declared.spans.Span.{Span}
 use Rattle.record_walk.specs.declared.heads.MessageHead.{MessageHead}
 use Rattle.record_walk.specs.Heads.{heads_in}
-use Rattle.chunk_walk.specs.Heads.{AreApart, AreWithin, FitsSpan}
+use Rattle.chunk_walk.specs.Heads.{OffsetsRise, AreInSpan, FitsSpan}
 use Rattle.chunk_walk.proofs.Listed.{heads_apart}
 use Rattle.chunk_walk.proofs.Turns.{moved}
 
-pub listed_apart : (bytes : List ℕ) (heads : List MessageHead) → heads ≡ heads_in bytes → AreApart heads
-listed_apart bytes heads is = subst AreApart (sym is) (heads_apart 0 (records_in bytes))
+pub listed_apart : (bytes : List ℕ) (heads : List MessageHead) → heads ≡ heads_in bytes → OffsetsRise heads
+listed_apart bytes heads is = subst OffsetsRise (sym is) (heads_apart 0 (records_in bytes))
 
 none_long : (heads : List MessageHead) → length heads ≡ 0 → heads ≡ []
 none_long [] is = refl
@@ -35,13 +35,13 @@ unfit_many span bytes heads same other fits =
     other (omega (arith, size, many))
 
 -- one was logged at another time
-pub unfit_outside : (span : Span) (bytes : List ℕ) (heads : List MessageHead) → IsPermutation (heads_in bytes) heads → (AreWithin span heads → ⊥) → FitsSpan span bytes → ⊥
+pub unfit_outside : (span : Span) (bytes : List ℕ) (heads : List MessageHead) → IsPermutation (heads_in bytes) heads → (AreInSpan span heads → ⊥) → FitsSpan span bytes → ⊥
 unfit_outside span bytes heads same outside fits = outside (λ n e at.
     let there = moved heads (heads_in bytes) e (IsPermutation-sym (heads_in bytes) heads same) (n, at) in
     fits.within there.0 e there.1)
 
 -- the part that was loaded last
-pub part_loaded : (loaded : List Loaded) (input at : ℕ) (bytes found : List ℕ) → (IsLoaded loaded input at → ⊥) → Has (loaded ++ loaded_part input at bytes ∷ []) (loaded_part input at found) → found ≡ bytes
+pub part_loaded : (loaded : List Loaded) (input at : ℕ) (bytes found : List ℕ) → (IsPartLoaded loaded input at → ⊥) → Has (loaded ++ loaded_part input at bytes ∷ []) (loaded_part input at found) → found ≡ bytes
 part_loaded loaded input at bytes found unloaded has = elim (at_more loaded (loaded_part input at bytes) has.0 (loaded_part input at found) has.1) [
   | inl before ↦ absurd (unloaded (loaded_part input at found, (has.0, before), (refl, refl)))
   | inr last ↦ ap (λ (l : Loaded). l.bytes) last.1

@@ -9,17 +9,17 @@ use Rattle.mcap_model.proofs.Places.{at_one, at_more, at_set}
 use Rattle.mcap_model.proofs.Flat.{at_mapped}
 use Rattle.mcap_model.proofs.NamedTopics.{unmapped, zip_front, zip_back}
 use Rattle.chunk_window.specs.declared.window.Loaded.{Loaded}
-use Rattle.chunk_window.specs.Parts.{bytes_in, BeginsAt}
+use Rattle.chunk_window.specs.Parts.{bytes_in, IsPartAt}
 use Rattle.chunk_window.specs.Windows.{loaded_in}
 use Rattle.chunk_walk.specs.declared.answers.Turn.{Turn}
 use Rattle.chunk_walk.specs.declared.pieces.Piece.{Piece}
 use Rattle.chunk_walk.specs.declared.cursors.Cursor.{Cursor}
 use Rattle.chunk_walk.specs.declared.walk.Walk.{Walk}
 use Rattle.record_walk.specs.Heads.{heads_in}
-use Rattle.chunk_walk.specs.Heads.{AreWithin}
-use Rattle.chunk_walk.specs.Pieces.{Files, PiecesInOrder, BeginTogether, IsInOverlap}
+use Rattle.chunk_walk.specs.Heads.{AreInSpan}
+use Rattle.chunk_walk.specs.Pieces.{InputBytes, PiecesInOrder, BeginTogether, IsInOverlap}
 use Rattle.chunk_walk.specs.Cursors.{turn_of, turns_left, TurnBefore, TurnBeforePiece, PieceTurnNotBehind, IsNext, IsFirst}
-use Rattle.chunk_walk.specs.Walks.{pieces_loaded, pieces_ahead, Text, text_of, turns_of, IsTextOf, QueuesStand, AreAll, LeftButLast, AllLeft, IsHeldAs, PeakStands, WalkStands, GivesNext, IsOfHeld}
+use Rattle.chunk_walk.specs.Walks.{pieces_loaded, pieces_ahead, Text, piece_text, turns_of, IsTextOf, QueuesStand, GivenOrLeft, LeftButLast, AllLeft, IsHeldAs, PeakStands, WalkStands, GivesNext, IsOfHeld}
 use Rattle.chunk_walk.proofs.Places.{undropped, drop_head}
 use Rattle.chunk_walk.proofs.Ordered.{which, next_is_one}
 use Rattle.chunk_walk.proofs.Queues.{HeadIsFirst, queues_on, all_on}
@@ -41,7 +41,7 @@ head_next d u q is =
     let (e, at, same) = unmapped (turn_of d.piece) (drop d.given d.heads.items) 0 u (subst (λ (l : List Turn). At l 0 u) (sym is) refl) in
     (e, undropped d.heads.items d.given d.given 0 e (omega arith) at, sym same)
 
-module _ (files : Files) (old new : Walk) (texts : List Text) (given : List Turn) (i : ℕ) (t : Turn) (stands : WalkStands files old texts given) (left : AllLeft old) (gives : GivesNext old new i t) (first : IsFirst old.cursors.items i)
+module _ (files : InputBytes) (old new : Walk) (texts : List Text) (given : List Turn) (i : ℕ) (t : Turn) (stands : WalkStands files old texts given) (left : AllLeft old) (gives : GivesNext old new i t) (first : IsFirst old.cursors.items i)
     (early : (p : Piece) → Has (pieces_ahead old) p → TurnBeforePiece t p) where
   abbrev c : Cursor
   c = gives.old_cursor
@@ -99,12 +99,12 @@ module _ (files : Files) (old new : Walk) (texts : List Text) (given : List Turn
       let is = gives.piece in
       let heads : gives.cursor.heads.items ≡ c.heads.items = ap (λ v. v.items) gives.heads in
       record {
-        begins = subst (λ (p : Piece). BeginsAt p.input p.span.at l) (sym is) held.begins;
+        begins = subst (λ (p : Piece). IsPartAt p.input p.span.at l) (sym is) held.begins;
         size = held.size ∙ sym (ap (λ (p : Piece). p.span.length) is);
         same = subst (IsPermutation (heads_in l.bytes)) (sym heads) held.same;
-        within = subst (λ (p : Piece). AreWithin p.span gives.cursor.heads.items) (sym is) (subst (AreWithin c.piece.span) (sym heads) held.within);
+        within = subst (λ (p : Piece). AreInSpan p.span gives.cursor.heads.items) (sym is) (subst (AreInSpan c.piece.span) (sym heads) held.within);
         there = subst (Has (pieces_loaded old)) (sym is) held.there;
-        text = subst (λ (p : Piece). Has texts (text_of p l.bytes)) (sym is) held.text;
+        text = subst (λ (p : Piece). Has texts (piece_text p l.bytes)) (sym is) held.text;
       }
 
   given_left : LeftButLast new
@@ -146,7 +146,7 @@ module _ (files : Files) (old new : Walk) (texts : List Text) (given : List Turn
         taken = subst (λ (l : List Piece). AllZip (IsTextOf files) l texts) (sym loaded_are) stands.taken;
         order = subst PiecesInOrder (sym pieces_are) stands.order;
         queues = subst (QueuesStand (given ++ t ∷ [])) (sym maps_set) (queues_on given (map turns_left old.cursors.items) i t rest stands.queues head);
-        all = subst (AreAll (turns_of texts) (given ++ t ∷ [])) (sym maps_set) (all_on given (map turns_left old.cursors.items) i t rest (turns_of texts) stands.all head);
+        all = subst (GivenOrLeft (turns_of texts) (given ++ t ∷ [])) (sym maps_set) (all_on given (map turns_left old.cursors.items) i t rest (turns_of texts) stands.all head);
         apart = λ j k d e other at_d at_e.
             let (x, at_x, is_x) = was_piece j d at_d in
             let (y, at_y, is_y) = was_piece k e at_e in
@@ -173,7 +173,7 @@ module _ (files : Files) (old new : Walk) (texts : List Text) (given : List Turn
       let e = gives.is.0 in
       let there : Has (map (turn_of c.piece) c.heads.items) t = (c.given, subst (At (map (turn_of c.piece) c.heads.items) c.given) (sym gives.is.2) (at_mapped (turn_of c.piece) c.heads.items c.given e gives.is.1)) in
       record {
-        text = text_of c.piece l.bytes;
+        text = piece_text c.piece l.bytes;
         among = held.text;
         held = (
           (l, (i, subst (λ (m : List Loaded). At m i l) (sym gives.loaded) at_l), begins),

@@ -7,15 +7,15 @@ use Rattle.mcap_model.proofs.Places.{at_one, at_within}
 use Rattle.mcap_model.proofs.Flat.{at_mapped}
 use Rattle.mcap_model.proofs.NamedTopics.{zip_front, zip_back}
 use Rattle.chunk_window.specs.declared.window.Loaded.{Loaded}
-use Rattle.chunk_window.specs.Parts.{bytes_in, BeginsAt, Releases}
+use Rattle.chunk_window.specs.Parts.{bytes_in, IsPartAt, Releases}
 use Rattle.chunk_window.specs.Windows.{loaded_in}
 use Rattle.chunk_walk.specs.declared.answers.Turn.{Turn}
 use Rattle.chunk_walk.specs.declared.pieces.Piece.{Piece}
 use Rattle.chunk_walk.specs.declared.cursors.Cursor.{Cursor}
 use Rattle.chunk_walk.specs.declared.walk.Walk.{Walk}
-use Rattle.chunk_walk.specs.Pieces.{Files, PiecesInOrder, IsInOverlap}
+use Rattle.chunk_walk.specs.Pieces.{InputBytes, PiecesInOrder, IsInOverlap}
 use Rattle.chunk_walk.specs.Cursors.{turn_of, turns_left, HasLeft}
-use Rattle.chunk_walk.specs.Walks.{pieces_loaded, Text, turns_of, IsTextOf, QueuesStand, AreAll, Apart, LeftButLast, AllLeft, IsHeldAs, WalkStands, Stands, LastGoes, LetsGo}
+use Rattle.chunk_walk.specs.Walks.{pieces_loaded, Text, turns_of, IsTextOf, QueuesStand, GivenOrLeft, Apart, LeftButLast, AllLeft, IsHeldAs, WalkStands, StandsBehindSome, LastGoes, LetsPieceGo}
 use Rattle.chunk_walk.proofs.Places.{map_removed, StoodAt, removed_from, stood_apart}
 use Rattle.chunk_walk.proofs.Ordered.{which}
 use Rattle.chunk_walk.proofs.Queues.{queues_less, all_less}
@@ -25,7 +25,7 @@ use Rattle.chunk_walk.proofs.Zipped.{zip_removed}
 nothing_left : (c : Cursor) → length c.heads.items ≤ c.given → turns_left c ≡ []
 nothing_left c over = ap (map (turn_of c.piece)) (drop_of_length-le c.heads.items over)
 
-module _ (files : Files) (old new : Walk) (texts : List Text) (given : List Turn) (stands : WalkStands files old texts given) (lets : LetsGo old new) where
+module _ (files : InputBytes) (old new : Walk) (texts : List Text) (given : List Turn) (stands : WalkStands files old texts given) (lets : LetsPieceGo old new) where
   same_pieces : new.pieces.items ≡ old.pieces.items
   same_pieces = ap (λ v. v.items) lets.pieces
 
@@ -35,7 +35,7 @@ module _ (files : Files) (old new : Walk) (texts : List Text) (given : List Turn
   -- what goes from the cursors, and from the window
   pub record Leaves (cursors : List Cursor) (loaded : List Loaded) : Type 0 where
     pub queues : QueuesStand given (map turns_left cursors)
-    pub all : AreAll (turns_of texts) given (map turns_left cursors)
+    pub all : GivenOrLeft (turns_of texts) given (map turns_left cursors)
     pub apart : (i j : ℕ) (c d : Cursor) → (i ≡ j → ⊥) → At cursors i c → At cursors j d → Apart c d
     pub held : AllZip (IsHeldAs (pieces_loaded old) texts) cursors loaded
     pub few : (f : Piece → ℕ) → sum_by (λ c. f c.piece) cursors ≤ sum_by f (pieces_loaded old)
@@ -50,7 +50,7 @@ module _ (files : Files) (old new : Walk) (texts : List Text) (given : List Turn
         taken = subst (λ (l : List Piece). AllZip (IsTextOf files) l texts) (sym same_loaded) stands.taken;
         order = subst PiecesInOrder (sym same_pieces) stands.order;
         queues = subst (λ (l : List Cursor). QueuesStand given (map turns_left l)) (sym is) leaves.queues;
-        all = subst (λ (l : List Cursor). AreAll (turns_of texts) given (map turns_left l)) (sym is) leaves.all;
+        all = subst (λ (l : List Cursor). GivenOrLeft (turns_of texts) given (map turns_left l)) (sym is) leaves.all;
         apart = λ i j c d other at_c at_d. leaves.apart i j c d other (subst (λ (l : List Cursor). At l i c) is at_c) (subst (λ (l : List Cursor). At l j d) is at_d);
         early = λ g p has_g has_p. stands.early g p has_g (has_p.0, subst (λ (l : List Piece). At l has_p.0 p) (ap (drop new.next) same_pieces ∙ ap (λ (n : ℕ). drop n old.pieces.items) next) has_p.1);
         left = λ k c at other. lets.left k c at;
@@ -75,7 +75,7 @@ module _ (files : Files) (old new : Walk) (texts : List Text) (given : List Turn
       let (l, at_l, held) = zip_front (IsHeldAs (pieces_loaded old) texts) old.cursors.items (loaded_in old.window) old.last c stands.held goes.at in
       record {
         queues = subst (QueuesStand given) (sym cut) (queues_less given (map turns_left old.cursors.items) old.last stands.queues);
-        all = subst (AreAll (turns_of texts) given) (sym cut) (all_less (turns_of texts) given (map turns_left old.cursors.items) old.last stands.all empty);
+        all = subst (GivenOrLeft (turns_of texts) given) (sym cut) (all_less (turns_of texts) given (map turns_left old.cursors.items) old.last stands.all empty);
         apart = λ i j x y other at_x at_y.
             let (m, there_x, stood_x) = removed_from old.cursors.items old.last i x at_x in
             let (n, there_y, stood_y) = removed_from old.cursors.items old.last j y at_y in
@@ -104,7 +104,7 @@ module _ (files : Files) (old new : Walk) (texts : List Text) (given : List Turn
 -- ---- what is let go
 
 -- the part that goes is that of the cursor
-pub released_last : (files : Files) (w : Walk) (c : Cursor) (now : List Loaded) → Stands files w → At w.cursors.items w.last c → Releases c.piece.input c.piece.span.at (loaded_in w.window) now → now ≡ remove (loaded_in w.window) w.last
+pub released_last : (files : InputBytes) (w : Walk) (c : Cursor) (now : List Loaded) → StandsBehindSome files w → At w.cursors.items w.last c → Releases c.piece.input c.piece.span.at (loaded_in w.window) now → now ≡ remove (loaded_in w.window) w.last
 released_last files w c now (texts, given, stands) at (i, l, at_l, begins, is) =
     let (d, at_d, held) = zip_back (IsHeldAs (pieces_loaded w) texts) w.cursors.items (loaded_in w.window) i l stands.held at_l in
     let mine = held.begins in
@@ -116,12 +116,12 @@ released_last files w c now (texts, given, stands) at (i, l, at_l, begins, is) =
     is ∙ ap (remove (loaded_in w.window)) same
 
 -- the part of a cursor is loaded
-pub loaded_at : (files : Files) (w : Walk) (k : ℕ) (c : Cursor) → Stands files w → At w.cursors.items k c → (l : Loaded) × Has (loaded_in w.window) l × BeginsAt c.piece.input c.piece.span.at l
+pub loaded_at : (files : InputBytes) (w : Walk) (k : ℕ) (c : Cursor) → StandsBehindSome files w → At w.cursors.items k c → (l : Loaded) × Has (loaded_in w.window) l × IsPartAt c.piece.input c.piece.span.at l
 loaded_at files w k c (texts, given, stands) at =
     let (l, at_l, held) = zip_front (IsHeldAs (pieces_loaded w) texts) w.cursors.items (loaded_in w.window) k c stands.held at in
     (l, (k, at_l), held.begins)
 
-pub left_but_last : (files : Files) (w : Walk) → Stands files w → LeftButLast w
+pub left_but_last : (files : InputBytes) (w : Walk) → StandsBehindSome files w → LeftButLast w
 left_but_last files w (texts, given, stands) = stands.left
 
 -- nothing has to go

@@ -10,7 +10,7 @@ use Rattle.mcap_model.proofs.Readings.{length-top}
 use Rattle.record_walk.specs.Heads.{time_in, is_headed, head_of}
 use Rattle.chunk_survey.specs.Heads.{set_at, heads_one, heads_from}
 use Rattle.record_walk.specs.declared.heads.MessageHead.{MessageHead}
-use Rattle.chunk_walk.specs.Heads.{AreApart}
+use Rattle.chunk_walk.specs.Heads.{OffsetsRise}
 
 -- ---- messages that are listed
 
@@ -73,7 +73,7 @@ module _ (at : ℕ) (t : Top) (ts : List Top) where
   abbrev Stands : ℕ → MessageHead → Type 0
   Stands i a = At (heads_one at t) i a ⊎ ((k : ℕ) × (i ≡ length (heads_one at t) + k) × At behind k a)
 
-  apart_by : AreApart behind → (i j : ℕ) (a b : MessageHead) → i < j → Stands i a → Stands j b → a.offset < b.offset
+  apart_by : OffsetsRise behind → (i j : ℕ) (a b : MessageHead) → i < j → Stands i a → Stands j b → a.offset < b.offset
   apart_by rest i j a b less (inl one) (inl other) =
       let here = only_one at t (is_headed t) i a one in
       let there = only_one at t (is_headed t) j b other in
@@ -93,7 +93,7 @@ module _ (at : ℕ) (t : Top) (ts : List Top) where
   apart_by rest i j a b less (inr (k, is, at_a)) (inr (l, js, at_b)) = pairs_at (λ (x : MessageHead) (y : MessageHead). x.offset < y.offset) behind rest k l a b (omega (arith, less, is, js)) at_a at_b
 
 -- each stands behind those in front of it
-pub heads_apart : (at : ℕ) (tops : List Top) → AreApart (heads_from at tops)
+pub heads_apart : (at : ℕ) (tops : List Top) → OffsetsRise (heads_from at tops)
 heads_apart at [] = pairs_from (λ (a : MessageHead) (b : MessageHead). a.offset < b.offset) [] (λ i j a b less at_a at_b. absurd (at_none i a at_a))
 heads_apart at (t ∷ ts) =
     let rest = heads_apart (at + length (top_bytes t)) ts in

@@ -21,10 +21,10 @@ use Rattle.chunk_walk.specs.declared.pieces.Piece.{Piece}
 use Rattle.chunk_walk.specs.declared.cursors.Cursor.{Cursor}
 use Rattle.chunk_walk.specs.declared.walk.Walk.{Walk}
 use Rattle.record_walk.specs.Heads.{heads_in}
-use Rattle.chunk_walk.specs.Heads.{AreWithin}
-use Rattle.chunk_walk.specs.Pieces.{Files, PiecesInOrder, BeginTogether, overlap_at, IsInOverlap}
-use Rattle.chunk_walk.specs.Cursors.{turn_of, turns_left, TurnBefore, HasLeft, IsFresh}
-use Rattle.chunk_walk.specs.Walks.{pieces_loaded, pieces_ahead, Text, text_of, turns_in, turns_of, IsTextOf, QueuesStand, AreAll, Apart, AllLeft, IsHeldAs, PeakStands, WalkStands, NextIsDue, LoadsNext}
+use Rattle.chunk_walk.specs.Heads.{AreInSpan}
+use Rattle.chunk_walk.specs.Pieces.{InputBytes, PiecesInOrder, BeginTogether, overlap_at, IsInOverlap}
+use Rattle.chunk_walk.specs.Cursors.{turn_of, turns_left, TurnBefore, HasLeft, IsFreshCursor}
+use Rattle.chunk_walk.specs.Walks.{pieces_loaded, pieces_ahead, Text, piece_text, turns_in, turns_of, IsTextOf, QueuesStand, GivenOrLeft, Apart, AllLeft, IsHeldAs, PeakStands, WalkStands, NextIsDue, LoadsNext}
 use Rattle.chunk_walk.proofs.Places.{dropped, undropped}
 use Rattle.chunk_walk.proofs.Ordered.{which, before_each, at_some}
 use Rattle.chunk_walk.proofs.Queues.{queues_more, all_more}
@@ -34,7 +34,7 @@ use Rattle.chunk_walk.proofs.Zipped.{zip_to}
 
 -- ---- nothing was given
 
-pub walk_begins : (files : Files) (w : Walk) → PiecesInOrder w.pieces.items → w.next ≡ 0 → w.cursors.items ≡ [] → loaded_in w.window ≡ [] → w.peak ≡ 0 → WalkStands files w [] []
+pub walk_begins : (files : InputBytes) (w : Walk) → PiecesInOrder w.pieces.items → w.next ≡ 0 → w.cursors.items ≡ [] → loaded_in w.window ≡ [] → w.peak ≡ 0 → WalkStands files w [] []
 walk_begins files w order first none empty peak =
     let nothing_loaded : pieces_loaded w ≡ [] = ap (λ (n : ℕ). take n w.pieces.items) first in
     record {
@@ -46,7 +46,7 @@ walk_begins files w order first none empty peak =
         each = λ n q at. absurd (at_none n q at);
         past = λ g u q has_g has_q has_u. absurd (at_none has_g.0 g has_g.1);
       });
-      all = subst (λ (l : List Cursor). AreAll [] [] (map turns_left l)) (sym none) (record {
+      all = subst (λ (l : List Cursor). GivenOrLeft [] [] (map turns_left l)) (sym none) (record {
         are = λ g has. absurd (at_none has.0 g has.1);
         left = λ q u has_q has_u. absurd (at_none has_q.0 q has_q.1);
         all = λ u has. absurd (at_none has.0 u has.1);
@@ -65,13 +65,13 @@ walk_begins files w order first none empty peak =
 
 -- ---- a piece more
 
-fresh_some : (p : Piece) (bytes : List ℕ) (c : Cursor) → IsFresh p bytes c → heads_in bytes ≡ [] → ⊥
+fresh_some : (p : Piece) (bytes : List ℕ) (c : Cursor) → IsFreshCursor p bytes c → heads_in bytes ≡ [] → ⊥
 fresh_some p bytes c fresh none =
     let (e, at) = at_some c.heads.items 0 fresh.some in
     let there = moved c.heads.items (heads_in bytes) e (IsPermutation-sym (heads_in bytes) c.heads.items fresh.same) (0, at) in
     at_none there.0 e (subst (λ (l : List MessageHead). At l there.0 e) none there.1)
 
-pub left_more : (files : Files) (old new : Walk) → AllLeft old → LoadsNext files old new → AllLeft new
+pub left_more : (files : InputBytes) (old new : Walk) → AllLeft old → LoadsNext files old new → AllLeft new
 left_more files old new left loads n c at = elim (at_more old.cursors.items loads.cursor n c (subst (λ (l : List Cursor). At l n c) loads.cursors at)) [
   | inl before ↦ left n c before
   | inr last ↦
@@ -81,12 +81,12 @@ left_more files old new left loads n c at = elim (at_more old.cursors.items load
       subst HasLeft (sym last.1) (omega (arith, some, none))
 ]
 
-module _ (files : Files) (old new : Walk) (texts : List Text) (given : List Turn) (stands : WalkStands files old texts given) (loads : LoadsNext files old new) (left : AllLeft old) (due : NextIsDue old) where
+module _ (files : InputBytes) (old new : Walk) (texts : List Text) (given : List Turn) (stands : WalkStands files old texts given) (loads : LoadsNext files old new) (left : AllLeft old) (due : NextIsDue old) where
   abbrev piece : Piece
   piece = loads.piece
 
   abbrev text : Text
-  text = text_of loads.piece loads.bytes
+  text = piece_text loads.piece loads.bytes
 
   pieces : new.pieces.items ≡ old.pieces.items
   pieces = ap (λ v. v.items) loads.pieces
@@ -155,7 +155,7 @@ module _ (files : Files) (old new : Walk) (texts : List Text) (given : List Turn
     same = held.same;
     within = held.within;
     there = subst (λ (ps : List Piece). Has ps c.piece) (sym loaded_is) (has_kept (pieces_loaded old) (piece ∷ []) c.piece held.there);
-    text = has_kept texts (text ∷ []) (text_of c.piece l.bytes) held.text;
+    text = has_kept texts (text ∷ []) (piece_text c.piece l.bytes) held.text;
   }
 
   held_new : IsHeldAs (pieces_loaded new) (texts ++ text ∷ []) loads.cursor part
@@ -165,9 +165,9 @@ module _ (files : Files) (old new : Walk) (texts : List Text) (given : List Turn
         begins = (sym (ap (λ (p : Piece). p.input) is), sym (ap (λ (p : Piece). p.span.at) is));
         size = loads.are.size ∙ sym (ap (λ (p : Piece). p.span.length) is);
         same = loads.fresh.same;
-        within = subst (λ (p : Piece). AreWithin p.span loads.cursor.heads.items) (sym is) loads.fresh.within;
+        within = subst (λ (p : Piece). AreInSpan p.span loads.cursor.heads.items) (sym is) loads.fresh.within;
         there = subst (λ (p : Piece). Has (pieces_loaded new) p) (sym is) (subst (λ (ps : List Piece). Has ps piece) (sym loaded_is) (has_last (pieces_loaded old) piece []));
-        text = subst (λ (p : Piece). Has (texts ++ text ∷ []) (text_of p loads.bytes)) (sym is) (has_last texts text []);
+        text = subst (λ (p : Piece). Has (texts ++ text ∷ []) (piece_text p loads.bytes)) (sym is) (has_last texts text []);
       }
 
   held_all : AllZip (IsHeldAs (pieces_loaded new) (texts ++ text ∷ [])) new.cursors.items (loaded_in new.window)
@@ -274,7 +274,7 @@ module _ (files : Files) (old new : Walk) (texts : List Text) (given : List Turn
         order = subst PiecesInOrder (sym pieces) stands.order;
         queues = subst (QueuesStand given) (sym maps) (queues_more given (map turns_left old.cursors.items) (turns_left loads.cursor) stands.queues
             (subst (AllPairs TurnBefore) (sym left_is) (turns_rise loads.piece loads.cursor.heads.items fresh.rise)) behind);
-        all = subst (λ (l : List Turn). AreAll l given (map turns_left new.cursors.items)) (sym joined) (subst (AreAll (turns_of texts ++ turns_in text) given) (sym maps)
+        all = subst (λ (l : List Turn). GivenOrLeft l given (map turns_left new.cursors.items)) (sym joined) (subst (GivenOrLeft (turns_of texts ++ turns_in text) given) (sym maps)
             (all_more (turns_of texts) given (map turns_left old.cursors.items) (turns_left loads.cursor) (turns_in text) stands.all
             (λ u has. mapped_moved loads.piece loads.cursor.heads.items (heads_in loads.bytes) u (IsPermutation-sym (heads_in loads.bytes) loads.cursor.heads.items fresh.same) (subst (λ (l : List Turn). Has l u) left_is has))
             (λ u has. subst (λ (l : List Turn). Has l u) (sym left_is) (mapped_moved loads.piece (heads_in loads.bytes) loads.cursor.heads.items u fresh.same has))));

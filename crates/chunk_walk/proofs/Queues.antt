@@ -8,7 +8,7 @@ use Rattle.mcap_model.proofs.Places.{at_none, at_one, at_within, at_kept, at_las
 use Rattle.mcap_model.proofs.Lists.{at_either, at_second, pairs_at, pairs_from}
 use Rattle.chunk_walk.specs.declared.answers.Turn.{Turn}
 use Rattle.chunk_walk.specs.Cursors.{TurnBefore}
-use Rattle.chunk_walk.specs.Walks.{QueuesStand, AreAll}
+use Rattle.chunk_walk.specs.Walks.{QueuesStand, GivenOrLeft}
 
 -- ---- one element less
 
@@ -122,7 +122,7 @@ module _ (given : List Turn) (queues : List (List Turn)) (i : ℕ) (t : Turn) (r
           in_first has_u.0 (subst (λ (l : List Turn). At l has_u.0 u) here has_u.1)
       by_place (inr other) = inr (q, (has_q.0, at_set_other queues i has_q.0 q rest other has_q.1), has_u)
 
-  pub all_on : (all : List Turn) → AreAll all given queues → HeadIsFirst queues i t rest → AreAll all (given ++ t ∷ []) (set queues i rest)
+  pub all_on : (all : List Turn) → GivenOrLeft all given queues → HeadIsFirst queues i t rest → GivenOrLeft all (given ++ t ∷ []) (set queues i rest)
   all_on all are first =
       let was = are.all in
       let left = are.left in
@@ -158,7 +158,7 @@ queues_more given queues q stands pairs behind =
       ];
     }
 
-pub all_more : (all given : List Turn) (queues : List (List Turn)) (q more : List Turn) → AreAll all given queues → ((u : Turn) → Has q u → Has more u) → ((u : Turn) → Has more u → Has q u) → AreAll (all ++ more) given (queues ++ q ∷ [])
+pub all_more : (all given : List Turn) (queues : List (List Turn)) (q more : List Turn) → GivenOrLeft all given queues → ((u : Turn) → Has q u → Has more u) → ((u : Turn) → Has more u → Has q u) → GivenOrLeft (all ++ more) given (queues ++ q ∷ [])
 all_more all given queues q more are there back =
     let was = are.all in
     let left = are.left in
@@ -190,7 +190,7 @@ queues_less given queues i stands =
       past = λ g u q has_g has_q has_u. past g u q has_g (removed_has queues i has_q.0 q has_q.1) has_u;
     }
 
-pub all_less : (all given : List Turn) (queues : List (List Turn)) (i : ℕ) → AreAll all given queues → At queues i [] → AreAll all given (remove queues i)
+pub all_less : (all given : List Turn) (queues : List (List Turn)) (i : ℕ) → GivenOrLeft all given queues → At queues i [] → GivenOrLeft all given (remove queues i)
 all_less all given queues i are empty =
     let was = are.all in
     let left = are.left in
@@ -208,7 +208,7 @@ all_less all given queues i are empty =
 
 -- ---- all were given
 
-pub all_given : (all given : List Turn) → AreAll all given [] → (u : Turn) → Has all u → Has given u
+pub all_given : (all given : List Turn) → GivenOrLeft all given [] → (u : Turn) → Has all u → Has given u
 all_given all given are u has = let was = are.all in elim (was u has) [
   | inl gone ↦ gone
   | inr found ↦ absurd (at_none found.1.0 found.0 found.1.1)

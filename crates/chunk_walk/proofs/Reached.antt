@@ -11,7 +11,7 @@ use Rattle.mcap_model.proofs.Places.{heads, tails}
 use Rattle.mcap_model.proofs.Readings.{length-top}
 use Rattle.mcap_model.proofs.NamedTopics.{unmapped}
 use Rattle.mcap_model.proofs.Unpacking.{none_begins}
-use Rattle.chunk_window.specs.Parts.{loaded_part, IsLoaded}
+use Rattle.chunk_window.specs.Parts.{loaded_part, IsPartLoaded}
 use Rattle.chunk_window.specs.Windows.{loaded_in}
 use Rattle.chunk_walk.specs.declared.answers.Turn.{Turn}
 use Rattle.chunk_walk.specs.declared.walk.Walk.{Walk}
@@ -142,7 +142,7 @@ message_begins w x t bytes holds has there =
 abbrev pub IsReadable : Walk → Turn → Type 0
 IsReadable w t = (x : Text) × HoldsText w x × Has (turns_in x) t
 
-pub text_loaded : (w : Walk) (t : Turn) → IsReadable w t → IsLoaded (loaded_in w.window) t.input t.at
+pub text_loaded : (w : Walk) (t : Turn) → IsReadable w t → IsPartLoaded (loaded_in w.window) t.input t.at
 text_loaded w t (x, held, has) =
     let (l, there, begins) = held.0 in
     let same = turn_begins x t has in

@@ -7,7 +7,7 @@ use Rattle.std.specs.Ordering.{nat_cmp, is_lt, ordering_then}
 use Rattle.std.proofs.lemmas.Bool.{ltb-false, eqb-true, eqb-false, ne_eqb}
 use Rattle.std.proofs.lemmas.Map.Keys.{IsDistinct-IsPermutation, IsDistinct-from_apart, apart_from_distinct}
 use Rattle.record_walk.specs.declared.heads.MessageHead.{MessageHead}
-use Rattle.chunk_walk.specs.Heads.{AreApart, HeadBefore, HeadsRise}
+use Rattle.chunk_walk.specs.Heads.{OffsetsRise, HeadBefore, HeadsRise}
 
 abbrev same_place : MessageHead → MessageHead → Bool
 same_place a b = eqb a.offset b.offset
@@ -21,7 +21,7 @@ flips a b = by (eqb a.offset b.offset) (eqb b.offset a.offset) refl refl
     by true false one other = let same = eqb-true a.offset b.offset one in absurd (eqb-false b.offset a.offset other (sym same))
     by false true one other = let same = eqb-true b.offset a.offset other in absurd (eqb-false a.offset b.offset one (sym same))
 
-distinct : (heads : List MessageHead) → AreApart heads → IsDistinct same_place heads
+distinct : (heads : List MessageHead) → OffsetsRise heads → IsDistinct same_place heads
 distinct heads apart = IsDistinct-from_apart same_place heads (λ i j d less within.
     let below = apart i j d less within in
     ne_eqb (get_or heads i d).offset (get_or heads j d).offset (λ e. omega (arith, e, below)))
@@ -39,7 +39,7 @@ before s r less other = by (nat_lt s.time r.time) (s.time == r.time) (nat_lt s.o
     by false true true f l_is e_is m_is is = absurd (not_false is)
     by false true false f l_is e_is m_is is = inr (sym (eqb-true s.time r.time e_is), omega (arith, ltb-false s.offset r.offset m_is, eqb-false r.offset s.offset other))
 
-pub risen : (olds news : List MessageHead) → AreApart olds → IsPermutation olds news
+pub risen : (olds news : List MessageHead) → OffsetsRise olds → IsPermutation olds news
     → ((k : ℕ) (d : MessageHead) → k + 1 < length news → is_lt (ordering_then (nat_cmp (get_or news (k + 1) d).time (get_or news k d).time) (nat_cmp (get_or news (k + 1) d).offset (get_or news k d).offset)) ≡ false) → HeadsRise news
 risen olds news apart moved sorted k d within =
     before (get_or news (k + 1) d) (get_or news k d) (sorted k d within)

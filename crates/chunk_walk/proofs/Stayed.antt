@@ -11,13 +11,13 @@ use Rattle.mcap_model.proofs.Flat.{at_mapped}
 use Rattle.mcap_model.proofs.NamedTopics.{zip_front, zip_back, unmapped}
 use Rattle.mcap_model.specs.declared.refusals.ReadingRefused.{ReadingRefused}
 use Rattle.mcap_model.specs.declared.refusals.ReadingRefused.TheVariants as readings
-use Rattle.chunk_window.specs.Parts.{IsOf, ReadsFrom}
+use Rattle.chunk_window.specs.Parts.{IsOf, LoadsFrom}
 use Rattle.chunk_walk.specs.declared.answers.WalkRefused.{WalkRefused}
 use Rattle.chunk_walk.specs.declared.answers.WalkRefused.TheVariants as refusals
 use Rattle.chunk_walk.specs.declared.pieces.Piece.{Piece}
 use Rattle.chunk_walk.specs.declared.walk.Walk.{Walk}
-use Rattle.chunk_walk.specs.Pieces.{Files, AreBytesOf, bytes_of}
-use Rattle.chunk_walk.specs.Stores.{files_of, StoresFit, StoresStay, CountStands, CountsStand, OneRose, AskedWithin, unasked, none_left, UnloadedCounts, RefusedCounts, CountsAfter, AskedAfter, LeavesStores, PieceCause, ReadsPiece}
+use Rattle.chunk_walk.specs.Pieces.{InputBytes, AreBytesOf, pieces_size}
+use Rattle.chunk_walk.specs.Stores.{files_of, StoresFit, StoresStay, CountStands, AllCountsStand, OneRose, AskedWithin, unasked, none_left, UnloadedCounts, RefusedCounts, CountsAfter, AskedAfter, LeavesStores, PieceCause, ReadsPiece}
 use Rattle.chunk_walk.proofs.Places.{drop_head}
 
 -- ---- what they tell
@@ -50,15 +50,15 @@ files_stay [] [] stay = refl
 files_stay [] (y ∷ ys) stay = absurd stay
 files_stay (x ∷ xs) [] stay = absurd stay
 files_stay (x ∷ xs) (y ∷ ys) stay =
-    ap (λ (b : Option (List ℕ)). b ∷ files_of ys) stay.0.bytes ∙ ap (λ (l : Files). x.bytes ∷ l) (files_stay xs ys stay.1)
+    ap (λ (b : Option (List ℕ)). b ∷ files_of ys) stay.0.bytes ∙ ap (λ (l : InputBytes). x.bytes ∷ l) (files_stay xs ys stay.1)
 
 -- ---- their counts
 
-pub counts_so : (xs : List StoreState) → CountsStand xs xs
+pub counts_so : (xs : List StoreState) → AllCountsStand xs xs
 counts_so [] = tt
 counts_so (x ∷ xs) = (refl, counts_so xs)
 
-pub counts_on : (a b c : List StoreState) → CountsStand a b → CountsStand b c → CountsStand a c
+pub counts_on : (a b c : List StoreState) → AllCountsStand a b → AllCountsStand b c → AllCountsStand a c
 counts_on [] [] [] one other = tt
 counts_on [] [] (z ∷ zs) one other = absurd other
 counts_on [] (y ∷ ys) c one other = absurd one
@@ -66,7 +66,7 @@ counts_on (x ∷ xs) [] c one other = absurd one
 counts_on (x ∷ xs) (y ∷ ys) [] one other = absurd other
 counts_on (x ∷ xs) (y ∷ ys) (z ∷ zs) one other = (other.0 ∙ one.0, counts_on xs ys zs one.1 other.1)
 
-one_rose_on : (a b c : List StoreState) (place faults : ℕ) → CountsStand a b → OneRose b c place faults → OneRose a c place faults
+one_rose_on : (a b c : List StoreState) (place faults : ℕ) → AllCountsStand a b → OneRose b c place faults → OneRose a c place faults
 one_rose_on a b c place faults one rose =
     let (s, at_s, same) = zip_back CountStands a b place rose.old one rose.old_at in
     record {
@@ -131,7 +131,7 @@ pub leaves_so : {X : Type 0} (xs : List StoreState) (old new : Walk) (it : X) �
 leaves_so xs old new it next pieces = record {
   stay = stay_so xs;
   counts = counts_so xs;
-  asked = subst (AskedWithin xs xs (unasked old)) (sym (ap (λ (n : ℕ). λ (k : ℕ). bytes_of k (drop n new.pieces.items)) next ∙ ap (λ v. λ (k : ℕ). bytes_of k (drop old.next v.items)) pieces)) (asked_so xs (unasked old));
+  asked = subst (AskedWithin xs xs (unasked old)) (sym (ap (λ (n : ℕ). λ (k : ℕ). pieces_size k (drop n new.pieces.items)) next ∙ ap (λ v. λ (k : ℕ). pieces_size k (drop old.next v.items)) pieces)) (asked_so xs (unasked old));
 }
 
 pub leaves_changed : {X : Type 0} (xs : List StoreState) (old new : Walk) (input offset : ℕ) → LeavesStores {X = X} xs xs old new (Err (refusals.Changed input offset))
@@ -150,7 +150,7 @@ set_stays (z ∷ zs) zero x y at stays =
     (subst (λ (w : StoreState). StoreStays w y) (sym same) stays, stay_so zs)
 set_stays (z ∷ zs) (suc i) x y at stays = (record { bytes = refl; known = refl }, set_stays zs i x y at stays)
 
-set_stands : (stores : List StoreState) (i : ℕ) (x y : StoreState) → At stores i x → CountStands x y → CountsStand stores (set stores i y)
+set_stands : (stores : List StoreState) (i : ℕ) (x y : StoreState) → At stores i x → CountStands x y → AllCountsStand stores (set stores i y)
 set_stands [] i x y at stands = absurd (at_none i x at)
 set_stands (z ∷ zs) zero x y at stands =
     let same : z ≡ x = at_one (z ∷ zs) zero z x refl at in
@@ -161,9 +161,9 @@ set_stands (z ∷ zs) (suc i) x y at stands = (refl, set_stands zs i x y at stan
 abbrev piece_share : ℕ → Piece → ℕ
 piece_share k p = cond (eqb p.input k) p.span.length 0
 
-unasked_falls : (w : Walk) (p : Piece) (k : ℕ) → At w.pieces.items w.next p → unasked w k ≡ piece_share k p + bytes_of k (drop (suc w.next) w.pieces.items)
+unasked_falls : (w : Walk) (p : Piece) (k : ℕ) → At w.pieces.items w.next p → unasked w k ≡ piece_share k p + pieces_size k (drop (suc w.next) w.pieces.items)
 unasked_falls w p k at =
-    ap (bytes_of k) (drop_head w.pieces.items w.next p at)
+    ap (pieces_size k) (drop_head w.pieces.items w.next p at)
     ∙ sum_by-cons (piece_share k) p (drop (suc w.next) w.pieces.items)
 
 share_of : (p : Piece) (k : ℕ) → p.input ≡ k → piece_share k p ≡ p.span.length
@@ -175,7 +175,7 @@ LacksOnly why = (input : ℕ) (reading : ReadingRefused) → why ≡ refusals.Re
 
 module _ (olds news : List StoreState) (old : Walk) (p : Piece) (at : At old.pieces.items old.next p) where
   abbrev rest : ℕ → ℕ
-  rest k = bytes_of k (drop (suc old.next) old.pieces.items)
+  rest k = pieces_size k (drop (suc old.next) old.pieces.items)
 
   read_asked : (result : Result Unit WalkRefused) → ReadsPiece olds news p result → AskedWithin olds news (unasked old) rest
   read_asked result reads k was is at_was at_is =
@@ -196,8 +196,8 @@ module _ (olds news : List StoreState) (old : Walk) (p : Piece) (at : At old.pie
   read_stay : (result : Result Unit WalkRefused) → ReadsPiece olds news p result → StoresStay olds news
   read_stay result reads = subst (StoresStay olds) (sym reads.sets) (set_stays olds p.input reads.old reads.new reads.at reads.stays)
 
-  stand : (result : Result Unit WalkRefused) (reads : ReadsPiece olds news p result) → reads.new.faults ≡ reads.old.faults → CountsStand olds news
-  stand result reads same = subst (CountsStand olds) (sym reads.sets) (set_stands olds p.input reads.old reads.new reads.at same)
+  stand : (result : Result Unit WalkRefused) (reads : ReadsPiece olds news p result) → reads.new.faults ≡ reads.old.faults → AllCountsStand olds news
+  stand result reads same = subst (AllCountsStand olds) (sym reads.sets) (set_stands olds p.input reads.old reads.new reads.at same)
 
   -- the piece isn't loaded
   pub read_refused : {X : Type 0} (new : Walk) (why : WalkRefused) → ReadsPiece olds news p (Err why) → LeavesStores {X = X} olds news old new (Err why)
@@ -255,7 +255,7 @@ module _ (olds news : List StoreState) (old : Walk) (p : Piece) (at : At old.pie
       behind = omega (arith, next)
 
       is : unasked new ≡ rest
-      is = ap (λ (n : ℕ). λ (k : ℕ). bytes_of k (drop n new.pieces.items)) behind ∙ ap (λ v. λ (k : ℕ). bytes_of k (drop (suc old.next) v.items)) pieces
+      is = ap (λ (n : ℕ). λ (k : ℕ). pieces_size k (drop n new.pieces.items)) behind ∙ ap (λ v. λ (k : ℕ). pieces_size k (drop (suc old.next) v.items)) pieces
 
 -- ---- the store of a piece
 
@@ -282,7 +282,7 @@ module _ {T : Type 0} (state : T → StoreState) where
   }
 
   -- it was read, and no other
-  pub reads_piece : (stores : List T) (p : Piece) (x y : T) (found : Result Unit ReadingRefused) (result : Result Unit WalkRefused) → At stores p.input x → ReadsFrom (state x) (state y) p.span.length found → PieceCause p (state x).faults (state y).faults result
+  pub reads_piece : (stores : List T) (p : Piece) (x y : T) (found : Result Unit ReadingRefused) (result : Result Unit WalkRefused) → At stores p.input x → LoadsFrom (state x) (state y) p.span.length found → PieceCause p (state x).faults (state y).faults result
       → ReadsPiece (map state stores) (map state (set stores p.input y)) p result
   reads_piece stores p x y found result at reads cause = record {
     old = state x;

@@ -5,7 +5,7 @@ use Rattle.mcap_io.specs.Stores.{StoreState}
 use Rattle.mcap_model.specs.Places.{At, Has}
 use Rattle.mcap_model.proofs.Places.{at_none, has_last}
 use Rattle.chunk_window.specs.declared.window.Loaded.{Loaded}
-use Rattle.chunk_window.specs.Parts.{loaded_part, IsLoaded}
+use Rattle.chunk_window.specs.Parts.{loaded_part, IsPartLoaded}
 use Rattle.chunk_window.specs.Windows.{loaded_in}
 use Rattle.mcap_model.specs.declared.refusals.ReadingRefused.{ReadingRefused}
 use Rattle.mcap_model.specs.declared.refusals.ReadingRefused.TheVariants as readings
@@ -13,10 +13,10 @@ use Rattle.chunk_walk.specs.declared.answers.WalkRefused.{WalkRefused}
 use Rattle.chunk_walk.specs.declared.answers.WalkRefused.TheVariants as refusals
 use Rattle.chunk_walk.specs.declared.pieces.Piece.{Piece}
 use Rattle.chunk_walk.specs.declared.walk.Walk.{Walk}
-use Rattle.chunk_walk.specs.Pieces.{Files, AreBytesOf}
+use Rattle.chunk_walk.specs.Pieces.{InputBytes, AreBytesOf}
 use Rattle.chunk_walk.specs.Cursors.{MakesCursor}
 use Rattle.chunk_walk.specs.Stores.{StoresFit, LeavesStores, ReadsPiece}
-use Rattle.chunk_walk.specs.Walks.{pieces_ahead, Stands, LoadsPiece, IsRefused}
+use Rattle.chunk_walk.specs.Walks.{pieces_ahead, StandsBehindSome, LoadsPiece, IsWalkRefused}
 use Rattle.chunk_walk.proofs.Fitting.{part_loaded}
 use Rattle.chunk_walk.proofs.Places.{dropped}
 use Rattle.chunk_walk.proofs.Stayed.{leaves_changed, read_then}
@@ -31,31 +31,31 @@ fit_one stores pieces k p fit at (suc n) q at_q = absurd (at_none n q at_q)
 
 -- ---- the piece is loaded already
 
-pub twice_refused : (files : Files) (w : Walk) (p : Piece) (why : WalkRefused) → Stands files w → At w.pieces.items w.next p → IsLoaded (loaded_in w.window) p.input p.span.at → why ≡ refusals.Changed p.input p.span.offset → IsRefused files w why
-twice_refused files w p why stands at loaded is = subst (IsRefused files w) (sym is) (p, next_ahead w p at, refl, refl, inr (loaded_twice files w p stands at loaded))
+pub twice_refused : (files : InputBytes) (w : Walk) (p : Piece) (why : WalkRefused) → StandsBehindSome files w → At w.pieces.items w.next p → IsPartLoaded (loaded_in w.window) p.input p.span.at → why ≡ refusals.Changed p.input p.span.offset → IsWalkRefused files w why
+twice_refused files w p why stands at loaded is = subst (IsWalkRefused files w) (sym is) (p, next_ahead w p at, refl, refl, inr (loaded_twice files w p stands at loaded))
 
 pub twice_leaves : {X : Type 0} (xs : List StoreState) (old new : Walk) (input offset : ℕ) (why : WalkRefused) → why ≡ refusals.Changed input offset → LeavesStores {X = X} xs xs old new (Err why)
 twice_leaves {X} xs old new input offset why is = subst (λ (y : WalkRefused). LeavesStores {X = X} xs xs old new (Err y)) (sym is) (leaves_changed xs old new input offset)
 
 -- ---- its bytes aren't loaded
 
-pub piece_refused : (files : Files) (w : Walk) (olds news : List StoreState) (p : Piece) (why : WalkRefused) → ReadsPiece olds news p (Err why) → IsRefused files w why
+pub piece_refused : (files : InputBytes) (w : Walk) (olds news : List StoreState) (p : Piece) (why : WalkRefused) → ReadsPiece olds news p (Err why) → IsWalkRefused files w why
 piece_refused files w olds news p (refusals.Changed input offset) reads = absurd reads.cause
 piece_refused files w olds news p (refusals.Refused input why) reads = tt
 
 -- ---- they are
 
-pub part_there : (files : Files) (p : Piece) (old new : List Loaded) (done : Unit {0}) → LoadsPiece files p old new (Ok done) → IsLoaded new p.input p.span.at
+pub part_there : (files : InputBytes) (p : Piece) (old new : List Loaded) (done : Unit {0}) → LoadsPiece files p old new (Ok done) → IsPartLoaded new p.input p.span.at
 part_there files p old new done (bytes, are, is) =
     let part = loaded_part p.input p.span.at bytes in
     (part, subst (λ (l : List Loaded). Has l part) (sym is) (has_last old part []), (refl, refl))
 
 -- the bytes that the window gives are those of the piece
-pub record PartIs (files : Files) (p : Piece) (old new : List Loaded) (found : List ℕ) : Type 0 where
+pub record PartIs (files : InputBytes) (p : Piece) (old new : List Loaded) (found : List ℕ) : Type 0 where
   pub are : AreBytesOf files p found
   pub is : new ≡ old ++ loaded_part p.input p.span.at found ∷ []
 
-pub part_is : (files : Files) (p : Piece) (old new : List Loaded) (done : Unit {0}) (found : List ℕ) → (IsLoaded old p.input p.span.at → ⊥) → LoadsPiece files p old new (Ok done) → Has new (loaded_part p.input p.span.at found) → PartIs files p old new found
+pub part_is : (files : InputBytes) (p : Piece) (old new : List Loaded) (done : Unit {0}) (found : List ℕ) → (IsPartLoaded old p.input p.span.at → ⊥) → LoadsPiece files p old new (Ok done) → Has new (loaded_part p.input p.span.at found) → PartIs files p old new found
 part_is files p old new done found unloaded (bytes, are, is) has =
     let same : found ≡ bytes = part_loaded old p.input p.span.at bytes found unloaded (subst (λ (l : List Loaded). Has l (loaded_part p.input p.span.at found)) is has) in
     record {
@@ -65,7 +65,7 @@ part_is files p old new done found unloaded (bytes, are, is) has =
 
 -- ---- no cursor is made of them
 
-pub cursor_refused : (files : Files) (w : Walk) (p : Piece) (bytes : List ℕ) (why : WalkRefused) → At w.pieces.items w.next p → AreBytesOf files p bytes → MakesCursor p bytes (Err why) → IsRefused files w why
+pub cursor_refused : (files : InputBytes) (w : Walk) (p : Piece) (bytes : List ℕ) (why : WalkRefused) → At w.pieces.items w.next p → AreBytesOf files p bytes → MakesCursor p bytes (Err why) → IsWalkRefused files w why
 cursor_refused files w p bytes (refusals.Changed input offset) at are makes = (p, next_ahead w p at, makes.0, makes.1, inl (bytes, are, makes.2))
 cursor_refused files w p bytes (refusals.Refused input why) at are makes = tt
 

@@ -13,7 +13,7 @@ use Rattle.chunk_walk.specs.declared.pieces.Piece.{Piece}
 use Rattle.chunk_walk.specs.declared.cursors.Cursor.{Cursor}
 use Rattle.chunk_walk.specs.Heads.{HeadBefore, HeadsRise}
 use Rattle.chunk_walk.specs.Pieces.{PieceNotBehind, PiecesInOrder}
-use Rattle.chunk_walk.specs.Cursors.{turn_of, turns_left, TurnBefore, IsFresh}
+use Rattle.chunk_walk.specs.Cursors.{turn_of, turns_left, TurnBefore, IsFreshCursor}
 use Rattle.chunk_walk.proofs.Places.{undropped}
 use Rattle.chunk_walk.proofs.Ordered.{piece_itself, piece_trans}
 
@@ -47,7 +47,7 @@ turns_rise p xs rise = pairs_from TurnBefore (map (turn_of p) xs) (λ i j t u le
     let (b, at_b, is_b) = unmapped (turn_of p) xs j u at_u in
     subst (λ (x : Turn). TurnBefore x u) is_a (subst (TurnBefore (turn_of p a)) is_b (turn_before p a b (pairs_at HeadBefore xs (rise_pairs xs rise) i j a b less at_a at_b))))
 
-pub fresh_left : (p : Piece) (bytes : List ℕ) (c : Cursor) → IsFresh p bytes c → turns_left c ≡ map (turn_of p) c.heads.items
+pub fresh_left : (p : Piece) (bytes : List ℕ) (c : Cursor) → IsFreshCursor p bytes c → turns_left c ≡ map (turn_of p) c.heads.items
 fresh_left p bytes c fresh =
     ap (λ (n : ℕ). map (turn_of c.piece) (drop n c.heads.items)) fresh.given
     ∙ ap (λ (r : Piece). map (turn_of r) c.heads.items) fresh.piece

@@ -6,7 +6,7 @@ use Rattle.mcap_model.specs.Places.{At, Has}
 use Rattle.mcap_model.proofs.Places.{at_none, at_one, at_within}
 use Rattle.mcap_model.proofs.Lists.{has_taken}
 use Rattle.mcap_model.proofs.NamedTopics.{zip_back, take_past}
-use Rattle.chunk_window.specs.Parts.{IsLoaded}
+use Rattle.chunk_window.specs.Parts.{IsPartLoaded}
 use Rattle.chunk_window.specs.Windows.{loaded_in}
 use Rattle.chunk_walk.specs.declared.answers.Turn.{Turn}
 use Rattle.chunk_walk.specs.declared.answers.WalkRefused.{WalkRefused}
@@ -14,9 +14,9 @@ use Rattle.chunk_walk.specs.declared.answers.WalkRefused.TheVariants as refusals
 use Rattle.chunk_walk.specs.declared.pieces.Piece.{Piece}
 use Rattle.chunk_walk.specs.declared.cursors.Cursor.{Cursor}
 use Rattle.chunk_walk.specs.declared.walk.Walk.{Walk}
-use Rattle.chunk_walk.specs.Pieces.{Files, PiecesInOrder, IsSecond}
-use Rattle.chunk_walk.specs.Cursors.{turns_left, TurnBeforePiece, PieceTurnNotBehind, IsNext, IsFirst, FindsFirst}
-use Rattle.chunk_walk.specs.Walks.{pieces_loaded, pieces_ahead, Text, text_of, turns_of, IsTextOf, AreAll, AllLeft, IsHeldAs, WalkStands, Stands, NextIsDue, LoadsNext, IsRefused, LetsGo, DueIs, StandsFrom, FindsDue, GivesNext, Advances}
+use Rattle.chunk_walk.specs.Pieces.{InputBytes, PiecesInOrder, IsSecond}
+use Rattle.chunk_walk.specs.Cursors.{turns_left, TurnBeforePiece, PieceTurnNotBehind, IsNext, IsFirst, FindsFirstCursor}
+use Rattle.chunk_walk.specs.Walks.{pieces_loaded, pieces_ahead, Text, piece_text, turns_of, IsTextOf, GivenOrLeft, AllLeft, IsHeldAs, WalkStands, StandsBehindSome, NextIsDue, LoadsNext, IsWalkRefused, LetsPieceGo, DueIs, StandsFrom, FindsDue, GivesNext, Advances}
 use Rattle.chunk_walk.proofs.Places.{dropped, undropped}
 use Rattle.chunk_walk.proofs.Ordered.{before_more, next_is_one}
 use Rattle.chunk_walk.proofs.Queues.{all_given}
@@ -40,7 +40,7 @@ pub due_some : (w : Walk) (i : ℕ) (c : Cursor) (s : Turn) (next : Piece) → I
 due_some w i c s next first at is at_next below = (first, λ order. due_before w i c s next order at is at_next below)
 
 -- all are loaded
-pub due_end : (w : Walk) (found : Option ℕ) → FindsFirst w.cursors.items found → w.next ≡ length w.pieces.items → DueIs w found
+pub due_end : (w : Walk) (found : Option ℕ) → FindsFirstCursor w.cursors.items found → w.next ≡ length w.pieces.items → DueIs w found
 due_end w None none over = (none, omega (arith, over))
 due_end w (Some i) first over = (first, λ order c t p at is has. absurd (at_none has.0 p (subst (λ (l : List Piece). At l has.0 p) (drop_of_length-le w.pieces.items (omega (arith, over))) has.1)))
 
@@ -67,23 +67,23 @@ none_is_due w none p at_p k d at_d u is_u = absurd (at_none k d (subst (λ (l : 
 
 -- ---- steps one behind the other
 
-pub from_itself : (files : Files) (w : Walk) → StandsFrom files w w
+pub from_itself : (files : InputBytes) (w : Walk) → StandsFrom files w w
 from_itself files w texts given stands = ([], subst (λ (l : List Text). WalkStands files w l given) (sym (append-nil texts)) stands)
 
-pub one_more_loaded : (files : Files) (start old new : Walk) → StandsFrom files start old → LoadsNext files old new → AllLeft old → NextIsDue old → StandsFrom files start new
+pub one_more_loaded : (files : InputBytes) (start old new : Walk) → StandsFrom files start old → LoadsNext files old new → AllLeft old → NextIsDue old → StandsFrom files start new
 one_more_loaded files start old new was loads left due texts given stands =
     let (more, now) = was texts given stands in
-    let x : Text = text_of loads.piece loads.bytes in
+    let x : Text = piece_text loads.piece loads.bytes in
     (more ++ x ∷ [], subst (λ (l : List Text). WalkStands files new l given) (append_assoc texts more (x ∷ [])) (walk_loads files old new (texts ++ more) given now loads left due))
 
-pub stands_now : (files : Files) (start now : Walk) → StandsFrom files start now → Stands files start → Stands files now
+pub stands_now : (files : InputBytes) (start now : Walk) → StandsFrom files start now → StandsBehindSome files start → StandsBehindSome files now
 stands_now files start now from (texts, given, stands) = let (more, there) = from texts given stands in (texts ++ more, given, there)
 
-pub gone_stands : (files : Files) (old new : Walk) → LetsGo old new → Stands files old → Stands files new
+pub gone_stands : (files : InputBytes) (old new : Walk) → LetsPieceGo old new → StandsBehindSome files old → StandsBehindSome files new
 gone_stands files old new lets (texts, given, stands) = (texts, given, walk_lets_go files old new texts given stands lets)
 
 -- a refusal later on is one of the start
-pub refused_from : (files : Files) (start now : Walk) (why : WalkRefused) → now.pieces ≡ start.pieces → start.next ≤ now.next → IsRefused files now why → IsRefused files start why
+pub refused_from : (files : InputBytes) (start now : Walk) (why : WalkRefused) → now.pieces ≡ start.pieces → start.next ≤ now.next → IsWalkRefused files now why → IsWalkRefused files start why
 refused_from files start now (refusals.Changed input offset) pieces later (p, has, input_is, offset_is, cause) =
     let same : now.pieces.items ≡ start.pieces.items = ap (λ v. v.items) pieces in
     let there : At now.pieces.items (now.next + has.0) p = undropped now.pieces.items now.next (now.next + has.0) has.0 p refl has.1 in
@@ -100,7 +100,7 @@ refused_from files start now (refusals.Changed input offset) pieces later (p, ha
 refused_from files start now (refusals.Refused input why) pieces later it = tt
 
 -- a piece that is loaded already stands in front
-pub loaded_twice : (files : Files) (w : Walk) (p : Piece) → Stands files w → At w.pieces.items w.next p → IsLoaded (loaded_in w.window) p.input p.span.at → IsSecond w.pieces.items p
+pub loaded_twice : (files : InputBytes) (w : Walk) (p : Piece) → StandsBehindSome files w → At w.pieces.items w.next p → IsPartLoaded (loaded_in w.window) p.input p.span.at → IsSecond w.pieces.items p
 loaded_twice files w p (texts, given, stands) at (l, has, begins) =
     let (c, at_c, held) = zip_back (IsHeldAs (pieces_loaded w) texts) w.cursors.items (loaded_in w.window) has.0 l stands.held has.1 in
     let (k, in_front) = held.there in
@@ -110,7 +110,7 @@ loaded_twice files w p (texts, given, stands) at (l, has, begins) =
 
 -- ---- calls
 
-pub advance_gives : (files : Files) (old mid due new : Walk) (i : ℕ) (t : Turn) → LetsGo old mid → FindsDue files mid due (Some i) → GivesNext due new i t → Advances files old new (Some t)
+pub advance_gives : (files : InputBytes) (old mid due new : Walk) (i : ℕ) (t : Turn) → LetsPieceGo old mid → FindsDue files mid due (Some i) → GivesNext due new i t → Advances files old new (Some t)
 advance_gives files old mid due new i t lets finds gives = record {
   pieces = gives.pieces ∙ finds.pieces ∙ lets.pieces;
   stands = λ texts given stands.
@@ -122,7 +122,7 @@ advance_gives files old mid due new i t lets finds gives = record {
       (more, (walk_gives files due new (texts ++ more) given i t there finds.left gives first early, given_is_held files due new (texts ++ more) given i t there finds.left gives first early));
 }
 
-pub advance_ends : (files : Files) (old mid new : Walk) → LetsGo old mid → FindsDue files mid new None → Advances files old new None
+pub advance_ends : (files : InputBytes) (old mid new : Walk) → LetsPieceGo old mid → FindsDue files mid new None → Advances files old new None
 advance_ends files old mid new lets finds = record {
   pieces = finds.pieces ∙ lets.pieces;
   stands = λ texts given stands.
@@ -130,7 +130,7 @@ advance_ends files old mid new lets finds = record {
       let all = finds.stands in
       let (more, there) = all texts given gone in
       let (none, over) = finds.due in
-      let nothing : AreAll (turns_of (texts ++ more)) given [] = subst (λ (l : List Cursor). AreAll (turns_of (texts ++ more)) given (map turns_left l)) none there.all in
+      let nothing : GivenOrLeft (turns_of (texts ++ more)) given [] = subst (λ (l : List Cursor). GivenOrLeft (turns_of (texts ++ more)) given (map turns_left l)) none there.all in
       let whole : pieces_loaded new ≡ new.pieces.items = take_past new.next new.pieces.items over in (
         more,
         (

@@ -9,7 +9,7 @@ use Rattle.record_walk.specs.declared.heads.MessageHead.{MessageHead}
 use Rattle.chunk_walk.specs.declared.pieces.Piece.{Piece}
 use Rattle.chunk_walk.specs.declared.cursors.Cursor.{Cursor}
 use Rattle.record_walk.specs.Heads.{heads_in}
-use Rattle.chunk_walk.specs.Heads.{AreWithin, HeadsRise, FitsSpan}
+use Rattle.chunk_walk.specs.Heads.{AreInSpan, HeadsRise, FitsSpan}
 
 -- a message of a piece, with its turn
 abbrev pub turn_of : Piece → MessageHead → Turn
@@ -49,9 +49,9 @@ EarlierOf cursors first i n = (c d : Cursor) (t u : Turn) → At cursors first c
 abbrev pub IsFirst : List Cursor → ℕ → Type 0
 IsFirst cursors i = (c : Cursor) × (t : Turn) × At cursors i c × IsNext c t × Each (λ d. (u : Turn) → IsNext d u → PieceTurnNotBehind t u) cursors
 
-abbrev pub FindsFirst : List Cursor → Option ℕ → Type 0
-FindsFirst cursors (Some i) = IsFirst cursors i
-FindsFirst cursors None = cursors ≡ []
+abbrev pub FindsFirstCursor : List Cursor → Option ℕ → Type 0
+FindsFirstCursor cursors (Some i) = IsFirst cursors i
+FindsFirstCursor cursors None = cursors ≡ []
 
 -- whether there is a next message of the piece at that place, and it comes before all of another piece
 abbrev pub TellsBefore : List Cursor → Option ℕ → Piece → Bool → Type 0
@@ -60,17 +60,17 @@ TellsBefore cursors None p before = before ≡ false
 
 -- nothing was given of a piece with these bytes: its messages are those of the bytes, in their order, as many as the span's and
 -- within it
-pub record IsFresh (p : Piece) (bytes : List ℕ) (c : Cursor) : Type 0 where
+pub record IsFreshCursor (p : Piece) (bytes : List ℕ) (c : Cursor) : Type 0 where
   pub piece : c.piece ≡ p
   pub given : c.given ≡ 0
   pub some : 0 < length c.heads.items
   pub many : length c.heads.items ≡ p.span.messages
   pub same : IsPermutation (heads_in bytes) c.heads.items
   pub rise : HeadsRise c.heads.items
-  pub within : AreWithin p.span c.heads.items
+  pub within : AreInSpan p.span c.heads.items
 
 -- bytes that can't be those of the piece's span are refused as changed
 abbrev pub MakesCursor : Piece → List ℕ → Result Cursor WalkRefused → Type 0
-MakesCursor p bytes (Ok c) = IsFresh p bytes c
+MakesCursor p bytes (Ok c) = IsFreshCursor p bytes c
 MakesCursor p bytes (Err (refusals.Changed input offset)) = (input ≡ p.input) × (offset ≡ p.span.offset) × (FitsSpan p.span bytes → ⊥)
 MakesCursor p bytes (Err (refusals.Refused input why)) = (input ≡ p.input) × (why ≡ readings.Memory)

@@ -6,18 +6,18 @@ use Rattle.record_walk.specs.declared.heads.MessageHead.{MessageHead}
 use Rattle.record_walk.specs.Heads.{heads_in}
 
 -- all were logged in the times of a span
-abbrev pub AreWithin : Span → List MessageHead → Type 0
-AreWithin span heads = Each (λ e. (span.least ≤ e.time) × (e.time ≤ span.greatest)) heads
+abbrev pub AreInSpan : Span → List MessageHead → Type 0
+AreInSpan span heads = Each (λ e. (span.least ≤ e.time) × (e.time ≤ span.greatest)) heads
 
 -- some bytes can be those of a span: there are messages, as many as its, and all were logged in its times
 pub record FitsSpan (span : Span) (bytes : List ℕ) : Type 0 where
   pub some : heads_in bytes ≡ [] → ⊥
   pub many : length (heads_in bytes) ≡ span.messages
-  pub within : AreWithin span (heads_in bytes)
+  pub within : AreInSpan span (heads_in bytes)
 
 -- each stands behind those in front of it
-abbrev pub AreApart : List MessageHead → Type 0
-AreApart heads = AllPairs (λ a b. a.offset < b.offset) heads
+abbrev pub OffsetsRise : List MessageHead → Type 0
+OffsetsRise heads = AllPairs (λ a b. a.offset < b.offset) heads
 
 -- a message comes before another of the same piece
 abbrev pub HeadBefore : MessageHead → MessageHead → Type 0

@@ -3,21 +3,21 @@ use Rattle.std.specs.Prelude.{◌≡◌, ℕ, ◌<◌, List, length, take, drop,
 use Rattle.mcap_model.specs.Places.{At, Each}
 use Rattle.mcap_model.specs.Tops.{records_in}
 use Rattle.chunk_survey.specs.declared.spans.Span.{Span}
-use Rattle.chunk_survey.specs.Times.{times_of, TimesAre}
+use Rattle.chunk_survey.specs.Times.{times_of, TimesSpan}
 use Rattle.chunk_walk.specs.declared.answers.WalkRefused.TheVariants as refusals
 use Rattle.chunk_walk.specs.declared.pieces.Piece.{Piece}
 use Rattle.chunk_walk.specs.declared.walk.Walk.{Walk}
 use Rattle.chunk_walk.specs.Heads.{FitsSpan}
-use Rattle.chunk_walk.specs.Pieces.{Files, BeginTogether}
-use Rattle.chunk_walk.specs.Walks.{pieces_in, IsRefused}
+use Rattle.chunk_walk.specs.Pieces.{InputBytes, BeginTogether}
+use Rattle.chunk_walk.specs.Walks.{pieces_in, IsWalkRefused}
 
 -- bytes whose messages were logged when a span says, and are as many, can be those of the span
 abbrev pub SurveyedBytesFit : Type 0
-SurveyedBytesFit = (span : Span) (bytes : List ℕ) → TimesAre (times_of (records_in bytes)) span.least span.greatest span.in_order → span.messages ≡ length (times_of (records_in bytes)) → FitsSpan span bytes
+SurveyedBytesFit = (span : Span) (bytes : List ℕ) → TimesSpan (times_of (records_in bytes)) span.least span.greatest span.in_order → span.messages ≡ length (times_of (records_in bytes)) → FitsSpan span bytes
 
 -- the input tells, and the bytes that stand there can be those of the piece's span
-abbrev pub IsTold : Files → Piece → Type 0
-IsTold files p = (file : List ℕ) × At files p.input (Some file) × FitsSpan p.span (take p.span.length (drop p.span.at file))
+abbrev pub IsPieceTold : InputBytes → Piece → Type 0
+IsPieceTold files p = (file : List ℕ) × At files p.input (Some file) × FitsSpan p.span (take p.span.length (drop p.span.at file))
 
 -- no two begin at one place
 abbrev pub BeginApart : List Piece → Type 0
@@ -25,4 +25,4 @@ BeginApart pieces = (i j : ℕ) (p q : Piece) → i < j → At pieces i p → At
 
 -- where all pieces are told and begin at different places, none is found changed
 abbrev pub ToldPiecesStay : Type 0
-ToldPiecesStay = (files : Files) (w : Walk) (input offset : ℕ) → Each (IsTold files) (pieces_in w) → BeginApart (pieces_in w) → IsRefused files w (refusals.Changed input offset) → ⊥
+ToldPiecesStay = (files : InputBytes) (w : Walk) (input offset : ℕ) → Each (IsPieceTold files) (pieces_in w) → BeginApart (pieces_in w) → IsWalkRefused files w (refusals.Changed input offset) → ⊥

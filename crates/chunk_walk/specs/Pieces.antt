@@ -6,8 +6,8 @@ use Rattle.chunk_survey.specs.declared.spans.Span.{Span}
 use Rattle.chunk_walk.specs.declared.pieces.Piece.{Piece}
 
 -- the bytes of each input, where it tells them
-abbrev pub Files : Type 0
-Files = List (Option (List ℕ))
+abbrev pub InputBytes : Type 0
+InputBytes = List (Option (List ℕ))
 
 -- the pieces of an input
 abbrev pub pieces_with : ℕ → List Span → List Piece
@@ -22,7 +22,7 @@ abbrev pub PiecesInOrder : List Piece → Type 0
 PiecesInOrder pieces = (k : ℕ) (d : Piece) → k + 1 < length pieces → PieceNotBehind (slice_index_or pieces k d) (slice_index_or pieces (k + 1) d)
 
 -- these are as many bytes as a piece has; where its input tells, they stand in it there
-pub record AreBytesOf (files : Files) (p : Piece) (bytes : List ℕ) : Type 0 where
+pub record AreBytesOf (files : InputBytes) (p : Piece) (bytes : List ℕ) : Type 0 where
   pub size : length bytes ≡ p.span.length
   pub told_is : (file : List ℕ) → At files p.input (Some file) → bytes ≡ take p.span.length (drop p.span.at file)
 
@@ -35,8 +35,8 @@ abbrev pub IsSecond : List Piece → Piece → Type 0
 IsSecond pieces p = (i j : ℕ) × (q : Piece) × (i < j) × At pieces i q × At pieces j p × BeginTogether q p
 
 -- how many bytes pieces have of an input
-abbrev pub bytes_of : ℕ → List Piece → ℕ
-bytes_of input pieces = sum_by (λ p. if p.input == input then p.span.length else 0) pieces
+abbrev pub pieces_size : ℕ → List Piece → ℕ
+pieces_size input pieces = sum_by (λ p. if p.input == input then p.span.length else 0) pieces
 
 -- how many bytes those have in whose times a time lies
 abbrev pub overlap_at : ℕ → List Piece → ℕ

@@ -6,15 +6,15 @@ use Rattle.mcap_io.specs.Stores.{StoreState, StoreStays}
 use Rattle.mcap_model.specs.Places.{At, Each}
 use Rattle.mcap_model.specs.declared.refusals.ReadingRefused.{ReadingRefused}
 use Rattle.mcap_model.specs.declared.refusals.ReadingRefused.TheVariants as readings
-use Rattle.chunk_window.specs.Parts.{LoadCause}
+use Rattle.chunk_window.specs.Parts.{PartCause}
 use Rattle.chunk_walk.specs.declared.answers.WalkRefused.{WalkRefused}
 use Rattle.chunk_walk.specs.declared.answers.WalkRefused.TheVariants as refusals
 use Rattle.chunk_walk.specs.declared.pieces.Piece.{Piece}
 use Rattle.chunk_walk.specs.declared.walk.Walk.{Walk}
-use Rattle.chunk_walk.specs.Pieces.{Files, bytes_of}
+use Rattle.chunk_walk.specs.Pieces.{InputBytes, pieces_size}
 
 -- what stores tell
-abbrev pub files_of : List StoreState → Files
+abbrev pub files_of : List StoreState → InputBytes
 files_of stores = map (λ s. s.bytes) stores
 
 -- each piece lies within the length that its store has answered
@@ -30,8 +30,8 @@ abbrev pub CountStands : StoreState → StoreState → Type 0
 CountStands old new = new.faults ≡ old.faults
 
 -- those of all stores stand
-abbrev pub CountsStand : List StoreState → List StoreState → Type 0
-CountsStand olds news = AllZip CountStands olds news
+abbrev pub AllCountsStand : List StoreState → List StoreState → Type 0
+AllCountsStand olds news = AllZip CountStands olds news
 
 -- the count of the one at that place has risen by one, to this, and those of the others stand
 pub record OneRose (olds news : List StoreState) (place faults : ℕ) : Type 0 where
@@ -49,7 +49,7 @@ AskedWithin olds news before after = (k : ℕ) (old new : StoreState) → At old
 
 -- how many bytes of an input a walk may still ask for: those of the pieces that weren't loaded
 abbrev pub unasked : Walk → ℕ → ℕ
-unasked w input = bytes_of input (drop w.next w.pieces.items)
+unasked w input = pieces_size input (drop w.next w.pieces.items)
 
 abbrev pub none_left : ℕ → ℕ
 none_left input = 0
@@ -60,15 +60,15 @@ UnloadedCounts olds news input (readings.Fault faults) = OneRose olds news input
 UnloadedCounts olds news input (readings.Grammar offset rule) = ⊥
 UnloadedCounts olds news input (readings.Compressed offset name) = ⊥
 UnloadedCounts olds news input (readings.Limit offset) = ⊥
-UnloadedCounts olds news input readings.Memory = CountsStand olds news
+UnloadedCounts olds news input readings.Memory = AllCountsStand olds news
 
 -- the counts where a call is refused
 abbrev pub RefusedCounts : List StoreState → List StoreState → WalkRefused → Type 0
-RefusedCounts olds news (refusals.Changed input offset) = CountsStand olds news
+RefusedCounts olds news (refusals.Changed input offset) = AllCountsStand olds news
 RefusedCounts olds news (refusals.Refused input why) = UnloadedCounts olds news input why
 
 abbrev pub CountsAfter : {X : Type 0} → List StoreState → List StoreState → Result X WalkRefused → Type 0
-CountsAfter olds news (Ok it) = CountsStand olds news
+CountsAfter olds news (Ok it) = AllCountsStand olds news
 CountsAfter olds news (Err why) = RefusedCounts olds news why
 
 -- what was asked for were pieces that are loaded now, or, where the call was refused, some that weren't before
@@ -88,7 +88,7 @@ pub record LeavesStores {X : Type 0} (olds news : List StoreState) (old new : Wa
 abbrev pub PieceCause : Piece → ℕ → ℕ → Result Unit WalkRefused → Type 0
 PieceCause p before now (Ok it) = now ≡ before
 PieceCause p before now (Err (refusals.Changed input offset)) = ⊥
-PieceCause p before now (Err (refusals.Refused input why)) = (input ≡ p.input) × LoadCause before now (Err why)
+PieceCause p before now (Err (refusals.Refused input why)) = (input ≡ p.input) × PartCause before now (Err why)
 
 -- the store of a piece is read, and no other
 pub record ReadsPiece (olds news : List StoreState) (p : Piece) (result : Result Unit WalkRefused) : Type 0 where

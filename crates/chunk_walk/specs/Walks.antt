@@ -5,7 +5,7 @@ use Rattle.mcap_model.specs.Places.{At, Has, Each}
 use Rattle.mcap_model.specs.Tops.{Top, spelled, records_in}
 use Rattle.record_walk.specs.Heads.{time_in, is_headed, heads_in}
 use Rattle.chunk_window.specs.declared.window.Loaded.{Loaded}
-use Rattle.chunk_window.specs.Parts.{loaded_part, bytes_in, BeginsAt, IsLoaded}
+use Rattle.chunk_window.specs.Parts.{loaded_part, bytes_in, IsPartAt, IsPartLoaded}
 use Rattle.chunk_window.specs.Windows.{loaded_in}
 use Rattle.chunk_walk.specs.declared.answers.Turn.{Turn}
 use Rattle.chunk_walk.specs.declared.answers.WalkRefused.{WalkRefused}
@@ -13,9 +13,9 @@ use Rattle.chunk_walk.specs.declared.answers.WalkRefused.TheVariants as refusals
 use Rattle.chunk_walk.specs.declared.pieces.Piece.{Piece}
 use Rattle.chunk_walk.specs.declared.cursors.Cursor.{Cursor}
 use Rattle.chunk_walk.specs.declared.walk.Walk.{Walk}
-use Rattle.chunk_walk.specs.Heads.{AreWithin, FitsSpan}
-use Rattle.chunk_walk.specs.Pieces.{Files, PiecesInOrder, AreBytesOf, BeginTogether, IsSecond, IsInOverlap}
-use Rattle.chunk_walk.specs.Cursors.{turn_of, turns_left, TurnBefore, TurnBeforePiece, HasLeft, IsNext, IsFirst, IsFresh}
+use Rattle.chunk_walk.specs.Heads.{AreInSpan, FitsSpan}
+use Rattle.chunk_walk.specs.Pieces.{InputBytes, PiecesInOrder, AreBytesOf, BeginTogether, IsSecond, IsInOverlap}
+use Rattle.chunk_walk.specs.Cursors.{turn_of, turns_left, TurnBefore, TurnBeforePiece, HasLeft, IsNext, IsFirst, IsFreshCursor}
 
 -- ---- what a walk is seen as
 
@@ -41,8 +41,8 @@ pub record Text : Type 0 where
   pub piece : Piece
   pub bytes : List ℕ
 
-abbrev pub text_of : Piece → List ℕ → Text
-text_of p bytes = record { piece = p; bytes = bytes }
+abbrev pub piece_text : Piece → List ℕ → Text
+piece_text p bytes = record { piece = p; bytes = bytes }
 
 -- the turns of its messages, as they stand
 abbrev pub turns_in : Text → List Turn
@@ -53,14 +53,14 @@ abbrev pub turns_of : List Text → List Turn
 turns_of texts = flat_map turns_in texts
 
 -- the text is of that piece, and can be that of its span
-pub record IsTextOf (files : Files) (p : Piece) (x : Text) : Type 0 where
+pub record IsTextOf (files : InputBytes) (p : Piece) (x : Text) : Type 0 where
   pub piece : x.piece ≡ p
   pub bytes : AreBytesOf files p x.bytes
   pub fits : FitsSpan p.span x.bytes
 
 -- the window holds the text, and nothing else that begins there
 abbrev pub HoldsText : Walk → Text → Type 0
-HoldsText w x = IsLoaded (loaded_in w.window) x.piece.input x.piece.span.at × Each (λ l. BeginsAt x.piece.input x.piece.span.at l → l.bytes ≡ x.bytes) (loaded_in w.window)
+HoldsText w x = IsPartLoaded (loaded_in w.window) x.piece.input x.piece.span.at × Each (λ l. IsPartAt x.piece.input x.piece.span.at l → l.bytes ≡ x.bytes) (loaded_in w.window)
 
 -- the record of a turn: it stands among those of the text, at the turn's place
 pub record IsMessageAt (x : Text) (t : Turn) (r : Top) : Type 0 where
@@ -80,7 +80,7 @@ pub record QueuesStand (given : List Turn) (queues : List (List Turn)) : Type 0 
   pub past : (g u : Turn) (q : List Turn) → Has given g → Has queues q → Has q u → TurnBefore g u
 
 -- just these messages are given or left
-pub record AreAll (messages given : List Turn) (queues : List (List Turn)) : Type 0 where
+pub record GivenOrLeft (messages given : List Turn) (queues : List (List Turn)) : Type 0 where
   pub are : (g : Turn) → Has given g → Has messages g
   pub left : (q : List Turn) (u : Turn) → Has queues q → Has q u → Has messages u
   pub all : (u : Turn) → Has messages u → Has given u ⊎ ((q : List Turn) × Has queues q × Has q u)
@@ -98,12 +98,12 @@ AllLeft w = Each HasLeft w.cursors.items
 
 -- the bytes of a cursor's piece, which is one of those that were loaded
 pub record IsHeldAs (loaded : List Piece) (texts : List Text) (c : Cursor) (l : Loaded) : Type 0 where
-  pub begins : BeginsAt c.piece.input c.piece.span.at l
+  pub begins : IsPartAt c.piece.input c.piece.span.at l
   pub size : length l.bytes ≡ c.piece.span.length
   pub same : IsPermutation (heads_in l.bytes) c.heads.items
-  pub within : AreWithin c.piece.span c.heads.items
+  pub within : AreInSpan c.piece.span c.heads.items
   pub there : Has loaded c.piece
-  pub text : Has texts (text_of c.piece l.bytes)
+  pub text : Has texts (piece_text c.piece l.bytes)
 
 -- the most bytes that were loaded at one time
 pub record PeakStands (w : Walk) : Type 0 where
@@ -113,12 +113,12 @@ pub record PeakStands (w : Walk) : Type 0 where
 
 -- The first pieces were loaded with these texts, and these turns were given of them: in their order, each before whatever is
 -- left, and before all of each piece that wasn't loaded yet.
-pub record WalkStands (files : Files) (w : Walk) (texts : List Text) (given : List Turn) : Type 0 where
+pub record WalkStands (files : InputBytes) (w : Walk) (texts : List Text) (given : List Turn) : Type 0 where
   pub next : w.next ≤ length w.pieces.items
   pub taken : AllZip (IsTextOf files) (pieces_loaded w) texts
   pub order : PiecesInOrder w.pieces.items
   pub queues : QueuesStand given (map turns_left w.cursors.items)
-  pub all : AreAll (turns_of texts) given (map turns_left w.cursors.items)
+  pub all : GivenOrLeft (turns_of texts) given (map turns_left w.cursors.items)
   pub apart : (i j : ℕ) (c d : Cursor) → (i ≡ j → ⊥) → At w.cursors.items i c → At w.cursors.items j d → Apart c d
   pub early : (g : Turn) (p : Piece) → Has given g → Has (pieces_ahead w) p → TurnBeforePiece g p
   pub left : LeftButLast w
@@ -127,8 +127,8 @@ pub record WalkStands (files : Files) (w : Walk) (texts : List Text) (given : Li
   pub peak : PeakStands w
 
 -- it stands so behind some turns
-abbrev pub Stands : Files → Walk → Type 0
-Stands files w = (texts : List Text) × (given : List Turn) × WalkStands files w texts given
+abbrev pub StandsBehindSome : InputBytes → Walk → Type 0
+StandsBehindSome files w = (texts : List Text) × (given : List Turn) × WalkStands files w texts given
 
 -- ---- steps
 
@@ -137,14 +137,14 @@ abbrev pub NextIsDue : Walk → Type 0
 NextIsDue w = (p : Piece) → At w.pieces.items w.next p → Each (λ c. (t : Turn) → IsNext c t → p.span.least ≤ t.log_time) w.cursors.items
 
 -- the next piece is loaded
-pub record LoadsNext (files : Files) (old new : Walk) : Type 0 where
+pub record LoadsNext (files : InputBytes) (old new : Walk) : Type 0 where
   pub piece : Piece
   pub at : At old.pieces.items old.next piece
-  pub unloaded : IsLoaded (loaded_in old.window) piece.input piece.span.at → ⊥
+  pub unloaded : IsPartLoaded (loaded_in old.window) piece.input piece.span.at → ⊥
   pub bytes : List ℕ
   pub are : AreBytesOf files piece bytes
   pub cursor : Cursor
-  pub fresh : IsFresh piece bytes cursor
+  pub fresh : IsFreshCursor piece bytes cursor
   pub pieces : new.pieces ≡ old.pieces
   pub cursors : new.cursors.items ≡ old.cursors.items ++ cursor ∷ []
   pub next : new.next ≡ old.next + 1
@@ -152,20 +152,20 @@ pub record LoadsNext (files : Files) (old new : Walk) : Type 0 where
   pub peak : new.peak ≡ max old.peak (bytes_in (loaded_in new.window))
 
 -- the bytes of a piece are loaded
-abbrev pub LoadsPiece : Files → Piece → List Loaded → List Loaded → Result Unit WalkRefused → Type 0
+abbrev pub LoadsPiece : InputBytes → Piece → List Loaded → List Loaded → Result Unit WalkRefused → Type 0
 LoadsPiece files p old new (Ok it) = (bytes : List ℕ) × AreBytesOf files p bytes × (new ≡ old ++ loaded_part p.input p.span.at bytes ∷ [])
 LoadsPiece files p old new (Err why) = Unit {0}
 
 -- A piece that wasn't loaded yet is changed: bytes were loaded for it which can't be those of its span; or another begins
 -- at its place.
-abbrev pub IsRefused : Files → Walk → WalkRefused → Type 0
-IsRefused files w (refusals.Changed input offset) = (p : Piece) × Has (pieces_ahead w) p × (input ≡ p.input) × (offset ≡ p.span.offset)
+abbrev pub IsWalkRefused : InputBytes → Walk → WalkRefused → Type 0
+IsWalkRefused files w (refusals.Changed input offset) = (p : Piece) × Has (pieces_ahead w) p × (input ≡ p.input) × (offset ≡ p.span.offset)
     × (((bytes : List ℕ) × AreBytesOf files p bytes × (FitsSpan p.span bytes → ⊥)) ⊎ IsSecond w.pieces.items p)
-IsRefused files w (refusals.Refused input why) = Unit {0}
+IsWalkRefused files w (refusals.Refused input why) = Unit {0}
 
-abbrev pub StepsOn : Files → Walk → Walk → Result Unit WalkRefused → Type 0
+abbrev pub StepsOn : InputBytes → Walk → Walk → Result Unit WalkRefused → Type 0
 StepsOn files old new (Ok it) = LoadsNext files old new
-StepsOn files old new (Err why) = IsRefused files old why
+StepsOn files old new (Err why) = IsWalkRefused files old why
 
 -- the piece of the last turn goes
 pub record LastGoes (old new : Walk) : Type 0 where
@@ -181,7 +181,7 @@ pub record NoneGoes (old new : Walk) : Type 0 where
   pub loaded : loaded_in new.window ≡ loaded_in old.window
 
 -- the piece at that place goes, where it has nothing left
-pub record LetsGo (old new : Walk) : Type 0 where
+pub record LetsPieceGo (old new : Walk) : Type 0 where
   pub pieces : new.pieces ≡ old.pieces
   pub next : new.next ≡ old.next
   pub peak : new.peak ≡ old.peak
@@ -195,18 +195,18 @@ DueIs w (Some i) = IsFirst w.cursors.items i
 DueIs w None = (w.cursors.items ≡ []) × (length w.pieces.items ≤ w.next)
 
 -- from one walk to another some pieces are loaded
-abbrev pub StandsFrom : Files → Walk → Walk → Type 0
+abbrev pub StandsFrom : InputBytes → Walk → Walk → Type 0
 StandsFrom files start now = (texts : List Text) (given : List Turn) → WalkStands files start texts given → (more : List Text) × WalkStands files now (texts ++ more) given
 
-pub record FindsDue (files : Files) (old new : Walk) (found : Option ℕ) : Type 0 where
+pub record FindsDue (files : InputBytes) (old new : Walk) (found : Option ℕ) : Type 0 where
   pub pieces : new.pieces ≡ old.pieces
   pub left : AllLeft new
   pub due : DueIs new found
   pub stands : StandsFrom files old new
 
-abbrev pub FindsOrRefuses : Files → Walk → Walk → Result (Option ℕ) WalkRefused → Type 0
+abbrev pub FindsOrRefuses : InputBytes → Walk → Walk → Result (Option ℕ) WalkRefused → Type 0
 FindsOrRefuses files old new (Ok found) = FindsDue files old new found
-FindsOrRefuses files old new (Err why) = IsRefused files old why
+FindsOrRefuses files old new (Err why) = IsWalkRefused files old why
 
 -- the first message of the piece at that place is given
 pub record GivesNext (old new : Walk) (i : ℕ) (t : Turn) : Type 0 where
@@ -227,7 +227,7 @@ pub record GivesNext (old new : Walk) (i : ℕ) (t : Turn) : Type 0 where
 -- ---- what a call gives
 
 -- all pieces have texts, and just the turns of these were given, in their order
-pub record AllGiven (files : Files) (pieces : List Piece) (texts : List Text) (given : List Turn) : Type 0 where
+pub record AllGiven (files : InputBytes) (pieces : List Piece) (texts : List Text) (given : List Turn) : Type 0 where
   pub texts_are : AllZip (IsTextOf files) pieces texts
   pub rise : AllPairs TurnBefore given
   pub are : (t : Turn) → Has given t → Has (turns_of texts) t
@@ -241,15 +241,15 @@ pub record IsOfHeld (w : Walk) (texts : List Text) (t : Turn) : Type 0 where
   pub has : Has (turns_in text) t
 
 -- the message that is next is given; or all pieces were loaded, and none is left
-abbrev pub Gives : Files → Walk → List Text → List Turn → Option Turn → Type 0
-Gives files w texts given (Some t) = WalkStands files w texts (given ++ t ∷ []) × IsOfHeld w texts t
-Gives files w texts given None = WalkStands files w texts given × AllGiven files w.pieces.items texts given × (pieces_loaded w ≡ w.pieces.items)
+abbrev pub GivesTurn : InputBytes → Walk → List Text → List Turn → Option Turn → Type 0
+GivesTurn files w texts given (Some t) = WalkStands files w texts (given ++ t ∷ []) × IsOfHeld w texts t
+GivesTurn files w texts given None = WalkStands files w texts given × AllGiven files w.pieces.items texts given × (pieces_loaded w ≡ w.pieces.items)
 
 -- one turn more is given, of the texts so far and of those that are loaded for it; or none is left
-pub record Advances (files : Files) (old new : Walk) (next : Option Turn) : Type 0 where
+pub record Advances (files : InputBytes) (old new : Walk) (next : Option Turn) : Type 0 where
   pub pieces : new.pieces ≡ old.pieces
-  pub stands : (texts : List Text) (given : List Turn) → WalkStands files old texts given → (more : List Text) × Gives files new (texts ++ more) given next
+  pub stands : (texts : List Text) (given : List Turn) → WalkStands files old texts given → (more : List Text) × GivesTurn files new (texts ++ more) given next
 
-abbrev pub AdvancesOrRefuses : Files → Walk → Walk → Result (Option Turn) WalkRefused → Type 0
+abbrev pub AdvancesOrRefuses : InputBytes → Walk → Walk → Result (Option Turn) WalkRefused → Type 0
 AdvancesOrRefuses files old new (Ok next) = Advances files old new next
-AdvancesOrRefuses files old new (Err why) = IsRefused files old why
+AdvancesOrRefuses files old new (Err why) = IsWalkRefused files old why

@@ -4,7 +4,7 @@ ghost use Rattle.mcap_model.specs.Places.{At, Each};
 ghost use Rattle.chunk_walk.specs.declared.answers.Turn.{Turn as Coming};
 ghost use Rattle.chunk_walk.specs.declared.answers.WalkRefused.{WalkRefused as Refusal};
 ghost use Rattle.chunk_walk.specs.declared.answers.WalkRefused.TheVariants as refusals;
-ghost use Rattle.chunk_walk.specs.Cursors.{HasLeft, IsNext, MakesCursor, EarlierOf, PieceTurnNotBehind, FindsFirst, TurnBeforePiece, TellsBefore};
+ghost use Rattle.chunk_walk.specs.Cursors.{HasLeft, IsNext, MakesCursor, EarlierOf, PieceTurnNotBehind, FindsFirstCursor, TurnBeforePiece, TellsBefore};
 
 use crate::answers::WalkRefused;
 use crate::heads::{are_within, put_in_order};
@@ -110,7 +110,7 @@ fn earlier(cursors: &[Cursor], first: usize, i: usize) -> usize
 /// The piece whose next message comes first.
 pub(crate) fn first_due(cursors: &[Cursor]) -> Option<usize>
     requires { Each HasLeft cursors.now }
-    ensures { FindsFirst cursors.now result }
+    ensures { FindsFirstCursor cursors.now result }
 {
     if cursors.len() == 0 {
         return None;
@@ -140,7 +140,7 @@ fn is_before(cursor: &Cursor, piece: &Piece) -> bool
 /// Whether there is a next message of the piece at that place, and it comes before all of one that isn't loaded.
 pub(crate) fn comes_before(cursors: &[Cursor], due: Option<usize>, piece: &Piece) -> bool
     requires left { Each HasLeft cursors.now }
-    requires due { FindsFirst cursors.now due }
+    requires due { FindsFirstCursor cursors.now due }
     ensures { TellsBefore cursors.now due piece.now result }
 {
     match due {

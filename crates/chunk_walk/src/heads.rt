@@ -1,6 +1,6 @@
 //! The messages in a piece that is loaded.
 ghost use Rattle.std.specs.Prelude.{◌↔◌, IsTrue, IsPermutation};
-ghost use Rattle.chunk_walk.specs.Heads.{AreApart, AreWithin, HeadBefore, HeadsRise};
+ghost use Rattle.chunk_walk.specs.Heads.{OffsetsRise, AreInSpan, HeadBefore, HeadsRise};
 
 use chunk_survey::Span;
 use record_walk::MessageHead;
@@ -29,7 +29,7 @@ fn rise(heads: &[MessageHead]) -> bool
 
 /// Whether all were logged in the times of a span.
 pub(crate) fn are_within(heads: &[MessageHead], span: &Span) -> bool
-    ensures { IsTrue result ↔ AreWithin span.now heads.now }
+    ensures { IsTrue result ↔ AreInSpan span.now heads.now }
 {
     'messages: for i in 0..heads.len() {
         if heads[i].time < span.least || span.greatest < heads[i].time {
@@ -41,7 +41,7 @@ pub(crate) fn are_within(heads: &[MessageHead], span: &Span) -> bool
 
 /// Puts messages, as they stand, in the order of log time and place. Those that are in order already cost no sort.
 pub(crate) fn put_in_order(heads: &mut Vec<MessageHead>)
-    requires { AreApart heads.old.items }
+    requires { OffsetsRise heads.old.items }
     ensures same { IsPermutation heads.old.items heads.new.items }
     ensures rise { HeadsRise heads.new.items }
 {

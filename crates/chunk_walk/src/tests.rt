@@ -3,7 +3,7 @@ ghost use Rattle.std.specs.Prelude.{◌≡◌, ◌+◌, ◌^◌, ◌<◌, ◌≤
 ghost use Rattle.mcap_io.specs.Files.{nothing};
 ghost use Rattle.mcap_model.specs.Places.{Each};
 ghost use Rattle.chunk_walk.specs.Stores.{files_of, StoresFit};
-ghost use Rattle.chunk_walk.specs.Walks.{pieces_in, Stands};
+ghost use Rattle.chunk_walk.specs.Walks.{pieces_in, StandsBehindSome};
 
 use crate::{Piece, Turn, Walk, pieces_of};
 use chunk_survey::{Span, Survey, survey_source};
@@ -171,7 +171,7 @@ fn give_all<T: Store>(
     stores: &mut Vec<T>,
     turns: &mut Vec<Turn>,
 ) -> Result<(), Fail>
-    requires stands { Stands (files_of (map (λ s. T.state s) stores.old.items)) walk.old }
+    requires stands { StandsBehindSome (files_of (map (λ s. T.state s) stores.old.items)) walk.old }
     requires fits { StoresFit (map (λ s. T.state s) stores.old.items) (pieces_in walk.old) }
 {
     'turns: for _ in 0..2_000u32 {

@@ -1,6 +1,6 @@
 //! The walk through time.
 ghost use Rattle.std.specs.Prelude.{◌≡◌, ◌<◌, ◌∷◌, [], ℕ, List, Option, map, length, IfOk, IsPermutation};
-ghost use Rattle.chunk_window.specs.Parts.{IsLoaded};
+ghost use Rattle.chunk_window.specs.Parts.{IsPartLoaded};
 ghost use Rattle.chunk_window.specs.Windows.{loaded_in};
 ghost use Rattle.chunk_walk.specs.Stores.{files_of, StoresFit, ReadsPiece};
 ghost use Rattle.chunk_walk.specs.Walks.{LoadsPiece};
@@ -34,7 +34,7 @@ fn load_piece<T: Store>(
     piece: Piece,
 ) -> Result<(), WalkRefused>
     requires fits { StoresFit (map (λ s. T.state s) stores.old.items) (piece ∷ []) }
-    requires unloaded { IsLoaded (loaded_in window.old) piece.input piece.span.at → ⊥ }
+    requires unloaded { IsPartLoaded (loaded_in window.old) piece.input piece.span.at → ⊥ }
     ensures loads { LoadsPiece (files_of (map (λ s. T.state s) stores.old.items)) piece (loaded_in window.old) (loaded_in window.new) result }
     ensures stores { ReadsPiece (map (λ s. T.state s) stores.old.items) (map (λ s. T.state s) stores.new.items) piece result }
 {
@@ -55,14 +55,14 @@ fn load_piece<T: Store>(
 impl Walk {
     ghost use Rattle.mcap_model.specs.Places.{Has};
     ghost use Rattle.mcap_model.specs.Walk.{inner_top};
-    ghost use Rattle.chunk_walk.specs.Pieces.{Files};
+    ghost use Rattle.chunk_walk.specs.Pieces.{InputBytes};
     ghost use Rattle.chunk_walk.specs.Stores.{LeavesStores};
-    ghost use Rattle.chunk_walk.specs.Walks.{pieces_in, peak_of, turns_in, Text, HoldsText, IsMessageAt, WalkStands, Stands, AllLeft, NextIsDue, StepsOn, LetsGo, FindsOrRefuses, GivesNext, AdvancesOrRefuses};
+    ghost use Rattle.chunk_walk.specs.Walks.{pieces_in, peak_of, turns_in, Text, HoldsText, IsMessageAt, WalkStands, StandsBehindSome, AllLeft, NextIsDue, StepsOn, LetsPieceGo, FindsOrRefuses, GivesNext, AdvancesOrRefuses};
 
     /// A walk through all messages of these pieces, of which nothing was given yet.
     pub fn new(alloc: Global, pieces: Vec<Piece>) -> Walk
         ensures pieces { IsPermutation pieces.items (pieces_in result) }
-        ensures stands { (files : Files) → WalkStands files result [] [] }
+        ensures stands { (files : InputBytes) → WalkStands files result [] [] }
     {
         let mut pieces = pieces;
         put_in_order(&mut pieces);
@@ -105,7 +105,7 @@ impl Walk {
     // Loads the next piece.
     fn load_next<T: Store>(&mut self, stores: &mut Vec<T>) -> Result<(), WalkRefused>
         requires within { self.old.next < length self.old.pieces.items }
-        requires stands { Stands (files_of (map (λ s. T.state s) stores.old.items)) self.old }
+        requires stands { StandsBehindSome (files_of (map (λ s. T.state s) stores.old.items)) self.old }
         requires fits { StoresFit (map (λ s. T.state s) stores.old.items) self.old.pieces.items }
         ensures loads { StepsOn (files_of (map (λ s. T.state s) stores.old.items)) self.old self.new result }
         ensures stores { LeavesStores (map (λ s. T.state s) stores.old.items) (map (λ s. T.state s) stores.new.items) self.old self.new result }
@@ -137,8 +137,8 @@ impl Walk {
 
     // Lets the piece go whose message was given last, if it was the piece's last.
     fn let_go(&mut self)
-        requires { (files : Files) × Stands files self.old }
-        ensures { LetsGo self.old self.new }
+        requires { (files : InputBytes) × StandsBehindSome files self.old }
+        ensures { LetsPieceGo self.old self.new }
     {
         if self.last >= self.cursors.len() {
             return;
@@ -154,7 +154,7 @@ impl Walk {
     // Loads the pieces that may have the next message, and says which has it.
     fn load_due<T: Store>(&mut self, stores: &mut Vec<T>) -> Result<Option<usize>, WalkRefused>
         requires left { AllLeft self.old }
-        requires stands { Stands (files_of (map (λ s. T.state s) stores.old.items)) self.old }
+        requires stands { StandsBehindSome (files_of (map (λ s. T.state s) stores.old.items)) self.old }
         requires fits { StoresFit (map (λ s. T.state s) stores.old.items) self.old.pieces.items }
         ensures finds { FindsOrRefuses (files_of (map (λ s. T.state s) stores.old.items)) self.old self.new result }
         ensures stores { LeavesStores (map (λ s. T.state s) stores.old.items) (map (λ s. T.state s) stores.new.items) self.old self.new result }
@@ -195,7 +195,7 @@ impl Walk {
 
     /// The next message, if one is left. Where it is refused, nothing is promised of the walk any more.
     pub fn advance<T: Store>(&mut self, stores: &mut Vec<T>) -> Result<Option<Turn>, WalkRefused>
-        requires stands { Stands (files_of (map (λ s. T.state s) stores.old.items)) self.old }
+        requires stands { StandsBehindSome (files_of (map (λ s. T.state s) stores.old.items)) self.old }
         requires fits { StoresFit (map (λ s. T.state s) stores.old.items) self.old.pieces.items }
         ensures advances { AdvancesOrRefuses (files_of (map (λ s. T.state s) stores.old.items)) self.old self.new result }
         ensures stores { LeavesStores (map (λ s. T.state s) stores.old.items) (map (λ s. T.state s) stores.new.items) self.old self.new result }

@@ -1,7 +1,7 @@
 //! The window: what is loaded, and how many bytes that is.
 ghost use Rattle.std.specs.Prelude.{◌≡◌, ◌↔◌, ◌+◌, ◌≤◌, IsTrue};
 ghost use Rattle.mcap_io.specs.Stores.{ReadsPart};
-ghost use Rattle.chunk_window.specs.Parts.{bytes_in, BeginsAt, FillsRoom, FindsLoaded};
+ghost use Rattle.chunk_window.specs.Parts.{bytes_in, IsPartAt, FillsRoom, FindsLoaded};
 
 use crate::answers::Loadable;
 use mcap_io::{Failed, Store};
@@ -52,7 +52,7 @@ fn fill_room<T: Store>(
 
 // Whether a part is that of the input which begins at the offset.
 fn begins_at(part: &Loaded, input: u32, offset: u64) -> bool
-    ensures { IsTrue result ↔ BeginsAt input offset part.now }
+    ensures { IsTrue result ↔ IsPartAt input offset part.now }
 {
     part.offset == offset && part.input == input
 }
@@ -72,7 +72,7 @@ fn place_of(loaded: &[Loaded], input: u32, offset: u64) -> Option<usize>
 impl Window {
     ghost use Rattle.std.specs.Prelude.{[]};
     ghost use Rattle.mcap_model.specs.Places.{Has};
-    ghost use Rattle.chunk_window.specs.Parts.{loaded_part, IsLoaded, Loads, Releases, ReadsFrom};
+    ghost use Rattle.chunk_window.specs.Parts.{loaded_part, IsPartLoaded, LoadsPart, Releases, LoadsFrom};
     ghost use Rattle.chunk_window.specs.Windows.{loaded_in};
 
     /// A window in which nothing is loaded.
@@ -92,9 +92,9 @@ impl Window {
     /// and nothing where memory lacks before.
     pub fn load<T: Store>(&mut self, store: &mut T, at: Loadable) -> Result<(), ReadingRefused>
         requires within { at.offset + at.length ≤ (T.state store.old).known }
-        requires unloaded { IsLoaded (loaded_in self.old) at.input at.offset → ⊥ }
-        ensures loads { Loads (T.state store.old).bytes at (loaded_in self.old) (loaded_in self.new) result }
-        ensures store { ReadsFrom (T.state store.old) (T.state store.new) at.length result }
+        requires unloaded { IsPartLoaded (loaded_in self.old) at.input at.offset → ⊥ }
+        ensures loads { LoadsPart (T.state store.old).bytes at (loaded_in self.old) (loaded_in self.new) result }
+        ensures store { LoadsFrom (T.state store.old) (T.state store.new) at.length result }
     {
         let held = match self.held.checked_add(at.length) {
             Some(held) => held,
@@ -124,7 +124,7 @@ impl Window {
 
     /// Whether a part is loaded.
     pub fn is_loaded(&self, input: u32, offset: u64) -> bool
-        ensures { IsTrue result ↔ IsLoaded (loaded_in self.now) input offset }
+        ensures { IsTrue result ↔ IsPartLoaded (loaded_in self.now) input offset }
     {
         match place_of(&self.loaded, input, offset) {
             Some(_) => return true,
@@ -134,7 +134,7 @@ impl Window {
 
     /// The bytes of a part that is loaded.
     pub fn bytes(&self, input: u32, offset: u64) -> &[u8]
-        requires { IsLoaded (loaded_in self.now) input offset }
+        requires { IsPartLoaded (loaded_in self.now) input offset }
         ensures { Has (loaded_in self.now) (loaded_part input offset result.now) }
     {
         match place_of(&self.loaded, input, offset) {
@@ -145,7 +145,7 @@ impl Window {
 
     /// Lets a part go that is loaded.
     pub fn release(&mut self, input: u32, offset: u64)
-        requires { IsLoaded (loaded_in self.old) input offset }
+        requires { IsPartLoaded (loaded_in self.old) input offset }
         ensures { Releases input offset (loaded_in self.old) (loaded_in self.new) }
     {
         let i = match place_of(&self.loaded, input, offset) {

@@ -11,7 +11,7 @@ use Rattle.mcap_model.specs.Blocks.{Piece, block, alone, Cuts, no_cuts, reaches,
 use Rattle.mcap_model.proofs.Growth.{fold_append, bytes_more}
 use Rattle.mcap_model.proofs.Section.{block_within}
 use Rattle.mcap_model.proofs.FewRecords.{logged_few}
-use Rattle.chunk_writer.specs.Bodies.{Closes}
+use Rattle.chunk_writer.specs.Bodies.{ClosesPiece}
 
 -- ---- one record more
 
@@ -48,7 +48,7 @@ pieces_grow size history behind =
     (more.0 ++ last, ap (λ (c : Cuts). c.pieces ++ last) all ∙ ap (λ (l : List Piece). l ++ last) more.1 ∙ append_assoc (cuts size history).pieces more.0 last)
 
 -- a piece that a record made sure stands behind those before it
-pub closed_grow : (size : Option ℕ) (history : List Rec) (r : Rec) (piece : Piece) (behind : List Rec) → Closes size history r piece
+pub closed_grow : (size : Option ℕ) (history : List Rec) (r : Rec) (piece : Piece) (behind : List Rec) → ClosesPiece size history r piece
     → (rest : List Piece) × (pieces_of size ((history ++ r ∷ []) ++ behind) ≡ (cuts size history).pieces ++ piece ∷ rest)
 closed_grow size history r piece behind closes =
     let more = pieces_grow size (history ++ r ∷ []) behind in

@@ -10,7 +10,7 @@ use Rattle.mcap_model.specs.File.{front, blocks_from, written_of}
 use Rattle.mcap_model.proofs.Standing.{count_blocks}
 use Rattle.mcap_model.proofs.OneMore.{zip_push}
 use Rattle.live_entry.specs.declared.entry.Entry.{Entry}
-use Rattle.live_entry.specs.Entries.{SeenExtents, IsEntryOf}
+use Rattle.live_entry.specs.Entries.{SeenExtents, HasBlockExtent}
 use Rattle.chunk_writer.specs.Scribes.{GivesEntry, Lists, KeepsOn, sure_blocks, GivesEntries}
 use Rattle.chunk_writer.proofs.Cuts.{cuts_more, one_more}
 use Rattle.chunk_writer.proofs.Noting.{blocks_append}
@@ -48,7 +48,7 @@ block_more start ps qs records closes =
 abbrev pub seen_later : {X : Type 0} → SeenExtents X → LiveState → SeenExtents X
 seen_later seen store = record { tells = seen.tells; size = seen.size; held = store.held }
 
-entry_before : {X : Type 0} (seen : SeenExtents X) (store : LiveState) (e : Entry X) (offset : ℕ) (records : List Rec) → KeepsOn seen.held store.held → IsEntryOf (seen_later seen store) e offset records → IsEntryOf seen e offset records
+entry_before : {X : Type 0} (seen : SeenExtents X) (store : LiveState) (e : Entry X) (offset : ℕ) (records : List Rec) → KeepsOn seen.held store.held → HasBlockExtent (seen_later seen store) e offset records → HasBlockExtent seen e offset records
 entry_before seen store e offset records keeps is = record {
   numbers = is.numbers;
   long = is.long;
@@ -60,7 +60,7 @@ pub entries_more : {X : Type 0} (seen : SeenExtents X) (store : LiveState) (opti
 entries_more seen store options history records r entries more None keeps old listed gives = record {
   closed = old.closed;
   sure = ap (sure_blocks options) (sym (append_assoc history records (r ∷ []))) ∙ same_sure options (history ++ records) r gives ∙ old.sure;
-  each = subst (λ (l : List (Entry _)). AllZip (λ (b : ℕ × List Rec) (e : Entry _). IsEntryOf seen e b.0 b.1) old.closed l) (sym listed) old.each;
+  each = subst (λ (l : List (Entry _)). AllZip (λ (b : ℕ × List Rec) (e : Entry _). HasBlockExtent seen e b.0 b.1) old.closed l) (sym listed) old.each;
 }
 entries_more seen store options history records r entries more (Some e) keeps old listed gives =
     let done = history ++ records in
@@ -70,6 +70,6 @@ entries_more seen store options history records r entries more (Some e) keeps ol
       closed = old.closed ++ (offset, gives.0) ∷ [];
       sure = ap (sure_blocks options) (sym (append_assoc history records (r ∷ []))) ∙ last ∙ ap (λ (l : List (ℕ × List Rec)). l ++ (offset, gives.0) ∷ []) old.sure
           ∙ append_assoc (sure_blocks options history) old.closed ((offset, gives.0) ∷ []);
-      each = subst (λ (l : List (Entry _)). AllZip (λ (b : ℕ × List Rec) (x : Entry _). IsEntryOf seen x b.0 b.1) (old.closed ++ (offset, gives.0) ∷ []) l) (sym listed)
-          (zip_push (λ (b : ℕ × List Rec) (x : Entry _). IsEntryOf seen x b.0 b.1) old.closed entries (offset, gives.0) e old.each (entry_before seen store e offset gives.0 keeps gives.2));
+      each = subst (λ (l : List (Entry _)). AllZip (λ (b : ℕ × List Rec) (x : Entry _). HasBlockExtent seen x b.0 b.1) (old.closed ++ (offset, gives.0) ∷ []) l) (sym listed)
+          (zip_push (λ (b : ℕ × List Rec) (x : Entry _). HasBlockExtent seen x b.0 b.1) old.closed entries (offset, gives.0) e old.each (entry_before seen store e offset gives.0 keeps gives.2));
     }

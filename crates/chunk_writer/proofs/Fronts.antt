@@ -12,7 +12,7 @@ use Rattle.mcap_io.proofs.Calls.{adds-adds}
 use Rattle.mcap_model.specs.declared.ends.Stop.{Stop}
 use Rattle.mcap_model.specs.History.{history_bytes}
 use Rattle.record_cache.specs.Offers.{StartsAt, RecordAt}
-use Rattle.chunk_writer.specs.Buffered.{framed_each, BeginsLast, RefusedAt}
+use Rattle.chunk_writer.specs.Buffered.{framed_each, BeginsLast, AppendRefusedAt}
 use Rattle.chunk_writer.specs.Stops.{Added}
 use Rattle.chunk_writer.proofs.Taking.{some_left, starts, all_put}
 
@@ -130,7 +130,7 @@ last_added old mid new records at next count framed it same found first second =
     subst (λ (l : List ℕ). Adds old new l) (sym split) (adds-adds old mid new (history_bytes front) framed first second)
 
 -- one in front of the last was refused
-pub refused_front : (old now : Option (List ℕ)) (records : List Rec) (count at : ℕ) (stop : Stop) → RefusedAt old now (take count records) at stop → RefusedAt old now records at stop
+pub refused_front : (old now : Option (List ℕ)) (records : List Rec) (count at : ℕ) (stop : Stop) → AppendRefusedAt old now (take count records) at stop → AppendRefusedAt old now records at stop
 refused_front old now records count at stop it = record {
   before = it.before;
   rec = it.rec;
@@ -144,7 +144,7 @@ refused_front old now records count at stop it = record {
 
 -- the last was refused
 pub refused_last : (old mid now : Option (List ℕ)) (records : List Rec) (at next count : ℕ) (framed : List ℕ) (stop : Stop) → BeginsLast records at → count ≡ length records → RecordAt records at framed next
-    → Adds old mid (history_bytes (take (count - 1) records)) → Added mid now framed (Err stop) → RefusedAt old now records at stop
+    → Adds old mid (history_bytes (take (count - 1) records)) → Added mid now framed (Err stop) → AppendRefusedAt old now records at stop
 refused_last old mid now records at next count framed stop it same found first added =
     let one = last_cut records at next count framed it same found in
     record {

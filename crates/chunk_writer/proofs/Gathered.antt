@@ -5,7 +5,7 @@ use Rattle.std.specs.Prelude.{get_or, All}
 use Rattle.std.proofs.lemmas.List.{map-append, length-map, take_all}
 use Rattle.mcap_model.specs.Places.{At, Each}
 use Rattle.mcap_model.proofs.Places.{at_more}
-use Rattle.chunk_writer.specs.Scribes.{AreWaiting, Fills}
+use Rattle.chunk_writer.specs.Scribes.{AreWaiting, FillsExtras}
 use Rattle.chunk_writer.specs.declared.scribe.Scribe.{Scribe}
 use Rattle.chunk_writer.specs.declared.phase.Phase.TheVariants as phases
 use Rattle.mcap_io.specs.Outside.{LiveState}
@@ -24,7 +24,7 @@ use Rattle.mcap_model.specs.Blocks.{pieces_of, pieces_bytes}
 use Rattle.mcap_model.specs.File.{front, section, noted, extras_from}
 use Rattle.mcap_model.specs.Summary.{Noted}
 use Rattle.std.proofs.lemmas.Grind.{flat_map-append}
-use Rattle.summary_write.specs.Tally.{Tally, StandsFor, with_noted_extra}
+use Rattle.summary_write.specs.Tally.{Tally, SummaryStandsFor, with_noted_extra}
 use Rattle.chunk_writer.specs.declared.body.Body.{Body}
 use Rattle.chunk_writer.specs.declared.phase.Phase.{Phase}
 use Rattle.chunk_writer.specs.Bodies.{SummaryFor}
@@ -65,16 +65,16 @@ kind_of_extra bytes t (u, there, extra) is other = by extra.kind
     by (inr twelve) = sym (op_there bytes t is) ∙ op_there bytes u there ∙ twelve
 
 pub noted_attachment : (bytes content : List ℕ) (t : Top) (at : ℕ) (n : Noted) (after : Tally) → bytes ≡ top_bytes t → get_or bytes 0 0 ≡ 9 → content ≡ drop 9 bytes
-    → StandsFor after (with_noted_extra n at (record { op = 9; content = content })) → StandsFor after (with_noted_extra n at t)
+    → SummaryStandsFor after (with_noted_extra n at (record { op = 9; content = content })) → SummaryStandsFor after (with_noted_extra n at t)
 noted_attachment bytes content t at n after is first same stands =
-    subst (λ (k : ℕ). StandsFor after (with_noted_extra n at (record { op = k; content = t.content }))) (sym first ∙ op_there bytes t is)
-    (subst (λ (l : List ℕ). StandsFor after (with_noted_extra n at (record { op = 9; content = l }))) (same ∙ content_there bytes t is) stands)
+    subst (λ (k : ℕ). SummaryStandsFor after (with_noted_extra n at (record { op = k; content = t.content }))) (sym first ∙ op_there bytes t is)
+    (subst (λ (l : List ℕ). SummaryStandsFor after (with_noted_extra n at (record { op = 9; content = l }))) (same ∙ content_there bytes t is) stands)
 
 pub noted_metadata : (bytes content : List ℕ) (t : Top) (at : ℕ) (n : Noted) (after : Tally) → AreExtra bytes → bytes ≡ top_bytes t → (get_or bytes 0 0 ≡ 9 → ⊥) → content ≡ drop 9 bytes
-    → StandsFor after (with_noted_extra n at (record { op = 12; content = content })) → StandsFor after (with_noted_extra n at t)
+    → SummaryStandsFor after (with_noted_extra n at (record { op = 12; content = content })) → SummaryStandsFor after (with_noted_extra n at t)
 noted_metadata bytes content t at n after extra is other same stands =
-    subst (λ (k : ℕ). StandsFor after (with_noted_extra n at (record { op = k; content = t.content }))) (sym (kind_of_extra bytes t extra is other))
-    (subst (λ (l : List ℕ). StandsFor after (with_noted_extra n at (record { op = 12; content = l }))) (same ∙ content_there bytes t is) stands)
+    subst (λ (k : ℕ). SummaryStandsFor after (with_noted_extra n at (record { op = k; content = t.content }))) (sym (kind_of_extra bytes t extra is other))
+    (subst (λ (l : List ℕ). SummaryStandsFor after (with_noted_extra n at (record { op = 12; content = l }))) (same ∙ content_there bytes t is) stands)
 
 -- ---- a plan with an extra more
 
@@ -113,7 +113,7 @@ section_long options extras t history bytes len is size =
       length-append (spelled extras) (top_bytes t),
     )
 
-body_noted : (size : Option ℕ) (n m : Noted) (b : Body) (after : Tally) → (StandsFor b.summary n → StandsFor after m) → SummaryFor size n (Some b) → SummaryFor size m (Some (record { chunker = b.chunker; summary = after }))
+body_noted : (size : Option ℕ) (n m : Noted) (b : Body) (after : Tally) → (SummaryStandsFor b.summary n → SummaryStandsFor after m) → SummaryFor size n (Some b) → SummaryFor size m (Some (record { chunker = b.chunker; summary = after }))
 body_noted None n m b after notes stands = absurd stands
 body_noted (Some k) n m b after notes stands = notes stands
 
@@ -121,7 +121,7 @@ body_none : (size : Option ℕ) (n m : Noted) → SummaryFor size n None → Sum
 body_none None n m stands = tt
 body_none (Some k) n m stands = absurd stands
 
-pub noted_some : (size : Option ℕ) (n m : Noted) (old : Option Body) (b : Body) (after : Tally) → old ≡ Some b → (StandsFor b.summary n → StandsFor after m) → SummaryFor size n old → SummaryFor size m (Some (record { chunker = b.chunker; summary = after }))
+pub noted_some : (size : Option ℕ) (n m : Noted) (old : Option Body) (b : Body) (after : Tally) → old ≡ Some b → (SummaryStandsFor b.summary n → SummaryStandsFor after m) → SummaryFor size n old → SummaryFor size m (Some (record { chunker = b.chunker; summary = after }))
 noted_some size n m old b after is notes stands = body_noted size n m b after notes (subst (λ (x : Option Body). SummaryFor size n x) is stands)
 
 pub noted_none : (size : Option ℕ) (n m : Noted) (old : Option Body) → old ≡ None → SummaryFor size n old → SummaryFor size m old
@@ -178,22 +178,22 @@ read_at (t ∷ ts) (x ∷ xs) (suc n) is less =
 
 abbrev pub Filling : {L : Type 0} → (L → LiveState) → Scribe L → Scribe L → ℕ → Type 0
 Filling state before now place = (options : FileOptions) (extras : List Top) (opened : LiveState) (history : List Rec) → before.extras ≡ map top_bytes extras
-    → Fills options [] opened.held (state before.store).held history before.plan → Fills options (take place extras) opened.held (state now.store).held history now.plan
+    → FillsExtras options [] opened.held (state before.store).held history before.plan → FillsExtras options (take place extras) opened.held (state now.store).held history now.plan
 
 pub filling_on : {L : Type 0} (state : L → LiveState) (before now after : Scribe L) (place : ℕ) → place < length before.extras → now.extras ≡ before.extras → Filling state before now place
     → ((t : Top) → get_or now.extras place [] ≡ top_bytes t → (options : FileOptions) (extras : List Top) (opened : LiveState) (history : List Rec)
-    → Fills options extras opened.held (state now.store).held history now.plan → Fills options (extras ++ t ∷ []) opened.held (state after.store).held history after.plan)
+    → FillsExtras options extras opened.held (state now.store).held history now.plan → FillsExtras options (extras ++ t ∷ []) opened.held (state after.store).held history after.plan)
     → Filling state before after (place + 1)
 filling_on state before now after place less same so_far step options extras opened history is fills =
     let found = read_at extras before.extras place is less in
     let next = step found.t (ap (λ (l : List (List ℕ)). get_or l place []) same ∙ found.there) options (take place extras) opened history (so_far options extras opened history is fills) in
     let count : place + 1 ≡ suc place = omega arith in
-    subst (λ (l : List Top). Fills options l opened.held (state after.store).held history after.plan) (sym (ap (λ (k : ℕ). take k extras) count ∙ found.more)) next
+    subst (λ (l : List Top). FillsExtras options l opened.held (state after.store).held history after.plan) (sym (ap (λ (k : ℕ). take k extras) count ∙ found.more)) next
 
 pub filling_stopped : {L : Type 0} (state : L → LiveState) (before now after : Scribe L) (place : ℕ) (stop : Stop) (blocks bytes : ℕ) → place < length before.extras → now.extras ≡ before.extras → Filling state before now place
     → ((t : Top) → get_or now.extras place [] ≡ top_bytes t → (options : FileOptions) (extras behind : List Top) (opened : LiveState) (history : List Rec)
-    → Fills options extras opened.held (state now.store).held history now.plan → StopsBehind options (extras ++ t ∷ behind) history opened.held (state after.store).held stop (numbers blocks bytes))
-    → (options : FileOptions) (extras : List Top) (opened : LiveState) (history : List Rec) → before.extras ≡ map top_bytes extras → Fills options [] opened.held (state before.store).held history before.plan
+    → FillsExtras options extras opened.held (state now.store).held history now.plan → StopsBehind options (extras ++ t ∷ behind) history opened.held (state after.store).held stop (numbers blocks bytes))
+    → (options : FileOptions) (extras : List Top) (opened : LiveState) (history : List Rec) → before.extras ≡ map top_bytes extras → FillsExtras options [] opened.held (state before.store).held history before.plan
     → StopsBehind options extras history opened.held (state after.store).held stop (numbers blocks bytes)
 filling_stopped state before now after place stop blocks bytes less same so_far step options extras opened history is fills =
     let found = read_at extras before.extras place is less in
@@ -201,9 +201,9 @@ filling_stopped state before now after place stop blocks bytes less same so_far 
     (step found.t (ap (λ (l : List (List ℕ)). get_or l place []) same ∙ found.there) options (take place extras) (drop (suc place) extras) opened history (so_far options extras opened history is fills))
 
 pub filling_done : {L : Type 0} (state : L → LiveState) (before now : Scribe L) (place : ℕ) → length before.extras ≤ place → Filling state before now place
-    → (options : FileOptions) (extras : List Top) (opened : LiveState) (history : List Rec) → before.extras ≡ map top_bytes extras → Fills options [] opened.held (state before.store).held history before.plan
-    → Fills options extras opened.held (state now.store).held history now.plan
+    → (options : FileOptions) (extras : List Top) (opened : LiveState) (history : List Rec) → before.extras ≡ map top_bytes extras → FillsExtras options [] opened.held (state before.store).held history before.plan
+    → FillsExtras options extras opened.held (state now.store).held history now.plan
 filling_done state before now place all so_far options extras opened history is fills =
     let size = ap (λ (l : List (List ℕ)). length l) is in
     let same = length-map extras top_bytes in
-    subst (λ (l : List Top). Fills options l opened.held (state now.store).held history now.plan) (take_all place extras (omega (arith, size, same, all))) (so_far options extras opened history is fills)
+    subst (λ (l : List Top). FillsExtras options l opened.held (state now.store).held history now.plan) (take_all place extras (omega (arith, size, same, all))) (so_far options extras opened history is fills)

@@ -11,13 +11,13 @@ use Rattle.mcap_model.specs.Blocks.{Piece, block, cuts, last_piece, piece_bytes,
 use Rattle.mcap_model.specs.File.{block_at, blocks_from}
 use Rattle.mcap_model.specs.Summary.{Noted}
 use Rattle.mcap_model.proofs.Standing.{count_blocks}
-use Rattle.summary_write.specs.Tally.{Tally, StandsFor, with_noted_block, with_noted_record}
+use Rattle.summary_write.specs.Tally.{Tally, SummaryStandsFor, with_noted_block, with_noted_record}
 use Rattle.chunk_build.specs.Chunking.{Chunking}
 use Rattle.chunk_build.specs.Chunker as chunker
 use Rattle.chunk_writer.specs.declared.body.Body.{Body}
-use Rattle.chunk_writer.specs.Limits.{Holds, Kept, IsNoFault}
-use Rattle.chunk_writer.specs.Bodies.{noted_of, IsBody, BodyTakes, TakesLast, StandsSo, Closes, NextBlock, LastBlock}
-use Rattle.chunk_writer.specs.Plans.{Passes, PutStopped, LastStopped}
+use Rattle.chunk_writer.specs.Limits.{Holds, HoldsOrStops, IsNoFault}
+use Rattle.chunk_writer.specs.Bodies.{noted_of, IsBody, BodyTakes, TakesLast, StandsSo, ClosesPiece, NextBlock, LastBlock}
+use Rattle.chunk_writer.specs.Plans.{PiecePasses, PutStopped, LastStopped}
 use Rattle.chunk_writer.proofs.Cuts.{few_logged}
 
 pub blocks_append : (at : ℕ) (ps qs : List Piece) → blocks_from at (ps ++ qs) ≡ blocks_from at ps ++ blocks_from (at + length (pieces_bytes ps)) qs
@@ -54,7 +54,7 @@ few_messages size at history b blocks bytes so within =
     let few = few_logged size history some in
     omega (arith, small, same, place, most, few)
 
-pub few_noted : (t : Tally) (at : ℕ) (history : List Rec) (ps : List Piece) (blocks bytes : ℕ) → StandsFor t (noted_of at history ps) → blocks ≡ length (blocks_in ps) → Holds blocks bytes → t.blocks < 2 ^ 48
+pub few_noted : (t : Tally) (at : ℕ) (history : List Rec) (ps : List Piece) (blocks bytes : ℕ) → SummaryStandsFor t (noted_of at history ps) → blocks ≡ length (blocks_in ps) → Holds blocks bytes → t.blocks < 2 ^ 48
 few_noted t at history ps blocks bytes stands is within =
     let same = ap (λ (u : Tally). u.blocks) stands.same in
     let most = within.few in
@@ -67,10 +67,10 @@ few_blocks size at history b blocks bytes n so within is =
 
 -- ---- a record is taken
 
-pub took : (size at : ℕ) (history : List Rec) (r : Rec) (b : Body) (ch : Chunking) (t : Tally) (closed : Option Block) → ((n : Noted) → StandsFor b.summary n → StandsFor t (with_noted_record n r))
-    → ((h : List Rec) → chunker.StandsFor b.chunker h → chunker.Puts b.chunker.size h r closed ch) → IsBody size at history b → BodyTakes size at history r closed (record { chunker = ch; summary = t })
+pub took : (size at : ℕ) (history : List Rec) (r : Rec) (b : Body) (ch : Chunking) (t : Tally) (closed : Option Block) → ((n : Noted) → SummaryStandsFor b.summary n → SummaryStandsFor t (with_noted_record n r))
+    → ((h : List Rec) → chunker.StandsFor b.chunker h → chunker.PutsRecord b.chunker.size h r closed ch) → IsBody size at history b → BodyTakes size at history r closed (record { chunker = ch; summary = t })
 took size at history r b ch t closed noted put is =
-    let puts : chunker.Puts size history r closed ch = subst (λ (k : ℕ). chunker.Puts k history r closed ch) is.size_is (put history is.chunk) in
+    let puts : chunker.PutsRecord size history r closed ch = subst (λ (k : ℕ). chunker.PutsRecord k history r closed ch) is.size_is (put history is.chunk) in
     record {
       size_is = puts.same_size;
       chunk = puts.stands;
@@ -82,7 +82,7 @@ abbrev pub TakesIt : Body → Rec → Option Block → Body → Type 0
 TakesIt b r closed after = (size at : ℕ) (history : List Rec) → IsBody size at history b → BodyTakes size at history r closed after
 
 abbrev pub Notes : Tally → ℕ → Block → Tally → Type 0
-Notes t at b after = (records : List Rec) → IsBlock b records → (n : Noted) → StandsFor t n → StandsFor after (with_noted_block n at records)
+Notes t at b after = (records : List Rec) → IsBlock b records → (n : Noted) → SummaryStandsFor t n → SummaryStandsFor after (with_noted_block n at records)
 
 pub next_none : (size at : ℕ) (history : List Rec) (r : Rec) (b after : Body) (blocks bytes : ℕ) (closed : Option Block) → closed ≡ None → TakesIt b r closed after
     → StandsSo size at history b blocks bytes → NextBlock size at history r None after
@@ -95,7 +95,7 @@ next_none size at history r b after blocks bytes closed none takes so =
         within = body.within;
         size_is = took.size_is;
         chunk = took.chunk;
-        summary = subst (λ (ps : List Piece). StandsFor after.summary (noted_of at (history ++ r ∷ []) ps)) (sym took.closes) took.summary;
+        summary = subst (λ (ps : List Piece). SummaryStandsFor after.summary (noted_of at (history ++ r ∷ []) ps)) (sym took.closes) took.summary;
       };
       closes = took.closes;
     }
@@ -107,30 +107,30 @@ next_some size at history r b after blocks bytes closed blk t some takes notes s
     let took : BodyTakes size at history r (Some blk) after = subst (λ (x : Option Block). BodyTakes size at history r x after) some (takes size at history body) in
     let ps = (cuts (Some size) history).pieces in
     let records = (cuts (Some size) history).waiting ++ r ∷ [] in
-    let noted : StandsFor t (noted_of at (history ++ r ∷ []) (ps ++ block records ∷ [])) =
-    subst (λ (n : Noted). StandsFor t n) (noted_block at bytes (history ++ r ∷ []) records ps so.bytes_are) (notes records took.closes.1 (noted_of at (history ++ r ∷ []) ps) took.summary) in
+    let noted : SummaryStandsFor t (noted_of at (history ++ r ∷ []) (ps ++ block records ∷ [])) =
+    subst (λ (n : Noted). SummaryStandsFor t n) (noted_block at bytes (history ++ r ∷ []) records ps so.bytes_are) (notes records took.closes.1 (noted_of at (history ++ r ∷ []) ps) took.summary) in
     record {
       body = record {
         some = body.some;
         within = body.within;
         size_is = took.size_is;
         chunk = took.chunk;
-        summary = subst (λ (l : List Piece). StandsFor t (noted_of at (history ++ r ∷ []) l)) (sym took.closes.0) noted;
+        summary = subst (λ (l : List Piece). SummaryStandsFor t (noted_of at (history ++ r ∷ []) l)) (sym took.closes.0) noted;
       };
       closes = (records, took.closes.0, took.closes.1);
     }
 
-passes_by : (blocks bytes len : ℕ) (records : List Rec) → len ≡ length (block_bytes records) → (Holds (blocks + 1) (bytes + len) → ⊥) → Passes blocks bytes (block records)
+passes_by : (blocks bytes len : ℕ) (records : List Rec) → len ≡ length (block_bytes records) → (Holds (blocks + 1) (bytes + len) → ⊥) → PiecePasses blocks bytes (block records)
 passes_by blocks bytes len records is passes = λ holds. passes (record { few = holds.few; small = subst (λ (n : ℕ). bytes + n ≤ 1099511627776) (sym is) holds.small })
 
-stopped_by : (size : Option ℕ) (history : List Rec) (r : Rec) (blocks bytes len : ℕ) (records : List Rec) (stop : Stop) → Closes size history r (block records) → len ≡ length (block_bytes records)
-    → Kept {X = Unit} blocks bytes (blocks + 1) (bytes + len) (Err stop) → PutStopped size history r blocks bytes stop
+stopped_by : (size : Option ℕ) (history : List Rec) (r : Rec) (blocks bytes len : ℕ) (records : List Rec) (stop : Stop) → ClosesPiece size history r (block records) → len ≡ length (block_bytes records)
+    → HoldsOrStops {X = Unit} blocks bytes (blocks + 1) (bytes + len) (Err stop) → PutStopped size history r blocks bytes stop
 stopped_by size history r blocks bytes len records (stops.Fault faults) closes is kept = absurd kept
 stopped_by size history r blocks bytes len records (stops.Limit b n) closes is kept = (block records, closes, kept.0, kept.1, passes_by blocks bytes len records is kept.2)
 stopped_by size history r blocks bytes len records stops.Memory closes is kept = tt
 
 pub next_err : (size at : ℕ) (history : List Rec) (r : Rec) (b after : Body) (blocks bytes : ℕ) (closed : Option Block) (blk : Block) (stop : Stop) → closed ≡ Some blk → TakesIt b r closed after
-    → Kept {X = Unit} blocks bytes (blocks + 1) (bytes + length blk.bytes) (Err stop) → StandsSo size at history b blocks bytes → PutStopped (Some size) history r blocks bytes stop
+    → HoldsOrStops {X = Unit} blocks bytes (blocks + 1) (bytes + length blk.bytes) (Err stop) → StandsSo size at history b blocks bytes → PutStopped (Some size) history r blocks bytes stop
 next_err size at history r b after blocks bytes closed blk stop some takes kept so =
     let took : BodyTakes size at history r (Some blk) after = subst (λ (x : Option Block). BodyTakes size at history r x after) some (takes size at history so.body) in
     let built = took.closes.1 in
@@ -154,7 +154,7 @@ last_none size at history b after blocks bytes last none takes so =
     let ps = (cuts (Some size) history).pieces in
     record {
       last_block = took.last_block;
-      summary = subst (λ (l : List Piece). StandsFor after.summary (noted_of at history l)) (sym (append-nil ps) ∙ ap (λ (l : List Piece). ps ++ l) (sym took.last_block)) took.summary;
+      summary = subst (λ (l : List Piece). SummaryStandsFor after.summary (noted_of at history l)) (sym (append-nil ps) ∙ ap (λ (l : List Piece). ps ++ l) (sym took.last_block)) took.summary;
     }
 
 pub last_some : (size at : ℕ) (history : List Rec) (b after : Body) (blocks bytes : ℕ) (last : Option Block) (blk : Block) (t : Tally) → last ≡ Some blk → TakesLastOf b last after
@@ -163,21 +163,21 @@ last_some size at history b after blocks bytes last blk t some takes notes so =
     let took : TakesLast size at history (Some blk) after = subst (λ (x : Option Block). TakesLast size at history x after) some (takes size at history so.body) in
     let ps = (cuts (Some size) history).pieces in
     let records = (cuts (Some size) history).waiting in
-    let noted : StandsFor t (noted_of at history (ps ++ block records ∷ [])) =
-    subst (λ (n : Noted). StandsFor t n) (noted_block at bytes history records ps so.bytes_are) (notes records took.last_block.1 (noted_of at history ps) took.summary) in
+    let noted : SummaryStandsFor t (noted_of at history (ps ++ block records ∷ [])) =
+    subst (λ (n : Noted). SummaryStandsFor t n) (noted_block at bytes history records ps so.bytes_are) (notes records took.last_block.1 (noted_of at history ps) took.summary) in
     record {
       last_block = took.last_block;
-      summary = subst (λ (l : List Piece). StandsFor t (noted_of at history (ps ++ l))) (sym took.last_block.0) noted;
+      summary = subst (λ (l : List Piece). SummaryStandsFor t (noted_of at history (ps ++ l))) (sym took.last_block.0) noted;
     }
 
 last_by : (size : Option ℕ) (history : List Rec) (blocks bytes len : ℕ) (records : List Rec) (stop : Stop) → last_piece (cuts size history).waiting ≡ block records ∷ [] → len ≡ length (block_bytes records)
-    → Kept {X = Unit} blocks bytes (blocks + 1) (bytes + len) (Err stop) → LastStopped size history blocks bytes stop
+    → HoldsOrStops {X = Unit} blocks bytes (blocks + 1) (bytes + len) (Err stop) → LastStopped size history blocks bytes stop
 last_by size history blocks bytes len records (stops.Fault faults) last is kept = absurd kept
 last_by size history blocks bytes len records (stops.Limit b n) last is kept = (block records, last, kept.0, kept.1, passes_by blocks bytes len records is kept.2)
 last_by size history blocks bytes len records stops.Memory last is kept = tt
 
 pub last_err : (size at : ℕ) (history : List Rec) (b after : Body) (blocks bytes : ℕ) (last : Option Block) (blk : Block) (stop : Stop) → last ≡ Some blk → TakesLastOf b last after
-    → Kept {X = Unit} blocks bytes (blocks + 1) (bytes + length blk.bytes) (Err stop) → StandsSo size at history b blocks bytes → LastStopped (Some size) history blocks bytes stop
+    → HoldsOrStops {X = Unit} blocks bytes (blocks + 1) (bytes + length blk.bytes) (Err stop) → StandsSo size at history b blocks bytes → LastStopped (Some size) history blocks bytes stop
 last_err size at history b after blocks bytes last blk stop some takes kept so =
     let took : TakesLast size at history (Some blk) after = subst (λ (x : Option Block). TakesLast size at history x after) some (takes size at history so.body) in
     let built = took.last_block.1 in
@@ -191,7 +191,7 @@ built_last size at history b after blocks bytes last blk some takes so =
 
 -- ---- faults
 
-pub no_fault : (blocks bytes with_blocks with_bytes : ℕ) (stop : Stop) → Kept {X = Unit} blocks bytes with_blocks with_bytes (Err stop) → IsNoFault stop
+pub no_fault : (blocks bytes with_blocks with_bytes : ℕ) (stop : Stop) → HoldsOrStops {X = Unit} blocks bytes with_blocks with_bytes (Err stop) → IsNoFault stop
 no_fault blocks bytes with_blocks with_bytes (stops.Fault faults) kept = absurd kept
 no_fault blocks bytes with_blocks with_bytes (stops.Limit b n) kept = tt
 no_fault blocks bytes with_blocks with_bytes stops.Memory kept = tt

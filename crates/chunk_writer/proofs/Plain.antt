@@ -26,7 +26,7 @@ use Rattle.chunk_writer.specs.Bodies.{BodyFor}
 use Rattle.chunk_writer.specs.Planning.{Planning}
 use Rattle.chunk_writer.specs.Plans.{Plans, counted_on, StoppedBefore}
 use Rattle.chunk_writer.specs.Stops.{Cause, Added, refusal}
-use Rattle.chunk_writer.specs.Buffered.{framed_each, RefusedAt}
+use Rattle.chunk_writer.specs.Buffered.{framed_each, AppendRefusedAt}
 use Rattle.chunk_writer.specs.Scribes.{ScribeStands, KeepsOn, GivesEntries, PutsFront, sure_blocks}
 use Rattle.mcap_io.proofs.Calls.{adds-adds}
 use Rattle.record_cache.proofs.Apart.{framed_bytes}
@@ -128,7 +128,7 @@ whole_front seen options opened held history records p bytes len is going same l
       before = tt;
     }
 
-pub stopped_front : {X : Type 0} (seen : SeenExtents X) (options : FileOptions) (opened held now : Option (List ℕ)) (history records : List Rec) (p : Planning) (bytes at : ℕ) (stop : Stop) → p.body ≡ None → p.phase ≡ phases.Going → bytes ≡ p.bytes + at → RefusedAt held now records at stop
+pub stopped_front : {X : Type 0} (seen : SeenExtents X) (options : FileOptions) (opened held now : Option (List ℕ)) (history records : List Rec) (p : Planning) (bytes at : ℕ) (stop : Stop) → p.body ≡ None → p.phase ≡ phases.Going → bytes ≡ p.bytes + at → AppendRefusedAt held now records at stop
     → ScribeStands options opened held history p → PutsFront seen options history records [] bytes (Err stop)
 stopped_front seen options opened held now history records p bytes at stop is going same cut stands =
     let plans = (stands.going going).0 in
@@ -144,7 +144,7 @@ stopped_front seen options opened held now history records p bytes at stop is go
 
 -- ---- where an append was refused
 
-pub plain_refused : (options : FileOptions) (opened held now : Option (List ℕ)) (history records : List Rec) (p after : Planning) (at : ℕ) (stop : Stop) → p.body ≡ None → p.phase ≡ phases.Going → RefusedAt held now records at stop
+pub plain_refused : (options : FileOptions) (opened held now : Option (List ℕ)) (history records : List Rec) (p after : Planning) (at : ℕ) (stop : Stop) → p.body ≡ None → p.phase ≡ phases.Going → AppendRefusedAt held now records at stop
     → Holds p.blocks (p.bytes + length (history_bytes records)) → StoppedBefore p.blocks (p.bytes + at) stop after → ScribeStands options opened held history p → ScribeStands options opened now (history ++ records) after
 plain_refused options opened held now history records p after at stop is going cut holds before stands =
     let one = rec_bytes cut.rec in
@@ -168,7 +168,7 @@ plain_refused options opened held now history records p after at stop is going c
     subst (λ (l : List Rec). ScribeStands options opened now l after) all (stopped_on options opened now ((history ++ cut.before) ++ cut.rec ∷ []) cut.behind after stop before.phase stopped)
 
 -- it begins within the bytes of all
-pub refused_within : (held now : Option (List ℕ)) (records : List Rec) (at : ℕ) (stop : Stop) → RefusedAt held now records at stop → at ≤ length (history_bytes records)
+pub refused_within : (held now : Option (List ℕ)) (records : List Rec) (at : ℕ) (stop : Stop) → AppendRefusedAt held now records at stop → at ≤ length (history_bytes records)
 refused_within held now records at stop cut =
     let place = cut.place in
     let sizes = ap (λ (l : List ℕ). length l) (ap history_bytes cut.cut ∙ flat_map-append rec_bytes cut.before (cut.rec ∷ cut.behind)) in
@@ -179,12 +179,12 @@ added_keeps held now piece (stops.Fault faults) added = λ before told. let part
 added_keeps held now piece (stops.Limit b n) added = absurd added
 added_keeps held now piece stops.Memory added = λ before told. ([], added ∙ told ∙ ap Some (sym (append-nil before)))
 
-pub refused_keeps : (held now : Option (List ℕ)) (records : List Rec) (at : ℕ) (stop : Stop) → RefusedAt held now records at stop → KeepsOn held now
+pub refused_keeps : (held now : Option (List ℕ)) (records : List Rec) (at : ℕ) (stop : Stop) → AppendRefusedAt held now records at stop → KeepsOn held now
 refused_keeps held now records at stop cut = keeps_more held cut.between now (λ before told. (history_bytes cut.before, cut.front before told)) (added_keeps cut.between now (rec_bytes cut.rec) stop cut.added)
 
 -- ---- what the store answered
 
-pub each_refused : (old new : Option (List ℕ)) (records : List Rec) (refused : EachRefused) (faults : ℕ) (stop : Stop) → EachLeaves old new (framed_each records) refused → stop ≡ refusal faults refused.why → RefusedAt old new records refused.whole stop
+pub each_refused : (old new : Option (List ℕ)) (records : List Rec) (refused : EachRefused) (faults : ℕ) (stop : Stop) → EachLeaves old new (framed_each records) refused → stop ≡ refusal faults refused.why → AppendRefusedAt old new records refused.whole stop
 each_refused old new records refused faults stop leaves same =
     let it = uncut records leaves.at.before leaves.at.piece leaves.at.behind leaves.at.cut in
     let mid : LiveState = record { held = leaves.between; faults = 0; waiting = 0 } in

@@ -19,9 +19,9 @@ use Rattle.chunk_writer.specs.declared.body.Body.{Body}
 use Rattle.chunk_writer.specs.declared.phase.Phase.{Phase}
 use Rattle.chunk_writer.specs.declared.next.Next.TheVariants as nexts
 use Rattle.chunk_writer.specs.Limits.{Holds, LimitKept}
-use Rattle.chunk_writer.specs.Bodies.{noted_of, IsBody, StandsSo, Closes, ClosesBlock, NextBlock, LastBlock, BodyFor, SummaryFor}
+use Rattle.chunk_writer.specs.Bodies.{noted_of, IsBody, StandsSo, ClosesPiece, ClosesBlock, NextBlock, LastBlock, BodyFor, SummaryFor}
 use Rattle.chunk_writer.specs.Planning.{Planning}
-use Rattle.chunk_writer.specs.Plans.{Plans, IsPlanned, PutStopped, IsLast, LastStopped}
+use Rattle.chunk_writer.specs.Plans.{Plans, IsPlanned, PutStopped, IsLastBlock, LastStopped}
 use Rattle.chunk_writer.proofs.Cuts.{cuts_more, bytes_behind, none_waits}
 use Rattle.chunk_writer.proofs.Noting.{blocks_more}
 
@@ -86,7 +86,7 @@ plans_waits options history r p b after closed phase none is plans next =
     }
 
 -- the numbers with a piece more
-more_blocks : (chunk : Option ℕ) (history : List Rec) (r : Rec) (piece : Piece) (blocks : ℕ) → Closes chunk history r piece → blocks ≡ length (blocks_in (cuts chunk history).pieces)
+more_blocks : (chunk : Option ℕ) (history : List Rec) (r : Rec) (piece : Piece) (blocks : ℕ) → ClosesPiece chunk history r piece → blocks ≡ length (blocks_in (cuts chunk history).pieces)
     → blocks + length (blocks_in (piece ∷ [])) ≡ length (blocks_in (cuts chunk (history ++ r ∷ [])).pieces)
 more_blocks chunk history r piece blocks closes is =
     ap (λ (n : ℕ). n + length (blocks_in (piece ∷ []))) is ∙ sym (blocks_more (cuts chunk history).pieces piece) ∙ ap (λ (l : List Piece). length (blocks_in l)) (sym closes)
@@ -105,7 +105,7 @@ plans_block options history r p b after closed blk phase len some is size_is pla
     let (size, chunk, so) = has_size options history p b is plans in
     let nb : NextBlock size (length (front options.profile)) history r (Some blk) after =
     subst (λ (x : Option Block). NextBlock size (length (front options.profile)) history r x after) some (next size (length (front options.profile)) history so) in
-    let (records, closes, built) : (records : List Rec) × Closes options.chunk history r (block records) × IsBlock blk records =
+    let (records, closes, built) : (records : List Rec) × ClosesPiece options.chunk history r (block records) × IsBlock blk records =
     subst (λ (s : Option ℕ). ClosesBlock s history r (Some blk)) (sym chunk) nb.closes in
     record {
       stands = record {
@@ -117,11 +117,11 @@ plans_block options history r p b after closed blk phase len some is size_is pla
       next_is = (records, closes, built);
     }
 
-closes_alone : (history : List Rec) (r : Rec) → Closes None history r (alone r)
+closes_alone : (history : List Rec) (r : Rec) → ClosesPiece None history r (alone r)
 closes_alone history r = ap (λ (c : Cuts). c.pieces) (cuts_more None history r)
 
-pub closes_record : (options : FileOptions) (history : List Rec) (r : Rec) (p : Planning) → p.body ≡ None → Plans options history p → Closes options.chunk history r (alone r)
-closes_record options history r p is plans = subst (λ (s : Option ℕ). Closes s history r (alone r)) (sym (has_none options history p is plans)) (closes_alone history r)
+pub closes_record : (options : FileOptions) (history : List Rec) (r : Rec) (p : Planning) → p.body ≡ None → Plans options history p → ClosesPiece options.chunk history r (alone r)
+closes_record options history r p is plans = subst (λ (s : Option ℕ). ClosesPiece s history r (alone r)) (sym (has_none options history p is plans)) (closes_alone history r)
 
 pub plans_record : (options : FileOptions) (history : List Rec) (r : Rec) (p : Planning) (piece : List ℕ) (phase : Phase) (len : ℕ) → p.body ≡ None → len ≡ length piece → piece ≡ rec_bytes r → Plans options history p
     → IsPlanned options history r nexts.Record (record { body = p.body; blocks = p.blocks; bytes = p.bytes + len; phase = phase })
@@ -162,7 +162,7 @@ whole_some size history piece last = ap (λ (l : List Piece). (cuts size history
 
 is_last_none : (options : FileOptions) (history : List Rec) (p : Planning) (body : Option Body) (phase : Phase) → last_piece (cuts options.chunk history).waiting ≡ [] → Plans options history p
     → SummaryFor options.chunk (noted_of (length (front options.profile)) history (pieces_of options.chunk history)) body
-    → IsLast options history None (record { body = body; blocks = p.blocks; bytes = p.bytes; phase = phase })
+    → IsLastBlock options history None (record { body = body; blocks = p.blocks; bytes = p.bytes; phase = phase })
 is_last_none options history p body phase none plans stands =
     let same = whole_none options.chunk history none in
     record {
@@ -175,7 +175,7 @@ is_last_none options history p body phase none plans stands =
     }
 
 pub ended_plain : (options : FileOptions) (history : List Rec) (p : Planning) (phase : Phase) → p.body ≡ None → Plans options history p
-    → IsLast options history None (record { body = p.body; blocks = p.blocks; bytes = p.bytes; phase = phase })
+    → IsLastBlock options history None (record { body = p.body; blocks = p.blocks; bytes = p.bytes; phase = phase })
 ended_plain options history p phase is plans =
     let none = has_none options history p is plans in
     let waits : (cuts options.chunk history).waiting ≡ [] = ap (λ (s : Option ℕ). (cuts s history).waiting) none ∙ none_waits history in
@@ -185,7 +185,7 @@ ended_plain options history p phase is plans =
 
 pub ended_waits : (options : FileOptions) (history : List Rec) (p : Planning) (b after : Body) (last : Option Block) (phase : Phase) → last ≡ None → p.body ≡ Some b → Plans options history p
     → ((size at : ℕ) (h : List Rec) → StandsSo size at h b p.blocks p.bytes → LastBlock size at h last after)
-    → IsLast options history None (record { body = Some after; blocks = p.blocks; bytes = p.bytes; phase = phase })
+    → IsLastBlock options history None (record { body = Some after; blocks = p.blocks; bytes = p.bytes; phase = phase })
 ended_waits options history p b after last phase none is plans ends =
     let (size, chunk, so) = has_size options history p b is plans in
     let at = length (front options.profile) in
@@ -195,7 +195,7 @@ ended_waits options history p b after last phase none is plans ends =
 
 pub ended_block : (options : FileOptions) (history : List Rec) (p : Planning) (b after : Body) (last : Option Block) (blk : Block) (phase : Phase) (len : ℕ) → last ≡ Some blk → p.body ≡ Some b → len ≡ length blk.bytes → Plans options history p
     → ((size at : ℕ) (h : List Rec) → StandsSo size at h b p.blocks p.bytes → LastBlock size at h last after)
-    → IsLast options history (Some blk) (record { body = Some after; blocks = p.blocks + 1; bytes = p.bytes + len; phase = phase })
+    → IsLastBlock options history (Some blk) (record { body = Some after; blocks = p.blocks + 1; bytes = p.bytes + len; phase = phase })
 ended_block options history p b after last blk phase len some is size_is plans ends =
     let (size, chunk, so) = has_size options history p b is plans in
     let at = length (front options.profile) in

@@ -18,7 +18,7 @@ use Rattle.mcap_model.specs.Blocks.{Piece, cuts, last_piece, pieces_of, piece_by
 use Rattle.mcap_model.specs.File.{front, section, written_of}
 use Rattle.mcap_model.specs.Pieces.{joined, back_of, file_pieces, pieces_before}
 use Rattle.chunk_writer.specs.Limits.{Holds, StopWhy, IsNoFault}
-use Rattle.chunk_writer.specs.Bodies.{Closes}
+use Rattle.chunk_writer.specs.Bodies.{ClosesPiece}
 use Rattle.chunk_writer.specs.Plans.{PutStopped, LastStopped, ExtraStopped, BackStopped}
 use Rattle.chunk_writer.specs.Stops.{numbers, blocks_among, StopsAt, Cause, Appends, Added, refusal}
 use Rattle.chunk_writer.proofs.Cuts.{pieces_grow, closed_grow}
@@ -176,7 +176,7 @@ put_refused options extras opened held history r stops.Memory blocks bytes behin
     (stops_at options extras (history ++ r ∷ behind) opened held held (cuts options.chunk history).pieces rest stops.Memory blocks bytes is adds (left_none held held (next_of rest (tail_of options extras (history ++ r ∷ behind))) stops.Memory refl) many long tt)
 
 pub append_refused : (options : FileOptions) (extras : List Top) (opened held now : Option (List ℕ)) (history : List Rec) (r : Rec) (piece : Piece) (stop : Stop) (blocks bytes : ℕ) (behind : List Rec) → Holding options opened held history blocks bytes
-    → Closes options.chunk history r piece → Holds (blocks + length (blocks_in (piece ∷ []))) (bytes + length (piece_bytes piece)) → Added held now (piece_bytes piece) (Err stop)
+    → ClosesPiece options.chunk history r piece → Holds (blocks + length (blocks_in (piece ∷ []))) (bytes + length (piece_bytes piece)) → Added held now (piece_bytes piece) (Err stop)
     → StopsAt options extras ((history ++ r ∷ []) ++ behind) opened now stop (numbers blocks bytes)
 append_refused options extras opened held now history r piece stop blocks bytes behind (adds, many, long) closes holds added =
     let (rest, is) = closed_grow options.chunk history r piece behind closes in

@@ -25,7 +25,7 @@ use Rattle.chunk_writer.specs.Limits.{Holds}
 use Rattle.chunk_writer.specs.Planning.{Planning}
 use Rattle.chunk_writer.specs.Plans.{StoppedBefore}
 use Rattle.chunk_writer.specs.Stops.{numbers, StopsBehind}
-use Rattle.chunk_writer.specs.Scribes.{ScribeStands, Writes, Grows, OfEach, KeepsOn, ListsEntry, GivesEntries, PutsFront, grows_on}
+use Rattle.chunk_writer.specs.Scribes.{ScribeStands, WritesHistory, ScribeGrows, OfEach, KeepsOn, ListsEntry, GivesEntries, PutsFront, grows_on}
 use Rattle.chunk_writer.specs.Tapes.{no_entries}
 use Rattle.chunk_writer.proofs.Entries.{seen_later, entries_more}
 use Rattle.chunk_writer.proofs.Writing.{going_apart, add_refused, holding, plans_begun, stands_stopped}
@@ -72,7 +72,7 @@ pub record Partway {L X : Type 0} (state : L → LiveState) (seen : SeenExtents 
   pub still : (state now.store).faults ≡ (state before.store).faults
   pub keeps : KeepsOn (state before.store).held (state now.store).held
   pub counted : now.plan.blocks ≡ before.plan.blocks + length entries
-  pub grows : Grows state before now (take count records)
+  pub grows : ScribeGrows state before now (take count records)
   pub gives : OfEach state before (λ options history. GivesEntries seen options history (take count records) entries)
 
 pub begun : {L X : Type 0} (state : L → LiveState) (seen : SeenExtents X) (before : Scribe L) (records : List Rec) (entries : List (Entry X)) → before.plan.phase ≡ phases.Going → Holds before.plan.blocks before.plan.bytes → entries ≡ []
@@ -86,7 +86,7 @@ begun state seen before records entries going holds none = record {
   still = refl;
   keeps = λ held is. ([], is ∙ ap Some (sym (append-nil held)));
   counted = let size = ap (λ (l : List (Entry _)). length l) none in omega (arith, size);
-  grows = λ options extras opened history writes. subst (λ (l : List Rec). Writes state options extras opened l before) (sym (append-nil history)) writes;
+  grows = λ options extras opened history writes. subst (λ (l : List Rec). WritesHistory state options extras opened l before) (sym (append-nil history)) writes;
   gives = λ options extras opened history writes. subst (λ (l : List (Entry _)). GivesEntries seen options history [] l) (sym none) (no_entries seen options history);
 }
 
@@ -139,7 +139,7 @@ keeps_more old mid new first second = λ held is.
 
 -- one record more was put
 pub step : {L X : Type 0} (state : L → LiveState) (seen : SeenExtents X) (before now after : Scribe L) (records : List Rec) (at next : ℕ) (framed : List ℕ) (entries more : List (Entry X)) → seen.held ≡ (state before.store).held → All IsKept records
-    → Partway state seen before now records at entries → at < length (history_bytes records) → RecordAt records at framed next → ((r : Rec) → AreFramed framed r → Grows state now after (r ∷ []))
+    → Partway state seen before now records at entries → at < length (history_bytes records) → RecordAt records at framed next → ((r : Rec) → AreFramed framed r → ScribeGrows state now after (r ∷ []))
     → ListsEntry state (seen_later seen (state now.store)) now framed entries more → after.plan.blocks + length entries ≡ now.plan.blocks + length more → KeepsOn (state now.store).held (state after.store).held
     → after.plan.phase ≡ phases.Going → Holds after.plan.blocks after.plan.bytes → (state after.store).faults ≡ (state now.store).faults → Partway state seen before after records next more
 step state seen before now after records at next framed entries more same kept way less found grows lists counts keeps going holds still =
@@ -156,7 +156,7 @@ step state seen before now after records at next framed entries more same kept w
       still = still ∙ way.still;
       keeps = keeps_more (state before.store).held (state now.store).held (state after.store).held way.keeps keeps;
       counted = omega (arith, counts, old);
-      grows = subst (λ (l : List Rec). Grows state before after l) (sym one.more) (grows_on state before now after (take way.count records) (one.rec ∷ []) way.grows (grows one.rec one.framed_is));
+      grows = subst (λ (l : List Rec). ScribeGrows state before after l) (sym one.more) (grows_on state before now after (take way.count records) (one.rec ∷ []) way.grows (grows one.rec one.framed_is));
       gives = λ options extras opened history writes.
           subst (λ (l : List Rec). GivesEntries seen options history l more) (sym one.more)
           (entries_more seen (state now.store) options history (take way.count records) one.rec entries more lists.given held (way.gives options extras opened history writes) lists.listed
@@ -166,10 +166,10 @@ step state seen before now after records at next framed entries more same kept w
 -- ---- the end of the walk
 
 pub all_grows : {L X : Type 0} (state : L → LiveState) (seen : SeenExtents X) (before now : Scribe L) (records : List Rec) (at : ℕ) (entries : List (Entry X)) → Partway state seen before now records at entries → (at < length (history_bytes records) → ⊥)
-    → Grows state before now records
+    → ScribeGrows state before now records
 all_grows state seen before now records at entries way none =
     let all = all_put records at way.count way.within way.place none in
-    subst (λ (l : List Rec). Grows state before now l) (take_all way.count records (omega (arith, all))) way.grows
+    subst (λ (l : List Rec). ScribeGrows state before now l) (take_all way.count records (omega (arith, all))) way.grows
 
 -- all records were put
 pub all_front : {L X : Type 0} (state : L → LiveState) (seen : SeenExtents X) (before now : Scribe L) (records : List Rec) (at : ℕ) (entries : List (Entry X)) → Partway state seen before now records at entries → (at < length (history_bytes records) → ⊥)
@@ -200,7 +200,7 @@ front_stopped state seen before now records at entries more bytes stop way less 
 }
 
 pub stopped_grows : {L X : Type 0} (state : L → LiveState) (seen : SeenExtents X) (before now after : Scribe L) (records : List Rec) (at next : ℕ) (framed : List ℕ) (entries : List (Entry X)) (stop : Stop) → All IsKept records → Partway state seen before now records at entries
-    → at < length (history_bytes records) → RecordAt records at framed next → ((r : Rec) → AreFramed framed r → Grows state now after (r ∷ [])) → after.plan.phase ≡ phases.Stopped stop → Grows state before after records
+    → at < length (history_bytes records) → RecordAt records at framed next → ((r : Rec) → AreFramed framed r → ScribeGrows state now after (r ∷ [])) → after.plan.phase ≡ phases.Stopped stop → ScribeGrows state before after records
 stopped_grows state seen before now after records at next framed entries stop kept way less found grows stopped options extras opened history writes =
     let below = some_left records at way.count way.within way.place less in
     let one = next_of records at next way.count framed kept below way.place found in
@@ -211,7 +211,7 @@ stopped_grows state seen before now after records at next framed entries stop ke
     ap (λ (l : List Rec). l ++ rest) (append_assoc history (take way.count records) (one.rec ∷ []) ∙ ap (λ (l : List Rec). history ++ l) (sym one.more))
     ∙ append_assoc history (take (suc way.count) records) rest
     ∙ ap (λ (l : List Rec). history ++ l) (take-append-drop (suc way.count) records) in
-    subst (λ (l : List Rec). Writes state options extras opened l after) whole
+    subst (λ (l : List Rec). WritesHistory state options extras opened l after) whole
     (stopped_on options opened.held (state after.store).held ((history ++ take way.count records) ++ one.rec ∷ []) rest after.plan stop stopped put.0, put.1, put.2)
 
 -- the same front, told by other names

@@ -13,7 +13,7 @@ use Rattle.chunk_writer.specs.declared.phase.Phase.{Phase}
 use Rattle.chunk_writer.specs.declared.phase.Phase.TheVariants as phases
 use Rattle.chunk_writer.specs.declared.scribe.Scribe.{Scribe}
 use Rattle.chunk_writer.specs.Stops.{numbers, Cause, StopsBehind}
-use Rattle.chunk_writer.specs.Scribes.{Grows, OfEach, KeepsOn, PutsFront, GoesThrough, store_of, phase_of, bytes_of}
+use Rattle.chunk_writer.specs.Scribes.{ScribeGrows, OfEach, KeepsOn, PutsFront, GoesThrough, store_of, phase_of, planned_bytes}
 use Rattle.chunk_writer.specs.Tapes.{EndsFor, KeepsCause, IsLeft, PutsFirst, seen_store, TakesOn, MeetsLimit}
 use Rattle.chunk_writer.proofs.Writing.{going_apart}
 
@@ -43,7 +43,7 @@ first_so seen options history records entries bytes phase end it left = record {
 
 module _ {L X : Type 0} (state : L → LiveState) (tells : X → Option (List ℕ)) (size : X → ℕ) (old new : Scribe L) (records : List Rec) (entries : List (Entry X)) where
   left_so : (options : FileOptions) (history : List Rec) (end : Result Unit Stop) → OnOk end ((phase_of old ≡ phases.Going) × (phase_of new ≡ phases.Going)) → IfErr end (λ stop. phase_of new ≡ phases.Stopped stop)
-      → (it : PutsFront (seen_before tells size (state (store_of old))) options history records entries (bytes_of new) end) → IsLeft (phase_of new) (drop it.count records)
+      → (it : PutsFront (seen_before tells size (state (store_of old))) options history records entries (planned_bytes new) end) → IsLeft (phase_of new) (drop it.count records)
   left_so options history (Ok done) on stopped it =
       let none : drop it.count records ≡ [] = subst (λ (n : ℕ). drop n records ≡ []) (sym it.all) (drop_all records) in
       subst (λ (p : Phase). IsLeft p (drop it.count records)) (sym on.1) none
@@ -60,8 +60,8 @@ module _ {L X : Type 0} (state : L → LiveState) (tells : X → Option (List �
   through_so (Ok done) stopped through = λ options extras opened history writes going none. (through options extras opened history writes).still none
   through_so (Err stop) stopped through = λ options extras opened history writes going none. absurd (going_apart (phase_of new) stop stopped going)
 
-  pub takes : (end : Result Unit Stop) → Grows state old new records
-      → (phase_of old ≡ phases.Going → OfEach state old (λ options history. PutsFront (seen_before tells size (state (store_of old))) options history records entries (bytes_of new) end))
+  pub takes : (end : Result Unit Stop) → ScribeGrows state old new records
+      → (phase_of old ≡ phases.Going → OfEach state old (λ options history. PutsFront (seen_before tells size (state (store_of old))) options history records entries (planned_bytes new) end))
       → KeepsOn (state (store_of old)).held (state (store_of new)).held
       → OnOk end ((phase_of old ≡ phases.Going) × (phase_of new ≡ phases.Going)) → IfErr end (λ stop. phase_of new ≡ phases.Stopped stop)
       → OnOk end (OfEach state old (λ options history. GoesThrough options records (state (store_of old)).waiting (state (store_of new)).waiting))
@@ -71,7 +71,7 @@ module _ {L X : Type 0} (state : L → LiveState) (tells : X → Option (List �
     grown = grows;
     front = λ going options extras opened history writes.
         let it = front going options extras opened history writes in
-        first_so (seen_before tells size (state (store_of old))) options history records entries (bytes_of new) (phase_of new) end it (left_so options history end on stopped it);
+        first_so (seen_before tells size (state (store_of old))) options history records entries (planned_bytes new) (phase_of new) end it (left_so options history end on stopped it);
     keeps = keeps;
     through = through_so end stopped through;
     cause = λ going. cause_so end on stopped (cause going);

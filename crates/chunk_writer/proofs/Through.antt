@@ -16,7 +16,7 @@ use Rattle.chunk_writer.specs.Limits.{Holds}
 use Rattle.chunk_writer.specs.Bodies.{BodyFor}
 use Rattle.chunk_writer.specs.Planning.{Planning}
 use Rattle.chunk_writer.specs.Plans.{Plans}
-use Rattle.chunk_writer.specs.Scribes.{ScribeStands, AreThrough, Writes, Grows, GoesThrough}
+use Rattle.chunk_writer.specs.Scribes.{ScribeStands, AreThrough, WritesHistory, ScribeGrows, GoesThrough}
 use Rattle.chunk_writer.proofs.Planned.{has_none}
 use Rattle.chunk_writer.proofs.Plain.{past_limit}
 use Rattle.chunk_writer.proofs.Writing.{going_apart}
@@ -61,7 +61,7 @@ each_zero None waiting some none = absurd (none refl)
 each_zero (Some size) waiting some none = some refl
 
 -- they were put one by one, since there are chunks or a file may not hold them all
-pub goes_each : {L : Type 0} (state : L → LiveState) (options : FileOptions) (extras : List Top) (opened : LiveState) (history records : List Rec) (old new : Scribe L) → Writes state options extras opened history old → Grows state old new records
+pub goes_each : {L : Type 0} (state : L → LiveState) (options : FileOptions) (extras : List Top) (opened : LiveState) (history records : List Rec) (old new : Scribe L) → WritesHistory state options extras opened history old → ScribeGrows state old new records
     → old.plan.phase ≡ phases.Going → new.plan.phase ≡ phases.Going → Holds new.plan.blocks new.plan.bytes → (old.plan.body ≡ None → file_limit < old.plan.bytes + length (history_bytes records))
     → GoesThrough options records (state old.store).waiting (state new.store).waiting
 goes_each state options extras opened history records old new writes grows going on holds past =

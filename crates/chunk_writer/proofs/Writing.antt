@@ -14,17 +14,17 @@ use Rattle.mcap_model.specs.Tops.{Top, top_bytes, spelled}
 use Rattle.mcap_model.specs.File.{front, data_end, section, noted, tail_by, written_of, file_of}
 use Rattle.mcap_model.specs.Pieces.{back_of}
 use Rattle.live_entry.specs.declared.entry.Entry.{Entry}
-use Rattle.live_entry.specs.Entries.{SeenExtents, IsEntryOf, TellsPiece}
+use Rattle.live_entry.specs.Entries.{SeenExtents, HasBlockExtent, TellsPiece}
 use Rattle.chunk_writer.specs.declared.phase.Phase.{Phase}
 use Rattle.chunk_writer.specs.declared.phase.Phase.TheVariants as phases
 use Rattle.chunk_writer.specs.declared.next.Next.{Next}
 use Rattle.chunk_writer.specs.declared.next.Next.TheVariants as nexts
 use Rattle.chunk_writer.specs.Limits.{Holds}
-use Rattle.chunk_writer.specs.Bodies.{Closes}
+use Rattle.chunk_writer.specs.Bodies.{ClosesPiece}
 use Rattle.chunk_writer.specs.Planning.{Planning}
-use Rattle.chunk_writer.specs.Plans.{Plans, IsPlanned, IsNext, PutStopped, HoldsBlock, HoldsNext, StoppedBefore, IsFilled, IsLast, LastStopped, ExtraStopped, BackStopped}
+use Rattle.chunk_writer.specs.Plans.{Plans, IsPlanned, IsToAppend, PutStopped, HoldsBlock, HoldsNext, StoppedBefore, IsFilled, IsLastBlock, LastStopped, ExtraStopped, BackStopped}
 use Rattle.chunk_writer.specs.Stops.{numbers, StopsAt, StopsBehind, Added}
-use Rattle.chunk_writer.specs.Scribes.{ScribeStands, AreWaiting, IsEntryWith, AddsLast, Fills, Ends, GivesEntry, GivesLast}
+use Rattle.chunk_writer.specs.Scribes.{ScribeStands, AreWaiting, IsEntryWith, AddsLast, FillsExtras, Ends, GivesEntry, GivesLast}
 use Rattle.chunk_writer.proofs.Cuts.{bytes_behind}
 use Rattle.chunk_writer.proofs.Planned.{whole_none, whole_some}
 use Rattle.chunk_writer.proofs.Stopping.{Holding, Wholly, extra_refused, extra_append_refused, put_refused, append_refused, last_refused, last_append_refused, back_refused, back_append_refused}
@@ -96,7 +96,7 @@ pub put_waits : (options : FileOptions) (opened held : Option (List ℕ)) (histo
 put_waits options opened held history r p mid next is planned going before stands =
     let (plans, first) = stands.going before in
     let made = planned options history plans in
-    let same : IsNext options.chunk history r nexts.Waits = subst (λ (n : Next). IsNext options.chunk history r n) is made.next_is in
+    let same : IsToAppend options.chunk history r nexts.Waits = subst (λ (n : Next). IsToAppend options.chunk history r n) is made.next_is in
     stands_going options opened held (history ++ r ∷ []) mid going made.stands (subst (λ (ps : List Piece). Adds opened held (front options.profile ++ pieces_bytes ps)) (sym same) first)
 
 pub put_block : (options : FileOptions) (opened held now : Option (List ℕ)) (history : List Rec) (r : Rec) (p mid after : Planning) (next : Next) (blk : Block) → next ≡ nexts.Block blk → Planned p r next mid
@@ -104,7 +104,7 @@ pub put_block : (options : FileOptions) (opened held now : Option (List ℕ)) (h
 put_block options opened held now history r p mid after next blk is planned going same before adds stands =
     let (plans, first) = stands.going before in
     let made = planned options history plans in
-    let (records, closes, built) : (records : List Rec) × Closes options.chunk history r (block records) × IsBlock blk records = subst (λ (n : Next). IsNext options.chunk history r n) is made.next_is in
+    let (records, closes, built) : (records : List Rec) × ClosesPiece options.chunk history r (block records) × IsBlock blk records = subst (λ (n : Next). IsToAppend options.chunk history r n) is made.next_is in
     let piece : Adds held now (piece_bytes (block records)) = subst (λ (l : List ℕ). Adds held now l) built.spelled adds in
     subst (λ (q : Planning). ScribeStands options opened now (history ++ r ∷ []) q) (sym same)
     (stands_going options opened now (history ++ r ∷ []) mid going made.stands (adds_more opened held now (front options.profile) (cuts options.chunk history).pieces (cuts options.chunk (history ++ r ∷ [])).pieces (block records) closes first piece))
@@ -114,7 +114,7 @@ pub put_record : (options : FileOptions) (opened held now : Option (List ℕ)) (
 put_record options opened held now history r p mid after next bytes is spelled planned going same before adds stands =
     let (plans, first) = stands.going before in
     let made = planned options history plans in
-    let closes : Closes options.chunk history r (alone r) = subst (λ (n : Next). IsNext options.chunk history r n) is made.next_is in
+    let closes : ClosesPiece options.chunk history r (alone r) = subst (λ (n : Next). IsToAppend options.chunk history r n) is made.next_is in
     let piece : Adds held now (piece_bytes (alone r)) = subst (λ (l : List ℕ). Adds held now l) spelled adds in
     subst (λ (q : Planning). ScribeStands options opened now (history ++ r ∷ []) q) (sym same)
     (stands_going options opened now (history ++ r ∷ []) mid going made.stands (adds_more opened held now (front options.profile) (cuts options.chunk history).pieces (cuts options.chunk (history ++ r ∷ [])).pieces (alone r) closes first piece))
@@ -125,7 +125,7 @@ pub block_refused : (options : FileOptions) (opened held now : Option (List ℕ)
 block_refused options opened held now history r p mid after next framed blk stop blocks bytes is planned room same_b same_n before going added stands =
     let (plans, first) = stands.going going in
     let made = planned options history plans in
-    let (records, closes, built) : (records : List Rec) × Closes options.chunk history r (block records) × IsBlock blk records = subst (λ (n : Next). IsNext options.chunk history r n) is made.next_is in
+    let (records, closes, built) : (records : List Rec) × ClosesPiece options.chunk history r (block records) × IsBlock blk records = subst (λ (n : Next). IsToAppend options.chunk history r n) is made.next_is in
     let piece : Added held now (piece_bytes (block records)) (Err stop) = subst (λ (l : List ℕ). Added held now l (Err stop)) built.spelled added in
     let holds : Holds (p.blocks + 1) (p.bytes + length blk.bytes) = subst (λ (n : Next). HoldsNext p.blocks p.bytes framed n) is room in
     let fits : Holds (p.blocks + 1) (p.bytes + length (block_bytes records)) = subst (λ (l : List ℕ). Holds (p.blocks + 1) (p.bytes + length l)) built.spelled holds in
@@ -139,7 +139,7 @@ pub record_refused : (options : FileOptions) (opened held now : Option (List ℕ
 record_refused options opened held now history r p mid after next piece stop blocks bytes is spelled planned room same_b same_n before going added stands =
     let (plans, first) = stands.going going in
     let made = planned options history plans in
-    let closes : Closes options.chunk history r (alone r) = subst (λ (n : Next). IsNext options.chunk history r n) is made.next_is in
+    let closes : ClosesPiece options.chunk history r (alone r) = subst (λ (n : Next). IsToAppend options.chunk history r n) is made.next_is in
     let left : Added held now (piece_bytes (alone r)) (Err stop) = subst (λ (l : List ℕ). Added held now l (Err stop)) spelled added in
     let holds : Holds p.blocks (p.bytes + length piece) = subst (λ (n : Next). HoldsNext p.blocks p.bytes piece n) is room in
     let long = ap (λ (l : List ℕ). length l) spelled in
@@ -160,7 +160,7 @@ add_refused options opened held history r p after stop going refused before stan
 -- ---- entries
 
 pub entry_of_block : {X : Type 0} (seen : SeenExtents X) (e : Entry X) (offset : ℕ) (blk : Block) (records : List Rec) → IsEntryWith e e.extent offset blk → IsBlock blk records
-    → seen.size e.extent ≡ length blk.bytes → TellsPiece (seen.tells e.extent) seen.held blk.bytes → IsEntryOf seen e offset records
+    → seen.size e.extent ≡ length blk.bytes → TellsPiece (seen.tells e.extent) seen.held blk.bytes → HasBlockExtent seen e offset records
 entry_of_block seen e offset blk records is built long told = record {
   numbers = record {
     offset_is = is.offset_is;
@@ -181,20 +181,20 @@ pub block_entry : {X : Type 0} (seen : SeenExtents X) (options : FileOptions) (o
 block_entry seen options opened held history r p mid next blk e bytes is planned going place with_it long told stands =
     let (plans, first) = stands.going going in
     let made = planned options history plans in
-    let (records, closes, built) : (records : List Rec) × Closes options.chunk history r (block records) × IsBlock blk records = subst (λ (n : Next). IsNext options.chunk history r n) is made.next_is in
+    let (records, closes, built) : (records : List Rec) × ClosesPiece options.chunk history r (block records) × IsBlock blk records = subst (λ (n : Next). IsToAppend options.chunk history r n) is made.next_is in
     let offset : bytes ≡ length (written_of options history) = place ∙ plans.bytes in
     (records, closes, entry_of_block seen e (length (written_of options history)) blk records (subst (λ (n : ℕ). IsEntryWith e e.extent n blk) offset with_it) built long told)
 
 -- ---- the last block
 
 abbrev pub Lasts : Planning → Option Block → Planning → Type 0
-Lasts p last mid = (options : FileOptions) (history : List Rec) → Plans options history p → IsLast options history last mid
+Lasts p last mid = (options : FileOptions) (history : List Rec) → Plans options history p → IsLastBlock options history last mid
 
 pub adds_last : (options : FileOptions) (opened held now : Option (List ℕ)) (history : List Rec) (p mid after : Planning) (last : Option Block) (blk : Block) → last ≡ Some blk → Lasts p last mid → after ≡ mid → p.phase ≡ phases.Going
     → Adds held now blk.bytes → ScribeStands options opened held history p → AddsLast options opened now history after
 adds_last options opened held now history p mid after last blk is lasts same going adds stands =
     let (plans, first) = stands.going going in
-    let made : IsLast options history (Some blk) mid = subst (λ (x : Option Block). IsLast options history x mid) is (lasts options history plans) in
+    let made : IsLastBlock options history (Some blk) mid = subst (λ (x : Option Block). IsLastBlock options history x mid) is (lasts options history plans) in
     let piece : Adds held now (piece_bytes (block (cuts options.chunk history).waiting)) = subst (λ (l : List ℕ). Adds held now l) made.last_block.1.spelled adds in
     subst (λ (q : Planning). AddsLast options opened now history q) (sym same) (record {
       whole = made.whole;
@@ -206,7 +206,7 @@ pub adds_none : (options : FileOptions) (opened held : Option (List ℕ)) (histo
     → ScribeStands options opened held history p → AddsLast options opened held history mid
 adds_none options opened held history p mid last is lasts going stands =
     let (plans, first) = stands.going going in
-    let made : IsLast options history None mid = subst (λ (x : Option Block). IsLast options history x mid) is (lasts options history plans) in
+    let made : IsLastBlock options history None mid = subst (λ (x : Option Block). IsLastBlock options history x mid) is (lasts options history plans) in
     record {
       whole = made.whole;
       adds = subst (λ (l : List Piece). Adds opened held (front options.profile ++ pieces_bytes l)) (sym (whole_none options.chunk history made.last_block)) first;
@@ -217,7 +217,7 @@ pub last_entry : {X : Type 0} (seen : SeenExtents X) (options : FileOptions) (op
     → TellsPiece (seen.tells e.extent) seen.held blk.bytes → ScribeStands options opened held history p → GivesLast seen options history (Some e)
 last_entry seen options opened held history p mid last blk e bytes is lasts going place with_it long told stands =
     let (plans, first) = stands.going going in
-    let made : IsLast options history (Some blk) mid = subst (λ (x : Option Block). IsLast options history x mid) is (lasts options history plans) in
+    let made : IsLastBlock options history (Some blk) mid = subst (λ (x : Option Block). IsLastBlock options history x mid) is (lasts options history plans) in
     let offset : bytes ≡ length (written_of options history) = place ∙ plans.bytes in (
       made.last_block.0,
       entry_of_block seen e (length (written_of options history)) blk (cuts options.chunk history).waiting
@@ -234,7 +234,7 @@ pub block_last_refused : (options : FileOptions) (extras : List Top) (opened hel
     → StopsAt options extras history opened now stop (numbers after.blocks after.bytes)
 block_last_refused options extras opened held now history p mid after last blk stop blocks bytes is lasts room same_b same_n before going added stands =
     let (plans, first) = stands.going going in
-    let made : IsLast options history (Some blk) mid = subst (λ (x : Option Block). IsLast options history x mid) is (lasts options history plans) in
+    let made : IsLastBlock options history (Some blk) mid = subst (λ (x : Option Block). IsLastBlock options history x mid) is (lasts options history plans) in
     let records = (cuts options.chunk history).waiting in
     let built = made.last_block.1 in
     let piece : Added held now (piece_bytes (block records)) (Err stop) = subst (λ (l : List ℕ). Added held now l (Err stop)) built.spelled added in
@@ -258,7 +258,7 @@ unfolding file_of
 file_whole options extras history = sym (append_assoc (section options extras history) data_end (tail_by options.chunk (noted options extras history) (length (section options extras history ++ data_end))))
 
 -- behind the pieces no extras stand yet
-pub fills_none : (options : FileOptions) (opened now : Option (List ℕ)) (history : List Rec) (p : Planning) → AddsLast options opened now history p → Fills options [] opened now history p
+pub fills_none : (options : FileOptions) (opened now : Option (List ℕ)) (history : List Rec) (p : Planning) → AddsLast options opened now history p → FillsExtras options [] opened now history p
 fills_none options opened now history p lasts =
     let whole = lasts.whole in
     let ps = pieces_bytes (pieces_of options.chunk history) in
@@ -279,11 +279,11 @@ section_more options extras t history =
     ∙ ap (λ (l : List ℕ). front options.profile ++ l) (sym (append_assoc ps (spelled extras) (top_bytes t)))
     ∙ sym (append_assoc (front options.profile) (ps ++ spelled extras) (top_bytes t))
 
-pub wholly : (options : FileOptions) (extras : List Top) (opened held : Option (List ℕ)) (history : List Rec) (p : Planning) → Fills options extras opened held history p → Wholly options extras opened held history p.blocks p.bytes
+pub wholly : (options : FileOptions) (extras : List Top) (opened held : Option (List ℕ)) (history : List Rec) (p : Planning) → FillsExtras options extras opened held history p → Wholly options extras opened held history p.blocks p.bytes
 wholly options extras opened held history p fills = (fills.adds, fills.filled.blocks, fills.filled.bytes)
 
 pub fills_more : (options : FileOptions) (extras : List Top) (t : Top) (opened held now : Option (List ℕ)) (history : List Rec) (p after : Planning) (piece : List ℕ) → piece ≡ top_bytes t → IsFilled options (extras ++ t ∷ []) history after
-    → Adds held now piece → Fills options extras opened held history p → Fills options (extras ++ t ∷ []) opened now history after
+    → Adds held now piece → FillsExtras options extras opened held history p → FillsExtras options (extras ++ t ∷ []) opened now history after
 fills_more options extras t opened held now history p after piece is filled adds fills = record {
   filled = filled;
   adds = subst (λ (l : List ℕ). Adds opened now l) (ap (λ (l : List ℕ). section options extras history ++ l) is ∙ sym (section_more options extras t history)) (adds-adds opened held now (section options extras history) piece fills.adds adds);
@@ -293,7 +293,7 @@ fills_more options extras t opened held now history p after piece is filled adds
 section_begun : (options : FileOptions) (extras : List Top) (history : List Rec) → length (front options.profile) ≤ length (section options extras history)
 section_begun options extras history = omega (arith, length-append (front options.profile) (pieces_bytes (pieces_of options.chunk history) ++ spelled extras))
 
-fills_begun : (options : FileOptions) (extras : List Top) (opened held : Option (List ℕ)) (history : List Rec) (p : Planning) → Fills options extras opened held history p → length (front options.profile) ≤ p.bytes
+fills_begun : (options : FileOptions) (extras : List Top) (opened held : Option (List ℕ)) (history : List Rec) (p : Planning) → FillsExtras options extras opened held history p → length (front options.profile) ≤ p.bytes
 fills_begun options extras opened held history p fills = let long = fills.filled.bytes in omega (arith, long, section_begun options extras history)
 
 -- an extra stopped the writer
@@ -305,14 +305,14 @@ extra_so options extras opened now history p stop blocks bytes before begun stop
 }
 
 pub extra_stopped : (options : FileOptions) (extras : List Top) (t : Top) (behind : List Top) (opened held : Option (List ℕ)) (history : List Rec) (p after : Planning) (framed : List ℕ) (stop : Stop) → framed ≡ top_bytes t
-    → ExtraStopped p.blocks p.bytes framed stop → StoppedBefore p.blocks p.bytes stop after → Fills options extras opened held history p
+    → ExtraStopped p.blocks p.bytes framed stop → StoppedBefore p.blocks p.bytes stop after → FillsExtras options extras opened held history p
     → StopsBehind options (extras ++ t ∷ behind) history opened held stop (numbers after.blocks after.bytes)
 extra_stopped options extras t behind opened held history p after framed stop is why before fills =
     extra_so options (extras ++ t ∷ behind) opened held history after stop p.blocks p.bytes before (fills_begun options extras opened held history p fills)
     (extra_refused options extras t behind opened held history stop p.blocks p.bytes (wholly options extras opened held history p fills) (subst (λ (l : List ℕ). ExtraStopped p.blocks p.bytes l stop) is why))
 
 pub extra_not_appended : (options : FileOptions) (extras : List Top) (t : Top) (behind : List Top) (opened held now : Option (List ℕ)) (history : List Rec) (p after : Planning) (framed : List ℕ) (stop : Stop) (blocks bytes : ℕ) → framed ≡ top_bytes t
-    → Holds p.blocks (p.bytes + length framed) → blocks ≡ p.blocks → bytes ≡ p.bytes → StoppedBefore blocks bytes stop after → Added held now framed (Err stop) → Fills options extras opened held history p
+    → Holds p.blocks (p.bytes + length framed) → blocks ≡ p.blocks → bytes ≡ p.bytes → StoppedBefore blocks bytes stop after → Added held now framed (Err stop) → FillsExtras options extras opened held history p
     → StopsBehind options (extras ++ t ∷ behind) history opened now stop (numbers after.blocks after.bytes)
 extra_not_appended options extras t behind opened held now history p after framed stop blocks bytes is holds same_b same_n before added fills =
     let stopped : StoppedBefore p.blocks p.bytes stop after = record { phase = before.phase; blocks_are = before.blocks_are ∙ same_b; bytes_are = before.bytes_are ∙ same_n } in
@@ -322,7 +322,7 @@ extra_not_appended options extras t behind opened held now history p after frame
 -- ---- the back
 
 pub back_ends : (options : FileOptions) (extras : List Top) (opened held now : Option (List ℕ)) (history : List Rec) (p after : Planning) (piece : List ℕ) → ((o : FileOptions) (e : List Top) (h : List Rec) → IsFilled o e h p → piece ≡ back_of o e h)
-    → after.blocks ≡ p.blocks → after.bytes ≡ p.bytes + length piece → Adds held now piece → Fills options extras opened held history p → Ends options extras opened now history (numbers after.blocks after.bytes) (Ok tt)
+    → after.blocks ≡ p.blocks → after.bytes ≡ p.bytes + length piece → Adds held now piece → FillsExtras options extras opened held history p → Ends options extras opened now history (numbers after.blocks after.bytes) (Ok tt)
 back_ends options extras opened held now history p after piece is many long adds fills =
     let filled = fills.filled in
     let back : piece ≡ back_of options extras history = is options extras history filled in
@@ -334,14 +334,14 @@ back_ends options extras opened held now history p after piece is many long adds
     )
 
 pub back_stopped : (options : FileOptions) (extras : List Top) (opened held : Option (List ℕ)) (history : List Rec) (p after : Planning) (stop : Stop)
-    → ((o : FileOptions) (e : List Top) (h : List Rec) → IsFilled o e h p → BackStopped o e h p.blocks p.bytes stop) → StoppedBefore p.blocks p.bytes stop after → Fills options extras opened held history p
+    → ((o : FileOptions) (e : List Top) (h : List Rec) → IsFilled o e h p → BackStopped o e h p.blocks p.bytes stop) → StoppedBefore p.blocks p.bytes stop after → FillsExtras options extras opened held history p
     → StopsAt options extras history opened held stop (numbers after.blocks after.bytes)
 back_stopped options extras opened held history p after stop refused before fills =
     stops_so options extras opened held history after stop p.blocks p.bytes before
     (back_refused options extras opened held history stop p.blocks p.bytes (wholly options extras opened held history p fills) (refused options extras history fills.filled))
 
 pub back_not_appended : (options : FileOptions) (extras : List Top) (opened held now : Option (List ℕ)) (history : List Rec) (p after : Planning) (piece : List ℕ) (stop : Stop) (blocks bytes : ℕ) → ((o : FileOptions) (e : List Top) (h : List Rec) → IsFilled o e h p → piece ≡ back_of o e h)
-    → Holds p.blocks (p.bytes + length piece) → blocks ≡ p.blocks → bytes ≡ p.bytes → StoppedBefore blocks bytes stop after → Added held now piece (Err stop) → Fills options extras opened held history p
+    → Holds p.blocks (p.bytes + length piece) → blocks ≡ p.blocks → bytes ≡ p.bytes → StoppedBefore blocks bytes stop after → Added held now piece (Err stop) → FillsExtras options extras opened held history p
     → StopsAt options extras history opened now stop (numbers after.blocks after.bytes)
 back_not_appended options extras opened held now history p after piece stop blocks bytes is holds same_b same_n before added fills =
     let back : piece ≡ back_of options extras history = is options extras history fills.filled in
@@ -374,7 +374,7 @@ whole_begun options extras history =
     omega (arith, all, section_begun options extras history, length-append (section options extras history) (back_of options extras history))
 
 -- behind the last piece no bytes are lost
-pub back_begun : (options : FileOptions) (extras : List Top) (opened held now : Option (List ℕ)) (history : List Rec) (p : Planning) (blocks bytes : ℕ) (end : Result Unit Stop) → Fills options extras opened held history p
+pub back_begun : (options : FileOptions) (extras : List Top) (opened held now : Option (List ℕ)) (history : List Rec) (p : Planning) (blocks bytes : ℕ) (end : Result Unit Stop) → FillsExtras options extras opened held history p
     → Ends options extras opened now history (numbers blocks bytes) end → OnErr end ((blocks ≡ p.blocks) × (bytes ≡ p.bytes)) → length (front options.profile) ≤ bytes
 back_begun options extras opened held now history p blocks bytes (Ok it) fills ends same = omega (arith, whole_begun options extras history, ends.2)
 back_begun options extras opened held now history p blocks bytes (Err stop) fills ends same = omega (arith, same.1, fills_begun options extras opened held history p fills)

@@ -22,19 +22,19 @@ pub record IsBody (size at : ℕ) (history : List Rec) (b : Body) : Type 0 where
   pub within : size ≤ chunk_size_limit
   pub size_is : b.chunker.size ≡ size
   pub chunk : chunker.StandsFor b.chunker history
-  pub summary : tally.StandsFor b.summary (noted_of at history (cuts (Some size) history).pieces)
+  pub summary : tally.SummaryStandsFor b.summary (noted_of at history (cuts (Some size) history).pieces)
 
 -- a record was put behind a history; the block that it closed isn't noted yet
 pub record BodyTakes (size at : ℕ) (history : List Rec) (r : Rec) (closed : Option Block) (after : Body) : Type 0 where
   pub size_is : after.chunker.size ≡ size
   pub chunk : chunker.StandsFor after.chunker (history ++ r ∷ [])
   pub closes : chunker.Closes (cuts (Some size) history) r (cuts (Some size) (history ++ r ∷ [])) closed
-  pub summary : tally.StandsFor after.summary (noted_of at (history ++ r ∷ []) (cuts (Some size) history).pieces)
+  pub summary : tally.SummaryStandsFor after.summary (noted_of at (history ++ r ∷ []) (cuts (Some size) history).pieces)
 
 -- a history has ended; its last block isn't noted yet
 pub record TakesLast (size at : ℕ) (history : List Rec) (last : Option Block) (after : Body) : Type 0 where
   pub last_block : chunker.Last (cuts (Some size) history).waiting last
-  pub summary : tally.StandsFor after.summary (noted_of at history (cuts (Some size) history).pieces)
+  pub summary : tally.SummaryStandsFor after.summary (noted_of at history (cuts (Some size) history).pieces)
 
 -- ---- with the numbers of the pieces that are sure
 
@@ -45,13 +45,13 @@ pub record StandsSo (size at : ℕ) (history : List Rec) (b : Body) (blocks byte
   pub bytes_are : bytes ≡ at + length (pieces_bytes (cuts (Some size) history).pieces)
 
 -- a record more makes this piece sure
-abbrev pub Closes : Option ℕ → List Rec → Rec → Piece → Type 0
-Closes size history r piece = (cuts size (history ++ r ∷ [])).pieces ≡ (cuts size history).pieces ++ piece ∷ []
+abbrev pub ClosesPiece : Option ℕ → List Rec → Rec → Piece → Type 0
+ClosesPiece size history r piece = (cuts size (history ++ r ∷ [])).pieces ≡ (cuts size history).pieces ++ piece ∷ []
 
 -- it closes a block, or none
 abbrev pub ClosesBlock : Option ℕ → List Rec → Rec → Option Block → Type 0
 ClosesBlock size history r None = (cuts size (history ++ r ∷ [])).pieces ≡ (cuts size history).pieces
-ClosesBlock size history r (Some b) = (records : List Rec) × Closes size history r (block records) × IsBlock b records
+ClosesBlock size history r (Some b) = (records : List Rec) × ClosesPiece size history r (block records) × IsBlock b records
 
 -- a record was put behind a history, and the block that it closed was noted
 pub record NextBlock (size at : ℕ) (history : List Rec) (r : Rec) (closed : Option Block) (after : Body) : Type 0 where
@@ -61,7 +61,7 @@ pub record NextBlock (size at : ℕ) (history : List Rec) (r : Rec) (closed : Op
 -- a history has ended, and its last block was noted
 pub record LastBlock (size at : ℕ) (history : List Rec) (last : Option Block) (after : Body) : Type 0 where
   pub last_block : chunker.Last (cuts (Some size) history).waiting last
-  pub summary : tally.StandsFor after.summary (noted_of at history (pieces_of (Some size) history))
+  pub summary : tally.SummaryStandsFor after.summary (noted_of at history (pieces_of (Some size) history))
 
 -- ---- where there may be a body
 
@@ -77,7 +77,7 @@ abbrev pub SummaryFor : Option ℕ → Noted → Option Body → Type 0
 SummaryFor None n None = Unit {0}
 SummaryFor None n (Some b) = ⊥
 SummaryFor (Some size) n None = ⊥
-SummaryFor (Some size) n (Some b) = tally.StandsFor b.summary n
+SummaryFor (Some size) n (Some b) = tally.SummaryStandsFor b.summary n
 
 -- the Footer of a file without a summary, and the magic
 abbrev pub plain_tail : List ℕ

@@ -17,7 +17,7 @@ pub record BeginsLast (records : List Rec) (at : ℕ) : Type 0 where
   pub place : at ≡ length (history_bytes (take before records))
 
 -- Records that stand at top level were appended up to one that was refused, which begins at that offset of their bytes.
-pub record RefusedAt (old now : Option (List ℕ)) (records : List Rec) (at : ℕ) (stop : Stop) : Type 0 where
+pub record AppendRefusedAt (old now : Option (List ℕ)) (records : List Rec) (at : ℕ) (stop : Stop) : Type 0 where
   pub before : List Rec
   pub rec : Rec
   pub behind : List Rec

@@ -22,11 +22,11 @@ LimitKept blocks bytes with_blocks with_bytes (Ok it) = Holds with_blocks with_b
 LimitKept blocks bytes with_blocks with_bytes (Err stop) = (stop ≡ stops.Limit blocks bytes) × (Holds with_blocks with_bytes → ⊥)
 
 -- the same, or memory lacks
-abbrev pub Kept : {X : Type 0} → ℕ → ℕ → ℕ → ℕ → Result X Stop → Type 0
-Kept blocks bytes with_blocks with_bytes (Ok it) = Holds with_blocks with_bytes
-Kept blocks bytes with_blocks with_bytes (Err (stops.Fault faults)) = ⊥
-Kept blocks bytes with_blocks with_bytes (Err (stops.Limit at_blocks at_bytes)) = (at_blocks ≡ blocks) × (at_bytes ≡ bytes) × (Holds with_blocks with_bytes → ⊥)
-Kept blocks bytes with_blocks with_bytes (Err stops.Memory) = Unit {0}
+abbrev pub HoldsOrStops : {X : Type 0} → ℕ → ℕ → ℕ → ℕ → Result X Stop → Type 0
+HoldsOrStops blocks bytes with_blocks with_bytes (Ok it) = Holds with_blocks with_bytes
+HoldsOrStops blocks bytes with_blocks with_bytes (Err (stops.Fault faults)) = ⊥
+HoldsOrStops blocks bytes with_blocks with_bytes (Err (stops.Limit at_blocks at_bytes)) = (at_blocks ≡ blocks) × (at_bytes ≡ bytes) × (Holds with_blocks with_bytes → ⊥)
+HoldsOrStops blocks bytes with_blocks with_bytes (Err stops.Memory) = Unit {0}
 
 -- the store didn't fail
 abbrev pub IsNoFault : Stop → Type 0

@@ -14,14 +14,14 @@ use Rattle.mcap_model.specs.Laws.{IsExtra}
 use Rattle.mcap_model.specs.File.{front, section, blocks_from, written_of, file_of}
 use Rattle.chunk_build.specs.Chunker.{AreFramed}
 use Rattle.live_entry.specs.declared.entry.Entry.{Entry}
-use Rattle.live_entry.specs.Entries.{SeenExtents, IsEntryOf}
+use Rattle.live_entry.specs.Entries.{SeenExtents, HasBlockExtent}
 use Rattle.chunk_writer.specs.declared.phase.Phase.{Phase}
 use Rattle.chunk_writer.specs.declared.phase.Phase.TheVariants as phases
 use Rattle.chunk_writer.specs.declared.scribe.Scribe.{Scribe}
 use Rattle.chunk_writer.specs.declared.tape.Written.{Written}
 use Rattle.chunk_writer.specs.Planning.{Planning}
-use Rattle.chunk_writer.specs.Bodies.{Closes}
-use Rattle.chunk_writer.specs.Plans.{Plans, IsWhole, IsFilled}
+use Rattle.chunk_writer.specs.Bodies.{ClosesPiece}
+use Rattle.chunk_writer.specs.Plans.{Plans, CountsAllPieces, IsFilled}
 use Rattle.chunk_writer.specs.Stops.{numbers, StopsAt, StopsBehind}
 
 -- The plan of a scribe, whose store held the first bytes when it was opened and holds the second now, stands for a history.
@@ -43,8 +43,8 @@ AreThrough options phase waiting = phase ≡ phases.Going → IsSome options.chu
 
 -- A scribe stands for extras and a history of a file of these options; its store was in this state when it was opened. What
 -- is seen of a store is handed in.
-abbrev pub Writes : {L : Type 0} → (L → LiveState) → FileOptions → List Top → LiveState → List Rec → Scribe L → Type 0
-Writes seen options extras opened history scribe = ScribeStands options opened.held (seen scribe.store).held history scribe.plan × AreWaiting scribe.plan.phase extras scribe.extras
+abbrev pub WritesHistory : {L : Type 0} → (L → LiveState) → FileOptions → List Top → LiveState → List Rec → Scribe L → Type 0
+WritesHistory seen options extras opened history scribe = ScribeStands options opened.held (seen scribe.store).held history scribe.plan × AreWaiting scribe.plan.phase extras scribe.extras
     × AreThrough options scribe.plan.phase (seen scribe.store).waiting
 
 abbrev pub store_of : {L : Type 0} → Scribe L → L
@@ -58,34 +58,34 @@ phase_of scribe = scribe.plan.phase
 abbrev pub blocks_of : {L : Type 0} → Scribe L → ℕ
 blocks_of scribe = scribe.plan.blocks
 
-abbrev pub bytes_of : {L : Type 0} → Scribe L → ℕ
-bytes_of scribe = scribe.plan.bytes
+abbrev pub planned_bytes : {L : Type 0} → Scribe L → ℕ
+planned_bytes scribe = scribe.plan.bytes
 
 -- The second scribe is the first, later: of whatever history the first stands, the second stands for that history with these
 -- records behind it, and the same extras.
-abbrev pub Grows : {L : Type 0} → (L → LiveState) → Scribe L → Scribe L → List Rec → Type 0
-Grows seen before after records = (options : FileOptions) (extras : List Top) (opened : LiveState) (history : List Rec) → Writes seen options extras opened history before
-    → Writes seen options extras opened (history ++ records) after
+abbrev pub ScribeGrows : {L : Type 0} → (L → LiveState) → Scribe L → Scribe L → List Rec → Type 0
+ScribeGrows seen before after records = (options : FileOptions) (extras : List Top) (opened : LiveState) (history : List Rec) → WritesHistory seen options extras opened history before
+    → WritesHistory seen options extras opened (history ++ records) after
 
 -- the same with an extra more
-abbrev pub Gathers : {L : Type 0} → (L → LiveState) → Scribe L → Scribe L → Top → Type 0
-Gathers seen before after t = (options : FileOptions) (extras : List Top) (opened : LiveState) (history : List Rec) → Writes seen options extras opened history before
-    → Writes seen options (extras ++ t ∷ []) opened history after
+abbrev pub GathersExtra : {L : Type 0} → (L → LiveState) → Scribe L → Scribe L → Top → Type 0
+GathersExtra seen before after t = (options : FileOptions) (extras : List Top) (opened : LiveState) (history : List Rec) → WritesHistory seen options extras opened history before
+    → WritesHistory seen options (extras ++ t ∷ []) opened history after
 
 -- a scribe stands for the same where nothing is called, and over several calls
-pub grows_none : {L : Type 0} (seen : L → LiveState) (scribe : Scribe L) → Grows seen scribe scribe []
-grows_none seen scribe = λ options extras opened history writes. subst (λ (l : List Rec). Writes seen options extras opened l scribe) (sym (append-nil history)) writes
+pub grows_none : {L : Type 0} (seen : L → LiveState) (scribe : Scribe L) → ScribeGrows seen scribe scribe []
+grows_none seen scribe = λ options extras opened history writes. subst (λ (l : List Rec). WritesHistory seen options extras opened l scribe) (sym (append-nil history)) writes
 
-pub grows_on : {L : Type 0} (seen : L → LiveState) (one two three : Scribe L) (before behind : List Rec) → Grows seen one two before → Grows seen two three behind → Grows seen one three (before ++ behind)
+pub grows_on : {L : Type 0} (seen : L → LiveState) (one two three : Scribe L) (before behind : List Rec) → ScribeGrows seen one two before → ScribeGrows seen two three behind → ScribeGrows seen one three (before ++ behind)
 grows_on seen one two three before behind first second = λ options extras opened history writes.
-    subst (λ (l : List Rec). Writes seen options extras opened l three) (append_assoc history before behind) (second options extras opened (history ++ before) (first options extras opened history writes))
+    subst (λ (l : List Rec). WritesHistory seen options extras opened l three) (append_assoc history before behind) (second options extras opened (history ++ before) (first options extras opened history writes))
 
 -- this holds of each history for which a scribe stands
 abbrev pub OfEach : {L : Type 0} → (L → LiveState) → Scribe L → (FileOptions → List Rec → Type 0) → Type 0
-OfEach seen scribe holds = (options : FileOptions) (extras : List Top) (opened : LiveState) (history : List Rec) → Writes seen options extras opened history scribe → holds options history
+OfEach seen scribe holds = (options : FileOptions) (extras : List Top) (opened : LiveState) (history : List Rec) → WritesHistory seen options extras opened history scribe → holds options history
 
 -- Where a scribe was called and goes on, the blocks are with the system in the file of each history for which it stood before.
-pub blocks_through : {L : Type 0} (seen : L → LiveState) (before after : Scribe L) (records : List Rec) → Grows seen before after records → phase_of after ≡ phases.Going
+pub blocks_through : {L : Type 0} (seen : L → LiveState) (before after : Scribe L) (records : List Rec) → ScribeGrows seen before after records → phase_of after ≡ phases.Going
     → OfEach seen before (λ options history. IsSome options.chunk → (seen (store_of after)).waiting ≡ 0)
 blocks_through seen before after records grows going options extras opened history writes = (grows options extras opened history writes).2 going
 
@@ -105,14 +105,14 @@ KeepsOn old new = (before : List ℕ) → old ≡ Some before → (more : List �
 -- which entry a put record gives: that of the block that it closes, if it does so
 abbrev pub GivesEntry : {X : Type 0} → SeenExtents X → FileOptions → List Rec → Rec → Option (Entry X) → Type 0
 GivesEntry seen options history r None = blocks_in (cuts options.chunk (history ++ r ∷ [])).pieces ≡ blocks_in (cuts options.chunk history).pieces
-GivesEntry seen options history r (Some e) = (records : List Rec) × Closes options.chunk history r (block records)
-    × IsEntryOf seen e (length (written_of options history)) records
+GivesEntry seen options history r (Some e) = (records : List Rec) × ClosesPiece options.chunk history r (block records)
+    × HasBlockExtent seen e (length (written_of options history)) records
 
 -- the last entry is that of the block of the records that wait, where there are any
 abbrev pub GivesLast : {X : Type 0} → SeenExtents X → FileOptions → List Rec → Option (Entry X) → Type 0
 GivesLast seen options history None = Unit {0}
 GivesLast seen options history (Some e) = let waiting = (cuts options.chunk history).waiting in
-    (last_piece waiting ≡ block waiting ∷ []) × IsEntryOf seen e (length (written_of options history)) waiting
+    (last_piece waiting ≡ block waiting ∷ []) × HasBlockExtent seen e (length (written_of options history)) waiting
 
 -- a list of entries, with one more if it is given
 abbrev pub Lists : {X : Type 0} → List (Entry X) → List (Entry X) → Option (Entry X) → Type 0
@@ -133,7 +133,7 @@ sure_blocks options history = blocks_from (length (front options.profile)) (cuts
 pub record GivesEntries {X : Type 0} (seen : SeenExtents X) (options : FileOptions) (history records : List Rec) (entries : List (Entry X)) : Type 0 where
   pub closed : List (ℕ × List Rec)
   pub sure : sure_blocks options (history ++ records) ≡ sure_blocks options history ++ closed
-  pub each : AllZip (λ (b : ℕ × List Rec) (e : Entry X). IsEntryOf seen e b.0 b.1) closed entries
+  pub each : AllZip (λ (b : ℕ × List Rec) (e : Entry X). HasBlockExtent seen e b.0 b.1) closed entries
 
 -- So many of some records were put behind a history: all of them, or those before the one at which the writing stopped. The
 -- entries are those of the blocks that these made sure, and so many bytes are those of the pieces that are sure with them.
@@ -155,7 +155,7 @@ Ends options extras opened now history written (Err stop) = StopsAt options extr
 -- The second scribe is the first with its end, which came to this with so many blocks and bytes, those of the front among them.
 -- A whole file is with the system.
 abbrev pub EndsFile : {L : Type 0} → (L → LiveState) → Scribe L → Scribe L → Written → Result Unit Stop → Type 0
-EndsFile seen before after written end = (options : FileOptions) (extras : List Top) (opened : LiveState) (history : List Rec) → Writes seen options extras opened history before
+EndsFile seen before after written end = (options : FileOptions) (extras : List Top) (opened : LiveState) (history : List Rec) → WritesHistory seen options extras opened history before
     → Ends options extras opened.held (seen after.store).held history written end × (length (front options.profile) ≤ written.bytes)
     × OnOk end ((seen after.store).waiting ≡ 0)
 
@@ -171,11 +171,11 @@ CountsBytes size before after (Some e) = after ≡ before + size e.extent
 
 -- all pieces but the back stand behind what the store held, and the plan counts them
 pub record AddsLast (options : FileOptions) (opened now : Option (List ℕ)) (history : List Rec) (p : Planning) : Type 0 where
-  pub whole : IsWhole options history p
+  pub whole : CountsAllPieces options history p
   pub adds : Adds opened now (front options.profile ++ pieces_bytes (pieces_of options.chunk history))
 
 -- the same of the first extras behind the pieces
-pub record Fills (options : FileOptions) (extras : List Top) (opened now : Option (List ℕ)) (history : List Rec) (p : Planning) : Type 0 where
+pub record FillsExtras (options : FileOptions) (extras : List Top) (opened now : Option (List ℕ)) (history : List Rec) (p : Planning) : Type 0 where
   pub filled : IsFilled options extras history p
   pub adds : Adds opened now (section options extras history)
 

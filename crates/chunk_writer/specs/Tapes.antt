@@ -13,14 +13,14 @@ use Rattle.mcap_model.specs.File.{written_of}
 use Rattle.mcap_model.proofs.ShownMessages.{zip_joined}
 use Rattle.record_cache.specs.Buffers.{IsKept}
 use Rattle.live_entry.specs.declared.entry.Entry.{Entry}
-use Rattle.live_entry.specs.Entries.{SeenExtents, IsEntryOf, seen_before}
+use Rattle.live_entry.specs.Entries.{SeenExtents, HasBlockExtent, seen_before}
 use Rattle.chunk_writer.specs.declared.phase.Phase.{Phase}
 use Rattle.chunk_writer.specs.declared.phase.Phase.TheVariants as phases
 use Rattle.chunk_writer.specs.declared.scribe.Scribe.{Scribe}
 use Rattle.chunk_writer.specs.declared.tape.Written.{Written}
 use Rattle.chunk_writer.specs.Limits.{Holds}
 use Rattle.chunk_writer.specs.Stops.{numbers, StopsAt, StopCause, Cause}
-use Rattle.chunk_writer.specs.Scribes.{Writes, Grows, EndsFile, OfEach, KeepsOn, GivesEntries, GivesLast, CountsLast, store_of, phase_of, blocks_of, bytes_of, sure_blocks, grows_none, grows_on}
+use Rattle.chunk_writer.specs.Scribes.{WritesHistory, ScribeGrows, EndsFile, OfEach, KeepsOn, GivesEntries, GivesLast, CountsLast, store_of, phase_of, blocks_of, planned_bytes, sure_blocks, grows_none, grows_on}
 
 -- ---- what a tape took
 
@@ -93,8 +93,8 @@ seen_behind seen store = seen_before seen.tells seen.size (seen.state store)
 
 -- The second scribe is the first, later: it took these records and gave these entries, over one call or several.
 pub record TakesOn {L X : Type 0} (seen : SeenStore L X) (before after : Scribe L) (records : List Rec) (entries : List (Entry X)) : Type 0 where
-  pub grown : Grows seen.state before after records
-  pub front : phase_of before ≡ phases.Going → OfEach seen.state before (λ options history. PutsFirst (seen_behind seen (store_of before)) options history records entries (bytes_of after) (phase_of after))
+  pub grown : ScribeGrows seen.state before after records
+  pub front : phase_of before ≡ phases.Going → OfEach seen.state before (λ options history. PutsFirst (seen_behind seen (store_of before)) options history records entries (planned_bytes after) (phase_of after))
   pub keeps : KeepsOn (seen.state (store_of before)).held (seen.state (store_of after)).held
   -- where nothing waited in its store nothing waits, while it goes on
   pub through : OfEach seen.state before (λ options history. phase_of after ≡ phases.Going → (seen.state (store_of before)).waiting ≡ 0 → (seen.state (store_of after)).waiting ≡ 0)
@@ -114,8 +114,8 @@ pub record EndsOn {L X : Type 0} (seen : SeenStore L X) (before after : Scribe L
 -- stands would pass what a file may hold. Of a limit that was met at the end of a file `EndsFile` says so.
 pub record MeetsLimit {L : Type 0} (state : L → LiveState) (scribe : Scribe L) (blocks bytes : ℕ) : Type 0 where
   pub stopped : phase_of scribe ≡ phases.Stopped (stops.Limit blocks bytes)
-  pub at : (options : FileOptions) (extras : List Top) (opened : LiveState) (history : List Rec) → Writes state options extras opened history scribe
-      → StopsAt options extras history opened.held (state (store_of scribe)).held (stops.Limit blocks bytes) (numbers (blocks_of scribe) (bytes_of scribe))
+  pub at : (options : FileOptions) (extras : List Top) (opened : LiveState) (history : List Rec) → WritesHistory state options extras opened history scribe
+      → StopsAt options extras history opened.held (state (store_of scribe)).held (stops.Limit blocks bytes) (numbers (blocks_of scribe) (planned_bytes scribe))
 
 -- ---- entries in a row
 
@@ -127,8 +127,8 @@ no_entries seen options history = record {
 }
 
 module _ {X : Type 0} (tells : X → Option (List ℕ)) (size : X → ℕ) (old mid : LiveState) (keeps : KeepsOn old.held mid.held) where
-  entries_before : (blocks : List (ℕ × List Rec)) (entries : List (Entry X)) → AllZip (λ (b : ℕ × List Rec) (e : Entry X). IsEntryOf (seen_before tells size mid) e b.0 b.1) blocks entries
-      → AllZip (λ (b : ℕ × List Rec) (e : Entry X). IsEntryOf (seen_before tells size old) e b.0 b.1) blocks entries
+  entries_before : (blocks : List (ℕ × List Rec)) (entries : List (Entry X)) → AllZip (λ (b : ℕ × List Rec) (e : Entry X). HasBlockExtent (seen_before tells size mid) e b.0 b.1) blocks entries
+      → AllZip (λ (b : ℕ × List Rec) (e : Entry X). HasBlockExtent (seen_before tells size old) e b.0 b.1) blocks entries
   entries_before [] [] zip = tt
   entries_before [] (e ∷ es) zip = absurd zip
   entries_before (b ∷ bs) [] zip = absurd zip
@@ -147,7 +147,7 @@ module _ {X : Type 0} (tells : X → Option (List ℕ)) (size : X → ℕ) (old 
     closed = before.closed ++ behind.closed;
     sure = ap (sure_blocks options) (sym (append_assoc history records first)) ∙ behind.sure ∙ ap (λ (l : List (ℕ × List Rec)). l ++ behind.closed) before.sure
         ∙ append_assoc (sure_blocks options history) before.closed behind.closed;
-    each = zip_joined (λ (b : ℕ × List Rec) (e : Entry X). IsEntryOf (seen_before tells size old) e b.0 b.1) before.closed behind.closed one other before.each
+    each = zip_joined (λ (b : ℕ × List Rec) (e : Entry X). HasBlockExtent (seen_before tells size old) e b.0 b.1) before.closed behind.closed one other before.each
         (entries_before behind.closed other behind.each);
   }
 
@@ -179,9 +179,9 @@ module _ {L X : Type 0} (seen : SeenStore L X) (one two three : Scribe L) (a b :
       (subst (λ (q : Phase). KeepsCause q (seen.state (store_of one)).faults (seen.state (store_of two)).faults) (sym is) before)
   cause_on phases.Ended is before = absurd before
 
-  front_on : (options : FileOptions) (extras : List Top) (opened : LiveState) (history : List Rec) (p : Phase) → phase_of two ≡ p → Writes seen.state options extras opened (history ++ a) two
-      → (it : PutsFirst (seen_behind seen (store_of one)) options history a es (bytes_of two) (phase_of two)) → IsLeft p it.behind
-      → PutsFirst (seen_behind seen (store_of one)) options history (a ++ b) (es ++ fs) (bytes_of three) (phase_of three)
+  front_on : (options : FileOptions) (extras : List Top) (opened : LiveState) (history : List Rec) (p : Phase) → phase_of two ≡ p → WritesHistory seen.state options extras opened (history ++ a) two
+      → (it : PutsFirst (seen_behind seen (store_of one)) options history a es (planned_bytes two) (phase_of two)) → IsLeft p it.behind
+      → PutsFirst (seen_behind seen (store_of one)) options history (a ++ b) (es ++ fs) (planned_bytes three) (phase_of three)
   front_on options extras opened history phases.Going is writes it left =
       let whole : a ≡ it.first = it.cut ∙ ap (λ (l : List Rec). it.first ++ l) left ∙ append-nil it.first in
       let more = second.front is options extras opened (history ++ a) writes in
@@ -201,12 +201,12 @@ module _ {L X : Type 0} (seen : SeenStore L X) (one two three : Scribe L) (a b :
         behind = it.behind ++ b;
         cut = ap (λ (l : List Rec). l ++ b) it.cut ∙ append_assoc it.first it.behind b;
         entries_are = subst (λ (l : List (Entry X)). GivesEntries (seen_behind seen (store_of one)) options history it.first l) (sym (ap (λ (l : List (Entry X)). es ++ l) none ∙ append-nil es)) it.entries_are;
-        bytes_are = ap (λ (s : Scribe L). bytes_of s) same ∙ it.bytes_are;
+        bytes_are = ap (λ (s : Scribe L). planned_bytes s) same ∙ it.bytes_are;
         left = subst (λ (q : Phase). IsLeft q (it.behind ++ b)) (sym (ap (λ (s : Scribe L). phase_of s) same ∙ is)) (left.0, left.1 ++ b, ap (λ (l : List Rec). l ++ b) left.2);
       }
   front_on options extras opened history phases.Ended is writes it left = absurd left
 
-  through_on : (options : FileOptions) (extras : List Top) (opened : LiveState) (history : List Rec) (p : Phase) → phase_of two ≡ p → Writes seen.state options extras opened (history ++ a) two
+  through_on : (options : FileOptions) (extras : List Top) (opened : LiveState) (history : List Rec) (p : Phase) → phase_of two ≡ p → WritesHistory seen.state options extras opened (history ++ a) two
       → (phase_of two ≡ phases.Going → (seen.state (store_of two)).waiting ≡ 0) → phase_of three ≡ phases.Going → (seen.state (store_of three)).waiting ≡ 0
   through_on options extras opened history phases.Going is writes zero going = second.through options extras opened (history ++ a) writes going (zero is)
   through_on options extras opened history (phases.Stopped stop) is writes zero going =

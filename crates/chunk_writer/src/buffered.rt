@@ -3,7 +3,7 @@ ghost use Rattle.std.specs.Prelude.{◌≡◌, ◌≤◌, [], length, take, IfEr
 ghost use Rattle.mcap_io.specs.Outside.{Adds};
 ghost use Rattle.mcap_model.specs.History.{history_bytes};
 ghost use Rattle.record_cache.proofs.Apart.{framed_some};
-ghost use Rattle.chunk_writer.specs.Buffered.{framed_each, BeginsLast, RefusedAt};
+ghost use Rattle.chunk_writer.specs.Buffered.{framed_each, BeginsLast, AppendRefusedAt};
 ghost use Rattle.chunk_writer.specs.Stops.{StopCause};
 
 use crate::scribe::{append_through, refused};
@@ -55,7 +55,7 @@ pub(crate) fn append_records<L: LiveStore>(store: &mut L, full: &Cache) -> Resul
     ensures adds { OnOk result (Adds (L.state store.old).held (L.state store.new).held (history_bytes full.now.records)) }
     ensures through { OnOk result ((full.now.records ≡ [] → ⊥) → (L.state store.new).waiting ≡ 0) }
     ensures still { full.now.records ≡ [] → L.state store.new ≡ L.state store.old }
-    ensures refused { IfErr result (λ e. RefusedAt (L.state store.old).held (L.state store.new).held full.now.records e.0 e.1) }
+    ensures refused { IfErr result (λ e. AppendRefusedAt (L.state store.old).held (L.state store.new).held full.now.records e.0 e.1) }
     ensures cause { IfErr result (λ e. StopCause (L.state store.old).faults (L.state store.new).faults e.1) }
     ensures well { OnOk result ((L.state store.new).faults ≡ (L.state store.old).faults) }
 {

@@ -10,13 +10,13 @@ ghost use Rattle.mcap_model.specs.History.{history_bytes};
 ghost use Rattle.mcap_model.specs.Tops.{Top, top_bytes};
 ghost use Rattle.mcap_model.specs.File.{front};
 ghost use Rattle.mcap_model.specs.Pieces.{back_of};
-ghost use Rattle.summary_write.specs.Tally.{StandsFor, with_noted_block, with_noted_extra};
+ghost use Rattle.summary_write.specs.Tally.{SummaryStandsFor, with_noted_block, with_noted_extra};
 ghost use Rattle.chunk_writer.specs.declared.next.Next.TheVariants as nexts;
 ghost use Rattle.chunk_writer.specs.declared.phase.Phase.TheVariants as phases;
-ghost use Rattle.chunk_writer.specs.Limits.{Holds, Kept, IsNoFault};
+ghost use Rattle.chunk_writer.specs.Limits.{Holds, HoldsOrStops, IsNoFault};
 ghost use Rattle.chunk_writer.specs.Bodies.{BodyFor, SummaryFor, StandsSo, NextBlock, LastBlock};
 ghost use Rattle.chunk_writer.specs.Waiting.{AreExtra};
-ghost use Rattle.chunk_writer.specs.Plans.{Plans, counted_on, IsPlanned, PutStopped, IsLast, LastStopped, IsFilled, ExtraStopped, BackStopped, HoldsBlock, HoldsNext, CountsNext, CountsBlock, StoppedBefore};
+ghost use Rattle.chunk_writer.specs.Plans.{Plans, counted_on, IsPlanned, PutStopped, IsLastBlock, LastStopped, IsFilled, ExtraStopped, BackStopped, HoldsBlock, HoldsNext, CountsNext, CountsBlock, StoppedBefore};
 
 use crate::body::{Body, begin, take, take_last};
 use crate::limits::keep_limit;
@@ -45,11 +45,11 @@ impl Model for Plan {
 
     ghost Value = { Planning };
 
-    ghost use Rattle.chunk_writer.specs.Held.{planning, IsHeld};
+    ghost use Rattle.chunk_writer.specs.Held.{planning, HasSoundPlan};
 
     ghost view = { planning };
 
-    ghost invariant = { IsHeld };
+    ghost invariant = { HasSoundPlan };
 }
 
 // The body of a file in chunks of that size, if there is one.
@@ -71,9 +71,9 @@ fn note(summary: &mut Summary, blocks: u64, bytes: u64, block: &Block) -> Result
     requires within { Holds blocks bytes }
     requires few { summary.old.blocks < 2 ^ 48 }
     requires built { (records : List Rec) × IsBlock block.now records }
-    ensures ok { OnOk result ((records : List Rec) → IsBlock block.now records → (n : Noted) → StandsFor summary.old n
-        → StandsFor summary.new (with_noted_block n bytes records)) }
-    ensures limit { Kept blocks bytes (blocks + 1) (bytes + length block.now.bytes) result }
+    ensures ok { OnOk result ((records : List Rec) → IsBlock block.now records → (n : Noted) → SummaryStandsFor summary.old n
+        → SummaryStandsFor summary.new (with_noted_block n bytes records)) }
+    ensures limit { HoldsOrStops blocks bytes (blocks + 1) (bytes + length block.now.bytes) result }
 {
     match keep_limit(blocks, bytes, 1, block.bytes.as_slice()) {
         Ok(()) => {}
@@ -145,7 +145,7 @@ fn content_of(framed: &[u8]) -> &[u8]
 fn note_in(summary: &mut Summary, at: u64, framed: &[u8]) -> Result<(), Memory>
     requires within { at ≤ 2 ^ 41 }
     requires extra { AreExtra framed.now }
-    ensures { OnOk result ((t : Top) → framed.now ≡ top_bytes t → (n : Noted) → StandsFor summary.old n → StandsFor summary.new (with_noted_extra n at t)) }
+    ensures { OnOk result ((t : Top) → framed.now ≡ top_bytes t → (n : Noted) → SummaryStandsFor summary.old n → SummaryStandsFor summary.new (with_noted_extra n at t)) }
 {
     let content = content_of(framed);
     if framed[0] == ATTACHMENT {
@@ -278,7 +278,7 @@ impl Plan {
     pub(crate) fn last(&mut self) -> Result<Option<Block>, Stop>
         requires goes_on { self.old.phase ≡ phases.Going }
         ensures ok { IfOk result (λ last. (options : FileOptions) (history : List Rec) → Plans options history self.old
-            → IsLast options history last self.new) }
+            → IsLastBlock options history last self.new) }
         ensures ended { OnOk result (self.new.phase ≡ phases.Ended) }
         ensures room { IfOk result (λ last. HoldsBlock self.old.blocks self.old.bytes last) }
         ensures counted { IfOk result (λ last. CountsBlock self.old last self.new) }

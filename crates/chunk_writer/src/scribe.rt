@@ -20,7 +20,7 @@ ghost use Rattle.chunk_writer.specs.declared.phase.Phase.TheVariants as phases;
 ghost use Rattle.chunk_writer.specs.Limits.{Holds};
 ghost use Rattle.chunk_writer.specs.Plans.{Plans, StoppedBefore};
 ghost use Rattle.chunk_writer.specs.Stops.{numbers, StopsAt, StopsBehind, Cause, StopCause, Appends, Added, refusal};
-ghost use Rattle.chunk_writer.specs.Scribes.{ScribeStands, Writes, Grows, Gathers, Fills, OfEach, KeepsOn, store_of, phase_of, blocks_of, bytes_of, GivesEntry, GivesLast, ListsEntry, PutsFront, GoesThrough, Ends, EndsFile, CountsLast, CountsBytes, IsEntryWith, AddsLast};
+ghost use Rattle.chunk_writer.specs.Scribes.{ScribeStands, WritesHistory, ScribeGrows, GathersExtra, FillsExtras, OfEach, KeepsOn, store_of, phase_of, blocks_of, planned_bytes, GivesEntry, GivesLast, ListsEntry, PutsFront, GoesThrough, Ends, EndsFile, CountsLast, CountsBytes, IsEntryWith, AddsLast};
 
 use crate::buffered::append_records;
 use crate::extras::Extras;
@@ -164,7 +164,7 @@ impl<L: LiveStore> Scribe<L> {
     pub fn open(alloc: Global, store: L, options: &FileOptions) -> Result<Scribe<L>, (L, Stop)>
         requires size { (n : ℕ) → options.now.chunk ≡ Some n → (1 ≤ n) × (n ≤ chunk_size_limit) }
         requires profile { length options.now.profile ≤ content_limit }
-        ensures stands { IfOk result (λ s. Writes L.state options.now [] (L.state store) [] s) }
+        ensures stands { IfOk result (λ s. WritesHistory L.state options.now [] (L.state store) [] s) }
         ensures goes_on { IfOk result (λ s. phase_of s ≡ phases.Going) }
         // The front is with the system, whether there are chunks or not.
         ensures through { IfOk result (λ s. (L.state (store_of s)).waiting ≡ 0) }
@@ -188,16 +188,16 @@ impl<L: LiveStore> Scribe<L> {
     pub fn put(&mut self, r: &Rec) -> Result<Option<Entry<L::Extent>>, Stop>
         requires fits { LengthsFit r.now }
         requires unended { phase_of self.old ≡ phases.Ended → ⊥ }
-        ensures stands { Grows L.state self.old self.new (r.now ∷ []) }
+        ensures stands { ScribeGrows L.state self.old self.new (r.now ∷ []) }
         ensures entry { IfOk result (λ entry. OfEach L.state self.old (λ options history. GivesEntry (seen_before (λ e. L.Extent.tells e) (λ e. L.Extent.size e) (L.state (store_of self.old))) options history r.now entry)) }
         ensures counted { IfOk result (λ entry. CountsLast (blocks_of self.old) (blocks_of self.new) entry) }
         ensures keeps { KeepsOn (L.state (store_of self.old)).held (L.state (store_of self.new)).held }
         ensures goes_on { OnOk result ((phase_of self.old ≡ phases.Going) × (phase_of self.new ≡ phases.Going)) }
-        ensures within { OnOk result (Holds (blocks_of self.new) (bytes_of self.new)) }
+        ensures within { OnOk result (Holds (blocks_of self.new) (planned_bytes self.new)) }
         ensures through { OnOk result (OfEach L.state self.old (λ options history. IsSome options.chunk → (L.state (store_of self.new)).waiting ≡ 0)) }
         ensures stopped { IfErr result (λ stop. phase_of self.new ≡ phases.Stopped stop) }
         // What stopped it isn't counted.
-        ensures uncounted { OnErr result ((blocks_of self.new ≡ blocks_of self.old) × (bytes_of self.new ≡ bytes_of self.old)) }
+        ensures uncounted { OnErr result ((blocks_of self.new ≡ blocks_of self.old) × (planned_bytes self.new ≡ planned_bytes self.old)) }
         ensures kept { (stop : Stop) → phase_of self.old ≡ phases.Stopped stop → (result ≡ Err stop) × (self.new ≡ self.old) }
         ensures cause { phase_of self.old ≡ phases.Going → Cause (L.state (store_of self.old)).faults (L.state (store_of self.new)).faults result }
     {
@@ -217,16 +217,16 @@ impl<L: LiveStore> Scribe<L> {
     pub fn put_bytes(&mut self, framed: &[u8]) -> Result<Option<Entry<L::Extent>>, Stop>
         requires framed { (r : Rec) × AreFramed framed.now r }
         requires unended { phase_of self.old ≡ phases.Ended → ⊥ }
-        ensures stands { (r : Rec) → AreFramed framed.now r → Grows L.state self.old self.new (r ∷ []) }
+        ensures stands { (r : Rec) → AreFramed framed.now r → ScribeGrows L.state self.old self.new (r ∷ []) }
         ensures entry { IfOk result (λ entry. (r : Rec) → AreFramed framed.now r → OfEach L.state self.old (λ options history. GivesEntry (seen_before (λ e. L.Extent.tells e) (λ e. L.Extent.size e) (L.state (store_of self.old))) options history r entry)) }
         ensures counted { IfOk result (λ entry. CountsLast (blocks_of self.old) (blocks_of self.new) entry) }
         ensures keeps { KeepsOn (L.state (store_of self.old)).held (L.state (store_of self.new)).held }
         ensures goes_on { OnOk result ((phase_of self.old ≡ phases.Going) × (phase_of self.new ≡ phases.Going)) }
-        ensures within { OnOk result (Holds (blocks_of self.new) (bytes_of self.new)) }
+        ensures within { OnOk result (Holds (blocks_of self.new) (planned_bytes self.new)) }
         ensures through { OnOk result (OfEach L.state self.old (λ options history. IsSome options.chunk → (L.state (store_of self.new)).waiting ≡ 0)) }
         ensures stopped { IfErr result (λ stop. phase_of self.new ≡ phases.Stopped stop) }
         // What stopped it isn't counted.
-        ensures uncounted { OnErr result ((blocks_of self.new ≡ blocks_of self.old) × (bytes_of self.new ≡ bytes_of self.old)) }
+        ensures uncounted { OnErr result ((blocks_of self.new ≡ blocks_of self.old) × (planned_bytes self.new ≡ planned_bytes self.old)) }
         ensures kept { (stop : Stop) → phase_of self.old ≡ phases.Stopped stop → (result ≡ Err stop) × (self.new ≡ self.old) }
         ensures cause { phase_of self.old ≡ phases.Going → Cause (L.state (store_of self.old)).faults (L.state (store_of self.new)).faults result }
     {
@@ -242,7 +242,7 @@ impl<L: LiveStore> Scribe<L> {
     pub fn add_extra(&mut self, op: u8, content: &[u8]) -> Result<(), Stop>
         requires meets { IsExtra (top op content.now) }
         requires unended { phase_of self.old ≡ phases.Ended → ⊥ }
-        ensures gathers { Gathers L.state self.old self.new (top op content.now) }
+        ensures gathers { GathersExtra L.state self.old self.new (top op content.now) }
         ensures store { store_of self.new ≡ store_of self.old }
         ensures goes_on { OnOk result ((phase_of self.old ≡ phases.Going) × (phase_of self.new ≡ phases.Going)) }
         ensures stopped { IfErr result (λ stop. phase_of self.new ≡ phases.Stopped stop) }
@@ -269,13 +269,13 @@ impl<L: LiveStore> Scribe<L> {
     /// whether there are chunks or not.
     pub fn take(&mut self, full: Cache) -> Taken<L::Extent>
         requires unended { phase_of self.old ≡ phases.Ended → ⊥ }
-        ensures grows { Grows L.state self.old self.new full.records }
-        ensures front { phase_of self.old ≡ phases.Going → OfEach L.state self.old (λ options history. PutsFront (seen_before (λ e. L.Extent.tells e) (λ e. L.Extent.size e) (L.state (store_of self.old))) options history full.records result.entries.items (bytes_of self.new) result.end) }
+        ensures grows { ScribeGrows L.state self.old self.new full.records }
+        ensures front { phase_of self.old ≡ phases.Going → OfEach L.state self.old (λ options history. PutsFront (seen_before (λ e. L.Extent.tells e) (λ e. L.Extent.size e) (L.state (store_of self.old))) options history full.records result.entries.items (planned_bytes self.new) result.end) }
         ensures counted { blocks_of self.new ≡ blocks_of self.old + length result.entries.items }
         ensures keeps { KeepsOn (L.state (store_of self.old)).held (L.state (store_of self.new)).held }
         ensures cleared { result.cache ≡ record { limit = full.limit; records = [] } }
         ensures goes_on { OnOk result.end ((phase_of self.old ≡ phases.Going) × (phase_of self.new ≡ phases.Going)) }
-        ensures within { Holds (blocks_of self.new) (bytes_of self.new) }
+        ensures within { Holds (blocks_of self.new) (planned_bytes self.new) }
         ensures through { OnOk result.end (OfEach L.state self.old (λ options history. GoesThrough options full.records (L.state (store_of self.old)).waiting (L.state (store_of self.new)).waiting)) }
         ensures stopped { IfErr result.end (λ stop. phase_of self.new ≡ phases.Stopped stop) }
         ensures kept { (stop : Stop) → phase_of self.old ≡ phases.Stopped stop → (result.end ≡ Err stop) × (result.entries.items ≡ []) × (self.new ≡ self.old) }
@@ -296,7 +296,7 @@ impl<L: LiveStore> Scribe<L> {
 
     // The numbers are within the limit.
     fn stays_within(&self)
-        ensures { Holds (blocks_of self.now) (bytes_of self.now) }
+        ensures { Holds (blocks_of self.now) (planned_bytes self.now) }
     {
         let _blocks = self.plan.blocks();
         let _bytes = self.plan.bytes();
@@ -307,12 +307,12 @@ impl<L: LiveStore> Scribe<L> {
     fn put_all(&mut self, full: &Cache, entries: &mut Vec<Entry<L::Extent>>) -> Result<(), Stop>
         requires going { phase_of self.old ≡ phases.Going }
         requires none { entries.old.items ≡ [] }
-        ensures grows { Grows L.state self.old self.new full.now.records }
-        ensures front { OfEach L.state self.old (λ options history. PutsFront (seen_before (λ e. L.Extent.tells e) (λ e. L.Extent.size e) (L.state (store_of self.old))) options history full.now.records entries.new.items (bytes_of self.new) result) }
+        ensures grows { ScribeGrows L.state self.old self.new full.now.records }
+        ensures front { OfEach L.state self.old (λ options history. PutsFront (seen_before (λ e. L.Extent.tells e) (λ e. L.Extent.size e) (L.state (store_of self.old))) options history full.now.records entries.new.items (planned_bytes self.new) result) }
         ensures counted { blocks_of self.new ≡ blocks_of self.old + length entries.new.items }
         ensures keeps { KeepsOn (L.state (store_of self.old)).held (L.state (store_of self.new)).held }
         ensures goes_on { OnOk result (phase_of self.new ≡ phases.Going) }
-        ensures within { OnOk result (Holds (blocks_of self.new) (bytes_of self.new)) }
+        ensures within { OnOk result (Holds (blocks_of self.new) (planned_bytes self.new)) }
         ensures through { OnOk result (OfEach L.state self.old (λ options history. GoesThrough options full.now.records (L.state (store_of self.old)).waiting (L.state (store_of self.new)).waiting)) }
         ensures stopped { IfErr result (λ stop. phase_of self.new ≡ phases.Stopped stop) }
         ensures cause { Cause (L.state (store_of self.old)).faults (L.state (store_of self.new)).faults result }
@@ -328,13 +328,13 @@ impl<L: LiveStore> Scribe<L> {
     fn put_plain(&mut self, full: &Cache) -> Result<(), Stop>
         requires going { phase_of self.old ≡ phases.Going }
         requires plain { self.old.plan.body ≡ None }
-        requires room { bytes_of self.old + held full.now ≤ file_limit }
-        ensures grows { Grows L.state self.old self.new full.now.records }
-        ensures front { OfEach L.state self.old (λ options history. PutsFront (seen_before (λ e. L.Extent.tells e) (λ e. L.Extent.size e) (L.state (store_of self.old))) options history full.now.records [] (bytes_of self.new) result) }
+        requires room { planned_bytes self.old + held full.now ≤ file_limit }
+        ensures grows { ScribeGrows L.state self.old self.new full.now.records }
+        ensures front { OfEach L.state self.old (λ options history. PutsFront (seen_before (λ e. L.Extent.tells e) (λ e. L.Extent.size e) (L.state (store_of self.old))) options history full.now.records [] (planned_bytes self.new) result) }
         ensures counted { blocks_of self.new ≡ blocks_of self.old }
         ensures keeps { KeepsOn (L.state (store_of self.old)).held (L.state (store_of self.new)).held }
         ensures goes_on { OnOk result (phase_of self.new ≡ phases.Going) }
-        ensures within { OnOk result (Holds (blocks_of self.new) (bytes_of self.new)) }
+        ensures within { OnOk result (Holds (blocks_of self.new) (planned_bytes self.new)) }
         ensures through { OnOk result (OfEach L.state self.old (λ options history. GoesThrough options full.now.records (L.state (store_of self.old)).waiting (L.state (store_of self.new)).waiting)) }
         ensures stopped { IfErr result (λ stop. phase_of self.new ≡ phases.Stopped stop) }
         ensures cause { Cause (L.state (store_of self.old)).faults (L.state (store_of self.new)).faults result }
@@ -357,12 +357,12 @@ impl<L: LiveStore> Scribe<L> {
     fn put_each(&mut self, full: &Cache, entries: &mut Vec<Entry<L::Extent>>) -> Result<(), Stop>
         requires going { phase_of self.old ≡ phases.Going }
         requires none { entries.old.items ≡ [] }
-        ensures grows { Grows L.state self.old self.new full.now.records }
-        ensures front { OfEach L.state self.old (λ options history. PutsFront (seen_before (λ e. L.Extent.tells e) (λ e. L.Extent.size e) (L.state (store_of self.old))) options history full.now.records entries.new.items (bytes_of self.new) result) }
+        ensures grows { ScribeGrows L.state self.old self.new full.now.records }
+        ensures front { OfEach L.state self.old (λ options history. PutsFront (seen_before (λ e. L.Extent.tells e) (λ e. L.Extent.size e) (L.state (store_of self.old))) options history full.now.records entries.new.items (planned_bytes self.new) result) }
         ensures counted { blocks_of self.new ≡ blocks_of self.old + length entries.new.items }
         ensures keeps { KeepsOn (L.state (store_of self.old)).held (L.state (store_of self.new)).held }
         ensures goes_on { OnOk result (phase_of self.new ≡ phases.Going) }
-        ensures within { OnOk result (Holds (blocks_of self.new) (bytes_of self.new)) }
+        ensures within { OnOk result (Holds (blocks_of self.new) (planned_bytes self.new)) }
         ensures stopped { IfErr result (λ stop. phase_of self.new ≡ phases.Stopped stop) }
         ensures cause { Cause (L.state (store_of self.old)).faults (L.state (store_of self.new)).faults result }
     {
@@ -386,15 +386,15 @@ impl<L: LiveStore> Scribe<L> {
     fn put_listed(&mut self, framed: &[u8], entries: &mut Vec<Entry<L::Extent>>) -> Result<(), Stop>
         requires framed { (r : Rec) × AreFramed framed.now r }
         requires going { phase_of self.old ≡ phases.Going }
-        ensures grows { (r : Rec) → AreFramed framed.now r → Grows L.state self.old self.new (r ∷ []) }
+        ensures grows { (r : Rec) → AreFramed framed.now r → ScribeGrows L.state self.old self.new (r ∷ []) }
         ensures lists { OnOk result (ListsEntry L.state (seen_before (λ e. L.Extent.tells e) (λ e. L.Extent.size e) (L.state (store_of self.old))) self.old framed.now entries.old.items entries.new.items) }
         ensures counted { blocks_of self.new + length entries.old.items ≡ blocks_of self.old + length entries.new.items }
         ensures keeps { KeepsOn (L.state (store_of self.old)).held (L.state (store_of self.new)).held }
         ensures goes_on { OnOk result (phase_of self.new ≡ phases.Going) }
-        ensures within { OnOk result (Holds (blocks_of self.new) (bytes_of self.new)) }
+        ensures within { OnOk result (Holds (blocks_of self.new) (planned_bytes self.new)) }
         ensures stopped { IfErr result (λ stop. phase_of self.new ≡ phases.Stopped stop) }
         // What stopped it isn't counted.
-        ensures uncounted { OnErr result ((bytes_of self.new ≡ bytes_of self.old) × (entries.new.items ≡ entries.old.items)) }
+        ensures uncounted { OnErr result ((planned_bytes self.new ≡ planned_bytes self.old) × (entries.new.items ≡ entries.old.items)) }
         ensures cause { Cause (L.state (store_of self.old)).faults (L.state (store_of self.new)).faults result }
     {
         match entries.reserve(1) {
@@ -415,10 +415,10 @@ impl<L: LiveStore> Scribe<L> {
     pub fn stop_for_memory(&mut self) -> Stop
         requires going { phase_of self.old ≡ phases.Going }
         ensures memory { result ≡ stops.Memory }
-        ensures grows { (r : Rec) → Grows L.state self.old self.new (r ∷ []) }
-        ensures gathers { (t : Top) → Gathers L.state self.old self.new t }
+        ensures grows { (r : Rec) → ScribeGrows L.state self.old self.new (r ∷ []) }
+        ensures gathers { (t : Top) → GathersExtra L.state self.old self.new t }
         ensures store { self.new.store ≡ self.old.store }
-        ensures stopped { StoppedBefore (blocks_of self.old) (bytes_of self.old) stops.Memory self.new.plan }
+        ensures stopped { StoppedBefore (blocks_of self.old) (planned_bytes self.old) stops.Memory self.new.plan }
     {
         let blocks = self.plan.blocks();
         let bytes = self.plan.bytes();
@@ -430,15 +430,15 @@ impl<L: LiveStore> Scribe<L> {
     fn put_framed(&mut self, framed: &[u8]) -> Result<Option<Entry<L::Extent>>, Stop>
         requires framed { (r : Rec) × AreFramed framed.now r }
         requires going { phase_of self.old ≡ phases.Going }
-        ensures grows { (r : Rec) → AreFramed framed.now r → Grows L.state self.old self.new (r ∷ []) }
+        ensures grows { (r : Rec) → AreFramed framed.now r → ScribeGrows L.state self.old self.new (r ∷ []) }
         ensures entry { IfOk result (λ entry. (r : Rec) → AreFramed framed.now r → OfEach L.state self.old (λ options history. GivesEntry (seen_before (λ e. L.Extent.tells e) (λ e. L.Extent.size e) (L.state (store_of self.old))) options history r entry)) }
         ensures counted { IfOk result (λ entry. CountsLast (blocks_of self.old) (blocks_of self.new) entry) }
         ensures keeps { KeepsOn (L.state (store_of self.old)).held (L.state (store_of self.new)).held }
         ensures goes_on { OnOk result (phase_of self.new ≡ phases.Going) }
-        ensures within { OnOk result (Holds (blocks_of self.new) (bytes_of self.new)) }
+        ensures within { OnOk result (Holds (blocks_of self.new) (planned_bytes self.new)) }
         ensures stopped { IfErr result (λ stop. phase_of self.new ≡ phases.Stopped stop) }
         // What stopped it isn't counted.
-        ensures uncounted { OnErr result ((blocks_of self.new ≡ blocks_of self.old) × (bytes_of self.new ≡ bytes_of self.old)) }
+        ensures uncounted { OnErr result ((blocks_of self.new ≡ blocks_of self.old) × (planned_bytes self.new ≡ planned_bytes self.old)) }
         ensures cause { Cause (L.state (store_of self.old)).faults (L.state (store_of self.new)).faults result }
     {
         let blocks = self.plan.blocks();
@@ -511,7 +511,7 @@ impl<L: LiveStore> Scribe<L> {
         ensures ends { EndsFile L.state self.old self.new (record { blocks = result.blocks; bytes = result.bytes }) result.end }
         ensures last { OfEach L.state self.old (λ options history. GivesLast (seen_before (λ e. L.Extent.tells e) (λ e. L.Extent.size e) (L.state (store_of self.old))) options history result.last) }
         ensures counted { CountsLast (blocks_of self.old) result.blocks result.last }
-        ensures numbers { (result.blocks ≡ blocks_of self.new) × (result.bytes ≡ bytes_of self.new) }
+        ensures numbers { (result.blocks ≡ blocks_of self.new) × (result.bytes ≡ planned_bytes self.new) }
         ensures ended { OnOk result.end (phase_of self.new ≡ phases.Ended) }
         // The whole file is with the system, whether there are chunks or not.
         ensures through { OnOk result.end ((L.state (store_of self.new)).waiting ≡ 0) }
@@ -540,16 +540,16 @@ impl<L: LiveStore> Scribe<L> {
     // Appends the last block, if records wait for one. Records no longer come.
     fn append_last(&mut self) -> Result<Option<Entry<L::Extent>>, Stop>
         requires going { phase_of self.old ≡ phases.Going }
-        ensures last { IfOk result (λ last. (options : FileOptions) (extras : List Top) (opened : LiveState) (history : List Rec) → Writes L.state options extras opened history self.old
+        ensures last { IfOk result (λ last. (options : FileOptions) (extras : List Top) (opened : LiveState) (history : List Rec) → WritesHistory L.state options extras opened history self.old
             → AddsLast options opened.held (L.state (store_of self.new)).held history self.new.plan) }
         ensures waiting { self.new.extras ≡ self.old.extras }
         ensures entry { IfOk result (λ last. OfEach L.state self.old (λ options history. GivesLast (seen_before (λ e. L.Extent.tells e) (λ e. L.Extent.size e) (L.state (store_of self.old))) options history last)) }
         ensures counted { IfOk result (λ last. CountsLast (blocks_of self.old) (blocks_of self.new) last) }
-        ensures bytes { IfOk result (λ last. CountsBytes (λ e. L.Extent.size e) (bytes_of self.old) (bytes_of self.new) last) }
+        ensures bytes { IfOk result (λ last. CountsBytes (λ e. L.Extent.size e) (planned_bytes self.old) (planned_bytes self.new) last) }
         ensures ended { OnOk result (phase_of self.new ≡ phases.Ended) }
-        ensures refused { IfErr result (λ stop. (options : FileOptions) (extras : List Top) (opened : LiveState) (history : List Rec) → Writes L.state options extras opened history self.old
-            → StopsAt options extras history opened.held (L.state (store_of self.new)).held stop (numbers (blocks_of self.new) (bytes_of self.new))) }
-        ensures stopped { IfErr result (λ stop. StoppedBefore (blocks_of self.old) (bytes_of self.old) stop self.new.plan) }
+        ensures refused { IfErr result (λ stop. (options : FileOptions) (extras : List Top) (opened : LiveState) (history : List Rec) → WritesHistory L.state options extras opened history self.old
+            → StopsAt options extras history opened.held (L.state (store_of self.new)).held stop (numbers (blocks_of self.new) (planned_bytes self.new))) }
+        ensures stopped { IfErr result (λ stop. StoppedBefore (blocks_of self.old) (planned_bytes self.old) stop self.new.plan) }
         ensures cause { Cause (L.state (store_of self.old)).faults (L.state (store_of self.new)).faults result }
     {
         let blocks = self.plan.blocks();
@@ -568,11 +568,11 @@ impl<L: LiveStore> Scribe<L> {
     fn append_extras(&mut self) -> Result<(), Stop>
         requires ended { phase_of self.old ≡ phases.Ended }
         ensures fills { OnOk result ((options : FileOptions) (extras : List Top) (opened : LiveState) (history : List Rec) → self.old.extras ≡ map top_bytes extras
-            → Fills options [] opened.held (L.state (store_of self.old)).held history self.old.plan
-            → Fills options extras opened.held (L.state (store_of self.new)).held history self.new.plan) }
+            → FillsExtras options [] opened.held (L.state (store_of self.old)).held history self.old.plan
+            → FillsExtras options extras opened.held (L.state (store_of self.new)).held history self.new.plan) }
         ensures refused { IfErr result (λ stop. (options : FileOptions) (extras : List Top) (opened : LiveState) (history : List Rec) → self.old.extras ≡ map top_bytes extras
-            → Fills options [] opened.held (L.state (store_of self.old)).held history self.old.plan
-            → StopsBehind options extras history opened.held (L.state (store_of self.new)).held stop (numbers (blocks_of self.new) (bytes_of self.new))) }
+            → FillsExtras options [] opened.held (L.state (store_of self.old)).held history self.old.plan
+            → StopsBehind options extras history opened.held (L.state (store_of self.new)).held stop (numbers (blocks_of self.new) (planned_bytes self.new))) }
         ensures same { blocks_of self.new ≡ blocks_of self.old }
         ensures stays { OnOk result (phase_of self.new ≡ phases.Ended) }
         ensures stopped { IfErr result (λ stop. phase_of self.new ≡ phases.Stopped stop) }
@@ -595,11 +595,11 @@ impl<L: LiveStore> Scribe<L> {
         requires there { place < length self.old.extras }
         requires ended { phase_of self.old ≡ phases.Ended }
         ensures fills { OnOk result ((t : Top) → get_or self.old.extras place [] ≡ top_bytes t → (options : FileOptions) (extras : List Top) (opened : LiveState) (history : List Rec)
-            → Fills options extras opened.held (L.state (store_of self.old)).held history self.old.plan
-            → Fills options (extras ++ t ∷ []) opened.held (L.state (store_of self.new)).held history self.new.plan) }
+            → FillsExtras options extras opened.held (L.state (store_of self.old)).held history self.old.plan
+            → FillsExtras options (extras ++ t ∷ []) opened.held (L.state (store_of self.new)).held history self.new.plan) }
         ensures refused { IfErr result (λ stop. (t : Top) → get_or self.old.extras place [] ≡ top_bytes t → (options : FileOptions) (extras behind : List Top) (opened : LiveState) (history : List Rec)
-            → Fills options extras opened.held (L.state (store_of self.old)).held history self.old.plan
-            → StopsBehind options (extras ++ t ∷ behind) history opened.held (L.state (store_of self.new)).held stop (numbers (blocks_of self.new) (bytes_of self.new))) }
+            → FillsExtras options extras opened.held (L.state (store_of self.old)).held history self.old.plan
+            → StopsBehind options (extras ++ t ∷ behind) history opened.held (L.state (store_of self.new)).held stop (numbers (blocks_of self.new) (planned_bytes self.new))) }
         ensures same { (blocks_of self.new ≡ blocks_of self.old) × (self.new.extras ≡ self.old.extras) }
         ensures stays { OnOk result (phase_of self.new ≡ phases.Ended) }
         ensures stopped { IfErr result (λ stop. phase_of self.new ≡ phases.Stopped stop) }
@@ -623,15 +623,15 @@ impl<L: LiveStore> Scribe<L> {
     // Appends the Data End and all behind it.
     fn append_back(&mut self) -> Result<(), Stop>
         requires ended { phase_of self.old ≡ phases.Ended }
-        ensures ends { (options : FileOptions) (extras : List Top) (opened : LiveState) (history : List Rec) → Fills options extras opened.held (L.state (store_of self.old)).held history self.old.plan
-            → Ends options extras opened.held (L.state (store_of self.new)).held history (numbers (blocks_of self.new) (bytes_of self.new)) result }
+        ensures ends { (options : FileOptions) (extras : List Top) (opened : LiveState) (history : List Rec) → FillsExtras options extras opened.held (L.state (store_of self.old)).held history self.old.plan
+            → Ends options extras opened.held (L.state (store_of self.new)).held history (numbers (blocks_of self.new) (planned_bytes self.new)) result }
         ensures same { blocks_of self.new ≡ blocks_of self.old }
         ensures stays { OnOk result (phase_of self.new ≡ phases.Ended) }
         ensures through { OnOk result ((L.state (store_of self.new)).waiting ≡ 0) }
-        ensures within { OnOk result (Holds (blocks_of self.new) (bytes_of self.new)) }
+        ensures within { OnOk result (Holds (blocks_of self.new) (planned_bytes self.new)) }
         ensures stopped { IfErr result (λ stop. phase_of self.new ≡ phases.Stopped stop) }
         // What stopped it isn't counted.
-        ensures uncounted { OnErr result ((blocks_of self.new ≡ blocks_of self.old) × (bytes_of self.new ≡ bytes_of self.old)) }
+        ensures uncounted { OnErr result ((blocks_of self.new ≡ blocks_of self.old) × (planned_bytes self.new ≡ planned_bytes self.old)) }
         ensures cause { Cause (L.state (store_of self.old)).faults (L.state (store_of self.new)).faults result }
     {
         let blocks = self.plan.blocks();
@@ -650,7 +650,7 @@ impl<L: LiveStore> Scribe<L> {
 
     // How the file ended, with the numbers as they are now.
     fn finished(&self, last: Option<Entry<L::Extent>>, end: Result<(), Stop>) -> Finished<L::Extent>
-        ensures is { (result.last ≡ last) × (result.end ≡ end) × (result.blocks ≡ blocks_of self.now) × (result.bytes ≡ bytes_of self.now) }
+        ensures is { (result.last ≡ last) × (result.end ≡ end) × (result.blocks ≡ blocks_of self.now) × (result.bytes ≡ planned_bytes self.now) }
         ensures within { Holds result.blocks result.bytes }
     {
         Finished {
@@ -670,7 +670,7 @@ impl<L: LiveStore> Scribe<L> {
 
     /// How many bytes the store took in whole appends.
     pub fn bytes(&self) -> u64
-        ensures { result ≡ bytes_of self.now }
+        ensures { result ≡ planned_bytes self.now }
     {
         self.plan.bytes()
     }

@@ -6,7 +6,7 @@ ghost use Rattle.live_entry.specs.declared.entry.Entry.{Entry as BlockEntry};
 ghost use Rattle.chunk_writer.specs.declared.phase.Phase.TheVariants as phases;
 ghost use Rattle.chunk_writer.specs.declared.phase.Phase.{Phase as TapePhase};
 ghost use Rattle.chunk_writer.specs.declared.tape.Written.{Written as Numbers};
-ghost use Rattle.chunk_writer.specs.Scribes.{store_of, phase_of, blocks_of, bytes_of};
+ghost use Rattle.chunk_writer.specs.Scribes.{store_of, phase_of, blocks_of, planned_bytes};
 ghost use Rattle.chunk_writer.specs.Tapes.{HasTaken, MayTake, EndsFor, seen_store, TakesOn, EndsOn, MeetsLimit, takes_none, takes_on};
 
 use crate::phase::Phase;
@@ -119,7 +119,7 @@ impl<L: LiveStore> Tape for Scribe<L> {
 
     ghost phase = { λ s. phase_of s };
 
-    ghost numbers = { λ s. record { blocks = blocks_of s; bytes = bytes_of s } };
+    ghost numbers = { λ s. record { blocks = blocks_of s; bytes = planned_bytes s } };
 
     ghost failures = { λ s. (L.state (store_of s)).faults };
 

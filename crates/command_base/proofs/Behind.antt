@@ -7,8 +7,8 @@ use Rattle.mcap_io.specs.Outside.{SinkState, RisesOnce, AddsPart}
 use Rattle.mcap_io.proofs.Calls.{adds-adds, adds-part}
 use Rattle.mcap_io.specs.declared.outside.Failed.{Failed}
 use Rattle.command_base.specs.declared.waiting.Waiting.{Waiting}
-use Rattle.command_base.specs.Printing.{TellsAll, TellsPart, Takes, Prints}
-use Rattle.command_base.specs.Putting.{TakesAll, TakesPart, GoesOn, Puts}
+use Rattle.command_base.specs.Printing.{TellsAll, TellsTextPart, Takes, Prints}
+use Rattle.command_base.specs.Putting.{TakesAll, TakesTextPart, GoesOn, PutsText}
 
 -- a count that stood still and then rose by one rose by one
 pub rises_on : (before middle now : ℕ) → middle ≡ before → RisesOnce middle now → RisesOnce before now
@@ -29,7 +29,7 @@ part-longer old new least xs ys part before told =
 tells-all : (old mid new : SinkState) (xs ys : List ℕ) → TellsAll old mid xs → TellsAll mid new ys → TellsAll old new (xs ++ ys)
 tells-all old mid new xs ys first second = record { still = second.still ∙ first.still; adds = adds-adds old.took mid.took new.took xs ys first.adds second.adds }
 
-tells-part : (old mid new : SinkState) (xs ys : List ℕ) → TellsAll old mid xs → TellsPart mid new ys → TellsPart old new (xs ++ ys)
+tells-part : (old mid new : SinkState) (xs ys : List ℕ) → TellsAll old mid xs → TellsTextPart mid new ys → TellsTextPart old new (xs ++ ys)
 tells-part old mid new xs ys first second = record {
   rises = rises_on old.faults mid.faults new.faults first.still second.rises;
   adds = let whole = adds-part old.took mid.took new.took xs ys 0 first.adds second.adds in λ before told. let p = whole before told in (p.0, omega arith, p.2, p.3);
@@ -56,7 +56,7 @@ takes-all old mid new xs ys first second = record {
   silent = λ none. second.silent (second_empty xs ys none) ∙ first.silent (first_empty xs ys none);
 }
 
-takes-part : (old mid new : SinkState) (xs ys : List ℕ) → TakesAll old mid xs → TakesPart mid new ys → TakesPart old new (xs ++ ys)
+takes-part : (old mid new : SinkState) (xs ys : List ℕ) → TakesAll old mid xs → TakesTextPart mid new ys → TakesTextPart old new (xs ++ ys)
 takes-part old mid new xs ys first second = record {
   part = tells-part old mid new xs ys first.all second.part;
   some = λ none. second.some (second_empty xs ys none);
@@ -73,18 +73,18 @@ goes-on s0 s1 s2 w0 w1 w2 xs ys first second = record {
   waiting = append_assoc first.taken second.taken w2 ∙ ap (λ (l : List ℕ). first.taken ++ l) second.waiting ∙ regrouped first.taken w0 w1 xs ys first.waiting;
 }
 
-breaks-off : (s0 s1 s2 : SinkState) (w0 w1 xs ys : List ℕ) → GoesOn s0 s1 w0 w1 xs → TakesPart s1 s2 (w1 ++ ys) → TakesPart s0 s2 (w0 ++ (xs ++ ys))
+breaks-off : (s0 s1 s2 : SinkState) (w0 w1 xs ys : List ℕ) → GoesOn s0 s1 w0 w1 xs → TakesTextPart s1 s2 (w1 ++ ys) → TakesTextPart s0 s2 (w0 ++ (xs ++ ys))
 breaks-off s0 s1 s2 w0 w1 xs ys first second =
-    subst (λ (l : List ℕ). TakesPart s0 s2 l) (regrouped first.taken w0 w1 xs ys first.waiting) (takes-part s0 s1 s2 first.taken (w1 ++ ys) first.takes second)
+    subst (λ (l : List ℕ). TakesTextPart s0 s2 l) (regrouped first.taken w0 w1 xs ys first.waiting) (takes-part s0 s1 s2 first.taken (w1 ++ ys) first.takes second)
 
-stays-broken : (s0 s1 : SinkState) (w0 xs ys : List ℕ) → TakesPart s0 s1 (w0 ++ xs) → TakesPart s0 s1 (w0 ++ (xs ++ ys))
-stays-broken s0 s1 w0 xs ys is = subst (λ (l : List ℕ). TakesPart s0 s1 l) (append_assoc w0 xs ys) (record {
+stays-broken : (s0 s1 : SinkState) (w0 xs ys : List ℕ) → TakesTextPart s0 s1 (w0 ++ xs) → TakesTextPart s0 s1 (w0 ++ (xs ++ ys))
+stays-broken s0 s1 w0 xs ys is = subst (λ (l : List ℕ). TakesTextPart s0 s1 l) (append_assoc w0 xs ys) (record {
   part = record { rises = is.part.rises; adds = part-longer s0.took s1.took 0 (w0 ++ xs) ys is.part.adds };
   some = λ none. is.some (first_empty (w0 ++ xs) ys none);
 })
 
 -- a text that was put behind one that was
-pub puts_behind : (s0 s1 s2 : SinkState) (w0 w1 w2 : Waiting) (xs ys : List ℕ) → Puts s0 w0 s1 w1 xs → Puts s1 w1 s2 w2 ys → Puts s0 w0 s2 w2 (xs ++ ys)
+pub puts_behind : (s0 s1 s2 : SinkState) (w0 w1 w2 : Waiting) (xs ys : List ℕ) → PutsText s0 w0 s1 w1 xs → PutsText s1 w1 s2 w2 ys → PutsText s0 w0 s2 w2 (xs ++ ys)
 puts_behind s0 s1 s2 w0 w1 w2 xs ys first second = record {
   puts = λ on. elim (first.puts on) [
     | inl (on_one, goes) ↦ elim (second.puts on_one) [
@@ -93,38 +93,38 @@ puts_behind s0 s1 s2 w0 w1 w2 xs ys first second = record {
     ]
     | inr (off, part) ↦
         let still = second.silent off in
-        inr (still.0, subst (λ (s : SinkState). TakesPart s0 s (w0.bytes.items ++ (xs ++ ys))) (sym still.1) (stays-broken s0 s1 w0.bytes.items xs ys part))
+        inr (still.0, subst (λ (s : SinkState). TakesTextPart s0 s (w0.bytes.items ++ (xs ++ ys))) (sym still.1) (stays-broken s0 s1 w0.bytes.items xs ys part))
   ];
   silent = λ off. let one = first.silent off in let two = second.silent one.0 in (two.0, two.1 ∙ one.1);
 }
 
-pub puts_same : (s0 s1 : SinkState) (w0 w1 : Waiting) (xs ys : List ℕ) → xs ≡ ys → Puts s0 w0 s1 w1 xs → Puts s0 w0 s1 w1 ys
-puts_same s0 s1 w0 w1 xs ys same puts = subst (λ (l : List ℕ). Puts s0 w0 s1 w1 l) same puts
+pub puts_same : (s0 s1 : SinkState) (w0 w1 : Waiting) (xs ys : List ℕ) → xs ≡ ys → PutsText s0 w0 s1 w1 xs → PutsText s0 w0 s1 w1 ys
+puts_same s0 s1 w0 w1 xs ys same puts = subst (λ (l : List ℕ). PutsText s0 w0 s1 w1 l) same puts
 
 -- the text of one element more
-pub puts_more : {X : Type 0} (f : X → List ℕ) (xs : List X) (i : ℕ) (d : X) (s0 s1 s2 : SinkState) (w0 w1 w2 : Waiting) → i < length xs → Puts s0 w0 s1 w1 (flat_map f (take i xs)) → Puts s1 w1 s2 w2 (f (get_or xs i d))
-    → Puts s0 w0 s2 w2 (flat_map f (take (i + 1) xs))
+pub puts_more : {X : Type 0} (f : X → List ℕ) (xs : List X) (i : ℕ) (d : X) (s0 s1 s2 : SinkState) (w0 w1 w2 : Waiting) → i < length xs → PutsText s0 w0 s1 w1 (flat_map f (take i xs)) → PutsText s1 w1 s2 w2 (f (get_or xs i d))
+    → PutsText s0 w0 s2 w2 (flat_map f (take (i + 1) xs))
 puts_more f xs i d s0 s1 s2 w0 w1 w2 within first second =
     puts_same s0 s2 w0 w2 (flat_map f (take i xs) ++ f (get_or xs i d)) (flat_map f (take (i + 1) xs))
     (ap (λ (l : List ℕ). flat_map f (take i xs) ++ l) (sym (append-nil (f (get_or xs i d)))) ∙ sym (ap (flat_map f) (take_more xs i d within) ∙ flat_map-append f (take i xs) (get_or xs i d ∷ [])))
     (puts_behind s0 s1 s2 w0 w1 w2 (flat_map f (take i xs)) (f (get_or xs i d)) first second)
 
 -- one byte more
-pub puts_next : (xs : List ℕ) (i d : ℕ) (s0 s1 s2 : SinkState) (w0 w1 w2 : Waiting) → i < length xs → Puts s0 w0 s1 w1 (take i xs) → Puts s1 w1 s2 w2 (get_or xs i d ∷ []) → Puts s0 w0 s2 w2 (take (i + 1) xs)
+pub puts_next : (xs : List ℕ) (i d : ℕ) (s0 s1 s2 : SinkState) (w0 w1 w2 : Waiting) → i < length xs → PutsText s0 w0 s1 w1 (take i xs) → PutsText s1 w1 s2 w2 (get_or xs i d ∷ []) → PutsText s0 w0 s2 w2 (take (i + 1) xs)
 puts_next xs i d s0 s1 s2 w0 w1 w2 within first second =
     puts_same s0 s2 w0 w2 (take i xs ++ get_or xs i d ∷ []) (take (i + 1) xs) (sym (take_more xs i d within))
     (puts_behind s0 s1 s2 w0 w1 w2 (take i xs) (get_or xs i d ∷ []) first second)
 
 -- a text that was put from the beginning, and of which nothing waits, was taken
-pub all_put : (s0 s1 s2 : SinkState) (old mid new : Waiting) (text : List ℕ) → old.broken ≡ false → old.bytes.items ≡ [] → Puts s0 old s1 mid text → Puts s1 mid s2 new [] → (new.broken ≡ false → new.bytes.items ≡ []) → Takes s0 s2 text
+pub all_put : (s0 s1 s2 : SinkState) (old mid new : Waiting) (text : List ℕ) → old.broken ≡ false → old.bytes.items ≡ [] → PutsText s0 old s1 mid text → PutsText s1 mid s2 new [] → (new.broken ≡ false → new.bytes.items ≡ []) → Takes s0 s2 text
 all_put s0 s1 s2 old mid new text on empty first last none = taken (puts_same s0 s2 old new (text ++ []) text (append-nil text) (puts_behind s0 s1 s2 old mid new text [] first last))
   where
-    taken : Puts s0 old s2 new text → Takes s0 s2 text
+    taken : PutsText s0 old s2 new text → Takes s0 s2 text
     taken put = elim (put.puts on) [
       | inl (still, goes) ↦
           let whole : goes.taken ≡ text = sym (append-nil goes.taken) ∙ ap (λ (l : List ℕ). goes.taken ++ l) (sym (none still)) ∙ goes.waiting ∙ ap (λ (l : List ℕ). l ++ text) empty in
           subst (λ (l : List ℕ). Takes s0 s2 l) whole (record { tells = inl goes.takes.all; silent = goes.takes.silent })
       | inr (off, part) ↦
-          let whole : TakesPart s0 s2 text = subst (λ (l : List ℕ). TakesPart s0 s2 (l ++ text)) empty part in
+          let whole : TakesTextPart s0 s2 text = subst (λ (l : List ℕ). TakesTextPart s0 s2 (l ++ text)) empty part in
           record { tells = inr whole.part; silent = λ nothing. absurd (whole.some nothing) }
     ]

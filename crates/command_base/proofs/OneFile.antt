@@ -17,7 +17,7 @@ use Rattle.command_base.specs.declared.one_file.Faults.{Faults}
 use Rattle.command_base.specs.Printing.{TellsAll, Takes}
 use Rattle.command_base.specs.Texts.{Trouble, bad_words, fault, output_fault, grammar, compressed, limit, output_limit, not_indexed, flaw, no_memory, asked_status, status_of}
 use Rattle.command_base.specs.Ran.{Scene, counts_in, AnyRose, IsCaused, Blames, kept, refused, failed_so, source_faults, live_faults, named_when, failed_names, Failed as WhichFailed, troubles_of, Complains}
-use Rattle.command_base.specs.OneFile.{Ending, was_read, halted, failing, lacked, text_of, is_lack, findings_of, one_troubles, ending_status, IsHalt, HaltsWell, files_of, NameRead, PrintsEnding, AskedRose, ShowsFaults, ReadsOne}
+use Rattle.command_base.specs.OneFile.{Ending, was_read, halted, failing, lacked, text_of, is_lack, findings_of, one_troubles, ending_status, IsHalt, HaltsWell, single_file, NameRead, PrintsEnding, AskedRose, ShowsFaults, ReadsOne}
 use Rattle.command_base.proofs.Counting.{added_none, kept_adds, kept_well, still_where, blamed, not_risen}
 use Rattle.command_base.proofs.Opened.{tells_more, SameNames, leaves_same}
 use Rattle.command_base.proofs.Blamed.{each_one, some_one}
@@ -131,8 +131,8 @@ three_or false false n answer risen is = absurd cc
 -- the status is not that of bad words
 pub one_not_two : (kind : ObjectKind) (file : List ℕ) (old new : Scene) (entries : List Opening) (ending : Ending) (answer : ℕ) → HaltsWell ending → ReadsOne kind file old new entries ending answer → answer ≡ 2 → ⊥
 one_not_two kind file old new entries ending answer well all two =
-    let due : troubles_of (files_of kind file) (findings_of ending) all.ran.failed all.ran.printing ≡ one_troubles file ending all.blamed all.ran.printing =
-    ap (λ (f : WhichFailed). troubles_of (files_of kind file) (findings_of ending) f all.ran.printing) all.blame in
+    let due : troubles_of (single_file kind file) (findings_of ending) all.ran.failed all.ran.printing ≡ one_troubles file ending all.blamed all.ran.printing =
+    ap (λ (f : WhichFailed). troubles_of (single_file kind file) (findings_of ending) f all.ran.printing) all.blame in
     let told : Complains (one_troubles file ending all.blamed all.ran.printing) old.err new.err answer =
     subst (λ (l : List Trouble). Complains l old.err new.err answer) due all.ran.said in
     let is = answered file ending all.blamed all.ran.printing old.err new.err answer well told in
@@ -276,7 +276,7 @@ module _ (kind : ObjectKind) (file : List ℕ) (old new : Scene) (entries : List
       let well : came.broke ≡ false = false_from_ne_true came.broke (λ is. both_ways came.faults.printing all.3 (parts.shows.printing_told (inl is))) in
       (unnamed (unblamed all.2), (all.0, all.1, all_taken old.out new.out ending came.broke all.0 parts.prints all.1 well))
 
-  blames : Blames (files_of kind file) old.world new.world entries (named_when came.faults.file file ++ [])
+  blames : Blames (single_file kind file) old.world new.world entries (named_when came.faults.file file ++ [])
   blames = record {
     exact = λ on.
         let same : came.faults.file ≡ came.broken = same_tests came.faults.file came.broken (λ blamed_is. elim (parts.shows.file_cause blamed_is) [
@@ -285,7 +285,7 @@ module _ (kind : ObjectKind) (file : List ℕ) (old new : Scene) (entries : List
           | inr (inr inputs) ↦ is_true came.broken (λ none. not_risen ⊥ old.world.input_faults new.world.input_faults on.inputs (parts.name.inputs_told none) inputs)
         ]) (λ is. parts.shows.file_told (inl is)) in
         ap (λ (b : Bool). named_when b file ++ []) same ∙ sym parts.name.names_are;
-    caused = each_one (IsCaused (files_of kind file) old.world new.world) came.faults.file file (λ blamed_is. elim (file_rose blamed_is) [ inl world ↦ inl world | inr inputs ↦ inr (inl ((0, refl), inputs)) ]);
+    caused = each_one (IsCaused (single_file kind file) old.world new.world) came.faults.file file (λ blamed_is. elim (file_rose blamed_is) [ inl world ↦ inl world | inr inputs ↦ inr (inl ((0, refl), inputs)) ]);
     told = λ on risen none.
         let well : came.faults.file ≡ false = false_from_ne_true came.faults.file (λ is. some_one came.faults.file file is none) in
         elim risen [

@@ -7,7 +7,7 @@ use Rattle.mcap_io.specs.Outside.{Opening, Keeping, Told, opened, with_opening, 
 use Rattle.mcap_io.specs.declared.outside.Failed.{Failed}
 use Rattle.mcap_io.specs.declared.outside.ObjectKind.TheVariants as kinds
 use Rattle.mcap_io.proofs.Notes.{noted_in}
-use Rattle.command_base.specs.Ran.{kept, refused, IsWritten, Leaves}
+use Rattle.command_base.specs.Ran.{kept, refused, IsGivenLive, Leaves}
 
 -- where a world told before an opening, it tells of it
 pub tells_more : (old new : Option Told) (entry : Opening) (told : Told) → new ≡ option_map (λ (t : Told). with_opening t entry) old → old ≡ Some told → new ≡ Some (with_opening told entry)
@@ -60,6 +60,6 @@ holds_same name old new entries same told now here here_now =
     ap (λ (t : Told). t.names name) (same_told now s.0 (sym here_now ∙ s.1)) ∙ ap (λ (n : Names). n name) s.3
 
 -- a name that isn't written is not the output's, which stands behind the feed's
-pub others_unwritten : (source : Opening) (out : List ℕ) (keeping : Keeping) (all now : Names) → OthersSame all now out → (name : List ℕ) → (IsWritten (source ∷ kept kinds.Live out keeping ∷ []) name → ⊥) → now name ≡ all name
+pub others_unwritten : (source : Opening) (out : List ℕ) (keeping : Keeping) (all now : Names) → OthersSame all now out → (name : List ℕ) → (IsGivenLive (source ∷ kept kinds.Live out keeping ∷ []) name → ⊥) → now name ≡ all name
 others_unwritten source out keeping all now same name unwritten =
     same name (λ is. unwritten (record { entry = kept kinds.Live out keeping; there = (1, refl); live = refl; given = refl; named = sym is }))

@@ -11,7 +11,7 @@ use Rattle.command_base.specs.declared.file_reading.Reading.{Reading}
 use Rattle.command_base.specs.declared.file_reading.Reading.TheVariants as readings
 use Rattle.command_base.specs.Ran.{Scene, kept, refused, failed_so}
 use Rattle.command_base.specs.OneFile.{Ending, was_read, halted, failing, lacked, HaltsWell}
-use Rattle.command_base.specs.Readings.{is_failure, IsRefusal, ending_of, StoreUse, seen, IsOpened, IsSourceRead, IsStoreRead, NameEnds, Reads}
+use Rattle.command_base.specs.Readings.{is_failure, IsRefusal, ending_of, StoreUse, store_use, IsOpened, IsSourceRead, IsStoreRead, NameEnds, ReadsFile}
 use Rattle.command_base.proofs.Counting.{failed_often}
 use Rattle.command_base.proofs.OneFile.{one_not_two, IsInput, IsTakenBack, taken_back, unopened, unopened_for_memory, halts_so, read_halts, failed_halts, lacked_halts, lacked_sure, read_sure}
 
@@ -103,11 +103,11 @@ module _ {T R : Type 0} (P : Reading T R → Type 0) (file bytes : List ℕ) (wo
   store_shows Comes some [] reading is = subst P (sym is) (none open_refusals.Memory)
   store_shows Comes some (entry ∷ more) reading (inl unopened) = subst P (sym unopened.1) (none open_refusals.Failed)
   store_shows Comes some (entry ∷ more) reading (inr (keeping, is, (came, opened, under))) =
-      subst P (sym opened) (some under.store (seen keeping.faults keeping.asked) came ((under.tells told here).0 ∙ there) under.comes)
+      subst P (sym opened) (some under.store (store_use keeping.faults keeping.asked) came ((under.tells told here).0 ∙ there) under.comes)
 
 -- ---- the command
 
 -- the status is not that of bad words
 pub reads_not_two : {T R : Type 0} (text : T → List ℕ) (refusal : R → Ending) → ((why : R) → IsRefusal (refusal why)) → (IsRead : WorldState → List Opening → Reading T R → Type 0) (kind : ObjectKind) (file : List ℕ) (old new : Scene) (answer : ℕ)
-    → Reads IsRead kind file (ending_of text refusal) old new answer → answer ≡ 2 → ⊥
+    → ReadsFile IsRead kind file (ending_of text refusal) old new answer → answer ≡ 2 → ⊥
 reads_not_two text refusal refuses IsRead kind file old new answer all two = one_not_two kind file old new all.entries (ending_of text refusal all.reading) answer (reading_halts text refusal refuses all.reading) all.ran two

@@ -9,7 +9,7 @@ use Rattle.mcap_model.specs.declared.refusals.IndexedRefused.{IndexedRefused}
 use Rattle.mcap_model.specs.declared.refusals.IndexedRefused.TheVariants as indexed
 use Rattle.command_base.specs.declared.faults.Counts.{Counts}
 use Rattle.command_base.specs.declared.one_file.Faults.{Faults}
-use Rattle.command_base.specs.Printing.{TellsAll, TellsPart}
+use Rattle.command_base.specs.Printing.{TellsAll, TellsTextPart}
 use Rattle.command_base.specs.Texts.{Trouble, fault, output_fault, grammar, compressed, limit, not_indexed, no_memory, asked_status}
 use Rattle.command_base.specs.Ran.{Scene, counts_in, AnyRose, Files, wanted, AreOpened, Leaves, CountsKept, named_when, failed_names, when, Findings, Ran}
 
@@ -81,12 +81,12 @@ one_troubles file ending failed printing = troubles_in ending ++ (when failed (f
 -- ---- the file
 
 -- the one name, opened as an object of that kind
-abbrev pub files_of : ObjectKind → List ℕ → Files
-files_of kind file = record { kind = kind; inputs = file ∷ []; outputs = [] }
+abbrev pub single_file : ObjectKind → List ℕ → Files
+single_file kind file = record { kind = kind; inputs = file ∷ []; outputs = [] }
 
 -- what became of the file's name: it was opened and taken back, or not, and failed or not
 pub record NameRead (kind : ObjectKind) (file : List ℕ) (old new : WorldState) (entries : List Opening) (failed : Bool) : Type 0 where
-  pub opened : AreOpened (wanted (files_of kind file)) entries
+  pub opened : AreOpened (wanted (single_file kind file)) entries
   pub leaves : Leaves old new entries
   pub counts : CountsKept old new entries
   pub names_are : failed_names entries ≡ named_when failed file ++ []
@@ -99,7 +99,7 @@ pub record NameRead (kind : ObjectKind) (file : List ℕ) (old new : WorldState)
 
 -- all of the text was taken, or a first part where the output failed; it is as it was where nothing is printed
 abbrev pub PrintsEnding : SinkState → SinkState → Ending → Bool → Type 0
-PrintsEnding before now (was_read text) broke = ((broke ≡ false) × TellsAll before now text) ⊎ ((broke ≡ true) × TellsPart before now text)
+PrintsEnding before now (was_read text) broke = ((broke ≡ false) × TellsAll before now text) ⊎ ((broke ≡ true) × TellsTextPart before now text)
 PrintsEnding before now (halted trouble) broke = (broke ≡ false) × (now ≡ before)
 PrintsEnding before now failing broke = (broke ≡ false) × (now ≡ before)
 PrintsEnding before now lacked broke = (broke ≡ false) × (now ≡ before)
@@ -122,7 +122,7 @@ pub record ShowsFaults (before now : Counts) (failed broke : Bool) (faults : Fau
 -- What a command did to the world and to both outputs that opened the one name, and whose reading of it ended so.
 pub record ReadsOne (kind : ObjectKind) (file : List ℕ) (old new : Scene) (entries : List Opening) (ending : Ending) (status : ℕ) : Type 0 where
   -- standard output takes the text, and standard error the troubles, which give the status
-  pub ran : Ran (files_of kind file) old new entries (text_of ending) (findings_of ending) status
+  pub ran : Ran (single_file kind file) old new entries (text_of ending) (findings_of ending) status
   -- the file alone is blamed, once, where a count of the world or of its inputs rose, or stands at the end of its type
   pub blamed : Bool
   pub blame : ran.failed ≡ record { inputs = blamed ∷ []; outputs = [] }

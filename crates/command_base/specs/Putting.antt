@@ -2,7 +2,7 @@
 use Rattle.std.specs.Prelude.{◌≡◌, ◌⊎◌, ℕ, List, [], ◌++◌, true, false}
 use Rattle.mcap_io.specs.Outside.{SinkState}
 use Rattle.command_base.specs.declared.waiting.Waiting.{Waiting}
-use Rattle.command_base.specs.Printing.{TellsAll, TellsPart}
+use Rattle.command_base.specs.Printing.{TellsAll, TellsTextPart}
 
 -- all of the text was taken, and of the empty one nothing was written
 pub record TakesAll (before now : SinkState) (text : List ℕ) : Type 0 where
@@ -10,8 +10,8 @@ pub record TakesAll (before now : SinkState) (text : List ℕ) : Type 0 where
   pub silent : text ≡ [] → now ≡ before
 
 -- a write failed, and there was a text for it
-pub record TakesPart (before now : SinkState) (text : List ℕ) : Type 0 where
-  pub part : TellsPart before now text
+pub record TakesTextPart (before now : SinkState) (text : List ℕ) : Type 0 where
+  pub part : TellsTextPart before now text
   pub some : text ≡ [] → ⊥
 
 -- a first part of what waited and of the text behind it was taken, and the rest waits
@@ -21,7 +21,7 @@ pub record GoesOn (before now : SinkState) (waits left text : List ℕ) : Type 0
   pub waiting : taken ++ left ≡ waits ++ text
 
 -- The text was put behind what waited, or a write failed. After one that failed nothing is written.
-pub record Puts (before : SinkState) (old : Waiting) (now : SinkState) (new : Waiting) (text : List ℕ) : Type 0 where
+pub record PutsText (before : SinkState) (old : Waiting) (now : SinkState) (new : Waiting) (text : List ℕ) : Type 0 where
   pub puts : old.broken ≡ false → ((new.broken ≡ false) × GoesOn before now old.bytes.items new.bytes.items text)
-      ⊎ ((new.broken ≡ true) × TakesPart before now (old.bytes.items ++ text))
+      ⊎ ((new.broken ≡ true) × TakesTextPart before now (old.bytes.items ++ text))
   pub silent : old.broken ≡ true → (new.broken ≡ true) × (now ≡ before)

@@ -23,11 +23,11 @@ scene world out err = record { world = world; out = out; err = err }
 -- ---- counts of faults
 
 -- the counts of the world, of its kept inputs and outputs, and of standard output
-abbrev pub counts : WorldState → SinkState → Counts
-counts world out = record { world = world.faults; inputs = world.input_faults; outputs = world.output_faults; printing = out.faults }
+abbrev pub counted_faults : WorldState → SinkState → Counts
+counted_faults world out = record { world = world.faults; inputs = world.input_faults; outputs = world.output_faults; printing = out.faults }
 
 abbrev pub counts_in : Scene → Counts
-counts_in s = counts s.world s.out
+counts_in s = counted_faults s.world s.out
 
 -- a count of the world has risen
 abbrev pub WorldRose : WorldState → WorldState → Type 0
@@ -75,7 +75,7 @@ AreOpened (first ∷ more) (entry ∷ entries) = ((entry ≡ refused first.0 fir
     ⊎ ((keeping : Keeping) × (entry ≡ kept first.0 first.1 keeping) × AreOpened more entries)
 
 -- a live store was given under that name
-pub record IsWritten (entries : List Opening) (name : List ℕ) : Type 0 where
+pub record IsGivenLive (entries : List Opening) (name : List ℕ) : Type 0 where
   pub entry : Opening
   pub there : Has entries entry
   pub live : entry.kind ≡ kinds.Live
@@ -86,7 +86,7 @@ pub record IsWritten (entries : List Opening) (name : List ℕ) : Type 0 where
 -- what it held.
 abbrev pub Leaves : WorldState → WorldState → List Opening → Type 0
 Leaves old new entries = (told : Told) → old.told ≡ Some told → (now : Told) × (new.told ≡ Some now) × (now.log ≡ told.log ++ entries)
-    × ((name : List ℕ) → (IsWritten entries name → ⊥) → now.names name ≡ told.names name)
+    × ((name : List ℕ) → (IsGivenLive entries name → ⊥) → now.names name ≡ told.names name)
 
 -- ---- faults of openings
 

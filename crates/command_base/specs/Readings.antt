@@ -39,11 +39,11 @@ pub record StoreUse : Type 0 where
   pub faults : ℕ
   pub asked : ℕ
 
-abbrev pub seen : ℕ → ℕ → StoreUse
-seen faults asked = record { faults = faults; asked = asked }
+abbrev pub store_use : ℕ → ℕ → StoreUse
+store_use faults asked = record { faults = faults; asked = asked }
 
 abbrev pub use_of : StoreState → StoreUse
-use_of store = seen store.faults store.asked
+use_of store = store_use store.faults store.asked
 
 -- the source that was opened under the name told the bytes there, where the world tells; this came of its reading, and it was
 -- taken back
@@ -58,7 +58,7 @@ pub record StoreUnder {A : Type 0} (Comes : StoreState → StoreUse → A → Ty
   pub store : StoreState
   pub tells : TellsStore world file store
   pub unused : IsUnused store
-  pub comes : Comes store (seen keeping.faults keeping.asked) came
+  pub comes : Comes store (store_use keeping.faults keeping.asked) came
 
 -- ---- names
 
@@ -87,7 +87,7 @@ pub record NameEnds (kind : ObjectKind) (file : List ℕ) (old new : WorldState)
 -- ---- commands
 
 -- What a command did that reads one file: this came of its reading, and it has that text, or so a refusal ends it.
-pub record Reads {T R : Type 0} (IsRead : WorldState → List Opening → Reading T R → Type 0) (kind : ObjectKind) (file : List ℕ) (ending : Reading T R → Ending) (old new : Scene) (status : ℕ) : Type 0 where
+pub record ReadsFile {T R : Type 0} (IsRead : WorldState → List Opening → Reading T R → Type 0) (kind : ObjectKind) (file : List ℕ) (ending : Reading T R → Ending) (old new : Scene) (status : ℕ) : Type 0 where
   -- the file is opened as an object of that kind, and nothing else; this is what its reading came to
   pub entries : List Opening
   pub reading : Reading T R

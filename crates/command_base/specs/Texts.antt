@@ -60,20 +60,20 @@ about name what = codes "mcaprec: " ++ (quoted name ++ what)
 abbrev pub at_offset : ℕ → List ℕ
 at_offset n = codes " at " ++ (decimal n ++ codes "\n")
 
-unfoldable pub line_of : Trouble → List ℕ
-line_of bad_words = codes "mcaprec: bad words\n"
-line_of (fault name) = about name (codes ": fault\n")
-line_of output_fault = codes "mcaprec: output: fault\n"
-line_of (grammar name n) = about name (codes ": grammar" ++ at_offset n)
-line_of (compressed name compression n) = about name (codes ": compressed " ++ (quoted compression ++ at_offset n))
-line_of (limit name n) = about name (codes ": limit" ++ at_offset n)
-line_of (output_limit name) = about name (codes ": limit\n")
-line_of (not_indexed name why) = about name (codes ": not indexed: " ++ (unindexed_text why ++ codes "\n"))
-line_of (flaw name rule n) = about name (codes ": flaw V" ++ (decimal rule ++ at_offset n))
-line_of no_memory = codes "mcaprec: no memory\n"
+unfoldable pub trouble_line : Trouble → List ℕ
+trouble_line bad_words = codes "mcaprec: bad words\n"
+trouble_line (fault name) = about name (codes ": fault\n")
+trouble_line output_fault = codes "mcaprec: output: fault\n"
+trouble_line (grammar name n) = about name (codes ": grammar" ++ at_offset n)
+trouble_line (compressed name compression n) = about name (codes ": compressed " ++ (quoted compression ++ at_offset n))
+trouble_line (limit name n) = about name (codes ": limit" ++ at_offset n)
+trouble_line (output_limit name) = about name (codes ": limit\n")
+trouble_line (not_indexed name why) = about name (codes ": not indexed: " ++ (unindexed_text why ++ codes "\n"))
+trouble_line (flaw name rule n) = about name (codes ": flaw V" ++ (decimal rule ++ at_offset n))
+trouble_line no_memory = codes "mcaprec: no memory\n"
 
 abbrev pub said : List Trouble → List ℕ
-said troubles = flat_map line_of troubles
+said troubles = flat_map trouble_line troubles
 
 -- ---- the status
 
@@ -91,12 +91,12 @@ asked_status (flaw name rule n) = 1
 asked_status no_memory = 5
 
 -- one of the troubles asks for the status
-abbrev pub is_asked : List Trouble → ℕ → Bool
-is_asked troubles status = list_any (λ t. asked_status t == status) troubles
+abbrev pub status_is_asked : List Trouble → ℕ → Bool
+status_is_asked troubles status = list_any (λ t. asked_status t == status) troubles
 
 -- the first of 2, 5, 3, 4 and 1 that is asked for, or 0
 abbrev pub status_of : List Trouble → ℕ
-status_of troubles = unwrap_or (find (is_asked troubles) (2 ∷ 5 ∷ 3 ∷ 4 ∷ 1 ∷ [])) 0
+status_of troubles = unwrap_or (find (status_is_asked troubles) (2 ∷ 5 ∷ 3 ∷ 4 ∷ 1 ∷ [])) 0
 
 -- that of where the reading of a file halts
 abbrev pub halt_status : Halt → ℕ

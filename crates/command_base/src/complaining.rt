@@ -3,7 +3,7 @@ ghost use Rattle.std.specs.Prelude.{◌≡◌, ◌∷◌, ◌++◌, []};
 ghost use Rattle.std.specs.List.{flat_map};
 ghost use Rattle.command_base.specs.Texts.{trouble_of, complained, bad_words, no_memory, said};
 ghost use Rattle.command_base.specs.Printing.{Takes};
-ghost use Rattle.command_base.specs.Putting.{Puts};
+ghost use Rattle.command_base.specs.Putting.{PutsText};
 ghost use Rattle.command_base.specs.Ran.{when, Complains};
 
 use crate::complaint::{BAD_WORDS, Complaint, NO_MEMORY, put_line, status};
@@ -19,7 +19,7 @@ pub fn due_when(due: bool, complaint: Complaint<'_>) -> Option<Complaint<'_>>
 
 // Puts the line of a complaint, if there is one.
 fn put_some<E: Sink>(waiting: &mut Waiting, err: &mut E, complaint: &Option<Complaint<'_>>)
-    ensures { Puts (E.state err.old) waiting.old (E.state err.new) waiting.new (said (complained complaint.now)) }
+    ensures { PutsText (E.state err.old) waiting.old (E.state err.new) waiting.new (said (complained complaint.now)) }
 {
     match complaint {
         Some(complaint) => put_line(waiting, err, complaint),
@@ -29,7 +29,7 @@ fn put_some<E: Sink>(waiting: &mut Waiting, err: &mut E, complaint: &Option<Comp
 
 // Puts the lines of the complaints that there are, in their order.
 fn put_lines<E: Sink>(waiting: &mut Waiting, err: &mut E, complaints: &[Option<Complaint<'_>>])
-    ensures { Puts (E.state err.old) waiting.old (E.state err.new) waiting.new (flat_map (λ c. said (complained c)) complaints.now) }
+    ensures { PutsText (E.state err.old) waiting.old (E.state err.new) waiting.new (flat_map (λ c. said (complained c)) complaints.now) }
 {
     'complaints: for complaint in complaints {
         put_some(waiting, err, complaint);

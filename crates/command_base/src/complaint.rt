@@ -1,8 +1,8 @@
 //! What the program says on standard error, and the status that it ends with.
 ghost use Rattle.std.specs.Prelude.{◌≡◌, ◌++◌, codes};
 ghost use Rattle.std.specs.List.{flat_map, list_any};
-ghost use Rattle.command_base.specs.Texts.{trouble_of, complained, compressed, flaw, unindexed_text, about, at_offset, line_of, asked_status, is_asked, status_of};
-ghost use Rattle.command_base.specs.Putting.{Puts};
+ghost use Rattle.command_base.specs.Texts.{trouble_of, complained, compressed, flaw, unindexed_text, about, at_offset, trouble_line, asked_status, status_is_asked, status_of};
+ghost use Rattle.command_base.specs.Putting.{PutsText};
 
 use crate::waiting::Waiting;
 use mcap_io::Sink;
@@ -75,7 +75,7 @@ fn words_for(why: NotIndexed) -> &'static str
 
 // Puts a name, and what stands behind it.
 fn put_about<E: Sink>(waiting: &mut Waiting, err: &mut E, name: &str, what: &str)
-    ensures { Puts (E.state err.old) waiting.old (E.state err.new) waiting.new (about name.now what.now) }
+    ensures { PutsText (E.state err.old) waiting.old (E.state err.new) waiting.new (about name.now what.now) }
 {
     waiting.put_text(err, "mcaprec: ");
     waiting.put_quoted(err, name);
@@ -84,7 +84,7 @@ fn put_about<E: Sink>(waiting: &mut Waiting, err: &mut E, name: &str, what: &str
 
 // Puts an offset, and the end of the line.
 fn put_offset<E: Sink>(waiting: &mut Waiting, err: &mut E, offset: u64)
-    ensures { Puts (E.state err.old) waiting.old (E.state err.new) waiting.new (at_offset offset) }
+    ensures { PutsText (E.state err.old) waiting.old (E.state err.new) waiting.new (at_offset offset) }
 {
     waiting.put_text(err, " at ");
     waiting.put_number(err, offset);
@@ -93,7 +93,7 @@ fn put_offset<E: Sink>(waiting: &mut Waiting, err: &mut E, offset: u64)
 
 // Puts the line of what is the matter with a file.
 fn put_file<E: Sink>(waiting: &mut Waiting, err: &mut E, name: &str, what: &str)
-    ensures { Puts (E.state err.old) waiting.old (E.state err.new) waiting.new (about name.now (what.now ++ codes "\n")) }
+    ensures { PutsText (E.state err.old) waiting.old (E.state err.new) waiting.new (about name.now (what.now ++ codes "\n")) }
 {
     put_about(waiting, err, name, what);
     waiting.put_text(err, "\n");
@@ -101,14 +101,14 @@ fn put_file<E: Sink>(waiting: &mut Waiting, err: &mut E, name: &str, what: &str)
 
 // Puts the line of what is the matter at an offset of a file.
 fn put_place<E: Sink>(waiting: &mut Waiting, err: &mut E, name: &str, what: &str, offset: u64)
-    ensures { Puts (E.state err.old) waiting.old (E.state err.new) waiting.new (about name.now (what.now ++ at_offset offset)) }
+    ensures { PutsText (E.state err.old) waiting.old (E.state err.new) waiting.new (about name.now (what.now ++ at_offset offset)) }
 {
     put_about(waiting, err, name, what);
     put_offset(waiting, err, offset);
 }
 
 // Puts the line of a chunk that is compressed.
-#[tactic(auto, unfolding(crate::specs::Texts::line_of))]
+#[tactic(auto, unfolding(crate::specs::Texts::trouble_line))]
 fn put_compressed<E: Sink>(
     waiting: &mut Waiting,
     err: &mut E,
@@ -116,7 +116,7 @@ fn put_compressed<E: Sink>(
     compression: &str,
     offset: u64,
 )
-    ensures { Puts (E.state err.old) waiting.old (E.state err.new) waiting.new (line_of (compressed name.now compression.now offset)) }
+    ensures { PutsText (E.state err.old) waiting.old (E.state err.new) waiting.new (trouble_line (compressed name.now compression.now offset)) }
 {
     put_about(waiting, err, name, ": compressed ");
     waiting.put_quoted(err, compression);
@@ -124,9 +124,9 @@ fn put_compressed<E: Sink>(
 }
 
 // Puts the line of a rule that fails.
-#[tactic(auto, unfolding(crate::specs::Texts::line_of))]
+#[tactic(auto, unfolding(crate::specs::Texts::trouble_line))]
 fn put_flaw<E: Sink>(waiting: &mut Waiting, err: &mut E, name: &str, rule: u8, offset: u64)
-    ensures { Puts (E.state err.old) waiting.old (E.state err.new) waiting.new (line_of (flaw name.now rule offset)) }
+    ensures { PutsText (E.state err.old) waiting.old (E.state err.new) waiting.new (trouble_line (flaw name.now rule offset)) }
 {
     put_about(waiting, err, name, ": flaw V");
     waiting.put_number(err, rule as u64);
@@ -134,9 +134,9 @@ fn put_flaw<E: Sink>(waiting: &mut Waiting, err: &mut E, name: &str, rule: u8, o
 }
 
 /// Puts the line of a complaint. Names are quoted as JSON strings.
-#[tactic(auto, unfolding(crate::specs::Texts::line_of))]
+#[tactic(auto, unfolding(crate::specs::Texts::trouble_line))]
 pub(crate) fn put_line<E: Sink>(waiting: &mut Waiting, err: &mut E, complaint: &Complaint<'_>)
-    ensures { Puts (E.state err.old) waiting.old (E.state err.new) waiting.new (line_of (trouble_of complaint.now)) }
+    ensures { PutsText (E.state err.old) waiting.old (E.state err.new) waiting.new (trouble_line (trouble_of complaint.now)) }
 {
     match complaint {
         Complaint::BadWords => waiting.put_text(err, BAD_WORDS),
@@ -172,7 +172,7 @@ fn own_status(complaint: &Complaint<'_>) -> u8
 
 // Whether there is a complaint, and it asks for the status.
 fn asks(complaint: &Option<Complaint<'_>>, status: u8) -> bool
-    ensures { result ≡ is_asked (complained complaint.now) status }
+    ensures { result ≡ status_is_asked (complained complaint.now) status }
 {
     match complaint {
         Some(complaint) => own_status(complaint) == status,
@@ -182,7 +182,7 @@ fn asks(complaint: &Option<Complaint<'_>>, status: u8) -> bool
 
 // Whether one of the complaints asks for the status.
 fn asks_for(complaints: &[Option<Complaint<'_>>], status: u8) -> bool
-    ensures { result ≡ list_any (λ c. is_asked (complained c) status) complaints.now }
+    ensures { result ≡ list_any (λ c. status_is_asked (complained c) status) complaints.now }
 {
     complaints.iter().any(|c| asks(c, status))
 }

@@ -1,7 +1,7 @@
 //! The counts of faults that decide whether the outside failed.
 ghost use Rattle.std.specs.Prelude.{◌≡◌, ◌<◌, ◌^◌, ◌↔◌, IsTrue};
 ghost use Rattle.mcap_io.specs.Outside.{Rose, went_well};
-ghost use Rattle.command_base.specs.Ran.{counts, failed_so};
+ghost use Rattle.command_base.specs.Ran.{counted_faults, failed_so};
 ghost use Rattle.command_base.specs.Readings.{is_failure as failed_to_open};
 
 use mcap_io::{Failed, OpenRefused, Sink, World};
@@ -18,7 +18,7 @@ pub struct Counts {
 impl Counts {
     /// The counts as they stand.
     pub fn of<W: World, O: Sink>(world: &W, out: &O) -> Counts
-        ensures are { result ≡ counts (W.state world.now) (O.state out.now) }
+        ensures are { result ≡ counted_faults (W.state world.now) (O.state out.now) }
         ensures world_fits { (W.state world.now).faults < 2 ^ 64 }
         ensures inputs_fit { (W.state world.now).input_faults < 2 ^ 64 }
         ensures outputs_fit { (W.state world.now).output_faults < 2 ^ 64 }

@@ -4,7 +4,7 @@ ghost use Rattle.mcap_io.specs.declared.outside.ObjectKind.{ObjectKind};
 ghost use Rattle.mcap_io.specs.Outside.{Opening, WorldState};
 ghost use Rattle.command_base.specs.Texts.{complained};
 ghost use Rattle.command_base.specs.Printing.{Takes};
-ghost use Rattle.command_base.specs.Ran.{counts, scene};
+ghost use Rattle.command_base.specs.Ran.{counted_faults, scene};
 ghost use Rattle.command_base.specs.OneFile.{Ending, was_read, failing, text_of, troubles_in, is_lack, NameRead, PrintsEnding, ReadsOne};
 ghost use Rattle.command_base.specs.Readings.{IsRefusal, ending_of};
 
@@ -119,7 +119,7 @@ pub fn answer_reading<K: FileReading, W: World, O: Sink, E: Sink>(
     out: &mut O,
     err: &mut E,
 ) -> u8
-    ensures { (kind : ObjectKind) (old : WorldState) (entries : List Opening) → before.now ≡ counts old (O.state out.old)
+    ensures { (kind : ObjectKind) (old : WorldState) (entries : List Opening) → before.now ≡ counted_faults old (O.state out.old)
         → NameRead kind file.now old (W.state world.now) entries read.old.failed
         → (ending_of (K.text what.now) (K.ending what.now file.now) read.old.reading ≡ failing → read.old.failed ≡ true)
         → ReadsOne kind file.now (scene old (O.state out.old) (E.state err.old)) (scene (W.state world.now) (O.state out.new) (E.state err.new)) entries

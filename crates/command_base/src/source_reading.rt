@@ -4,7 +4,7 @@ ghost use Rattle.mcap_io.specs.Outside.{SourceState};
 ghost use Rattle.mcap_io.specs.declared.outside.ObjectKind.{ObjectKind};
 ghost use Rattle.command_base.specs.Ran.{scene};
 ghost use Rattle.command_base.specs.OneFile.{failing};
-ghost use Rattle.command_base.specs.Readings.{ending_of, IsSourceRead, NameEnds, Reads};
+ghost use Rattle.command_base.specs.Readings.{ending_of, IsSourceRead, NameEnds, ReadsFile};
 
 use crate::faults::{Counts, has_failed, is_failure};
 use crate::file_reading::{FileReading, ReadName, Reading, answer_reading};
@@ -62,7 +62,7 @@ pub fn answer_source<K: SourceReading, W: World, O: Sink, E: Sink>(
     out: &mut O,
     err: &mut E,
 ) -> u8
-    ensures { Reads (IsSourceRead (K.comes what.now) file.now) ObjectKind.Source file.now
+    ensures { ReadsFile (IsSourceRead (K.comes what.now) file.now) ObjectKind.Source file.now
         (ending_of (K.text what.now) (K.ending what.now file.now))
         (scene (W.state world.old) (O.state out.old) (E.state err.old))
         (scene (W.state world.new) (O.state out.new) (E.state err.new))

@@ -3,7 +3,7 @@ ghost use Rattle.std.specs.Prelude.{◌≡◌, ◌<◌, [], ◌∷◌, false, de
 ghost use Rattle.std.specs.Char.{digit_char};
 ghost use Rattle.arrayvec.specs.ArrayVec.{array_vec_len};
 ghost use Rattle.json.specs.Print.{escape_letter, escape_byte, escape, quoted};
-ghost use Rattle.command_base.specs.Putting.{Puts};
+ghost use Rattle.command_base.specs.Putting.{PutsText};
 
 use arrayvec::ArrayVec;
 use itoa::Buffer;
@@ -62,7 +62,7 @@ impl Waiting {
 
     /// Writes what waits, if anything does.
     pub(crate) fn write_out<E: Sink>(&mut self, err: &mut E)
-        ensures puts { Puts (E.state err.old) self.old (E.state err.new) self.new [] }
+        ensures puts { PutsText (E.state err.old) self.old (E.state err.new) self.new [] }
         ensures none { self.new.broken ≡ false → self.new.bytes.items ≡ [] }
     {
         if self.broken || self.bytes.is_empty() {
@@ -82,7 +82,7 @@ impl Waiting {
 
     // Makes room for a byte.
     fn make_room<E: Sink>(&mut self, err: &mut E)
-        ensures puts { Puts (E.state err.old) self.old (E.state err.new) self.new [] }
+        ensures puts { PutsText (E.state err.old) self.old (E.state err.new) self.new [] }
         ensures room { self.new.broken ≡ false → array_vec_len self.new.bytes < ROOM }
     {
         if self.bytes.is_full() {
@@ -93,7 +93,7 @@ impl Waiting {
 
     // Puts a byte behind what waits.
     fn put_byte<E: Sink>(&mut self, err: &mut E, byte: u8)
-        ensures { Puts (E.state err.old) self.old (E.state err.new) self.new (byte ∷ []) }
+        ensures { PutsText (E.state err.old) self.old (E.state err.new) self.new (byte ∷ []) }
     {
         self.make_room(err);
         if self.broken {
@@ -104,7 +104,7 @@ impl Waiting {
 
     // Puts bytes behind what waits.
     fn put<E: Sink>(&mut self, err: &mut E, text: &[u8])
-        ensures { Puts (E.state err.old) self.old (E.state err.new) self.new text.now }
+        ensures { PutsText (E.state err.old) self.old (E.state err.new) self.new text.now }
     {
         'text: for byte in text {
             self.put_byte(err, *byte);
@@ -113,14 +113,14 @@ impl Waiting {
 
     /// Puts a text behind what waits.
     pub(crate) fn put_text<E: Sink>(&mut self, err: &mut E, text: &str)
-        ensures { Puts (E.state err.old) self.old (E.state err.new) self.new text.now }
+        ensures { PutsText (E.state err.old) self.old (E.state err.new) self.new text.now }
     {
         self.put(err, text.as_bytes());
     }
 
     /// Puts a number behind what waits, in decimal digits.
     pub(crate) fn put_number<E: Sink>(&mut self, err: &mut E, number: u64)
-        ensures { Puts (E.state err.old) self.old (E.state err.new) self.new (decimal number) }
+        ensures { PutsText (E.state err.old) self.old (E.state err.new) self.new (decimal number) }
     {
         let mut buffer = Buffer::new();
         self.put_text(err, buffer.format(number));
@@ -128,7 +128,7 @@ impl Waiting {
 
     // Puts what stands for a byte in a JSON string.
     fn put_escaped<E: Sink>(&mut self, err: &mut E, byte: u8)
-        ensures { Puts (E.state err.old) self.old (E.state err.new) self.new (escape_byte byte) }
+        ensures { PutsText (E.state err.old) self.old (E.state err.new) self.new (escape_byte byte) }
     {
         let letter = short_escape(byte);
         if letter > 0 {
@@ -145,7 +145,7 @@ impl Waiting {
 
     // Puts what stands for bytes in a JSON string.
     fn put_escapes<E: Sink>(&mut self, err: &mut E, text: &[u8])
-        ensures { Puts (E.state err.old) self.old (E.state err.new) self.new (escape text.now) }
+        ensures { PutsText (E.state err.old) self.old (E.state err.new) self.new (escape text.now) }
     {
         'text: for byte in text {
             self.put_escaped(err, *byte);
@@ -154,7 +154,7 @@ impl Waiting {
 
     /// Puts a text as a JSON string (RFC 8259, section 7), which is one line whatever the text holds.
     pub(crate) fn put_quoted<E: Sink>(&mut self, err: &mut E, text: &str)
-        ensures { Puts (E.state err.old) self.old (E.state err.new) self.new (quoted text.now) }
+        ensures { PutsText (E.state err.old) self.old (E.state err.new) self.new (quoted text.now) }
     {
         self.put_byte(err, b'"');
         self.put_escapes(err, text.as_bytes());

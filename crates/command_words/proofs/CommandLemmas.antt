@@ -13,8 +13,8 @@ use Rattle.clap.specs.Words.{Row, first_of}
 use Rattle.mcap_model.specs.declared.replay.Range.{Range}
 use Rattle.command_words.specs.Synopses.{IsOneOf, Synopsis}
 use Rattle.command_words.specs.Items.{Word, Item, flag, joined, apart, plain, IsFlag, IsFree, IsItem, IsOption, given, place_of, texts, words_of}
-use Rattle.command_words.specs.Commands.{AreAmounts, Flags, GivesNumber, GivesSpan, HasWatchers, IsCat, IsFileOptions, IsGenerate, IsMerge, IsNumber, IsOfFile, IsRange, IsRecord, IsRecover, Reads, Recording, file_synopsis, synopsis_of}
-use Rattle.command_words.specs.Matches.{AreFeeds, AreUnwatched, AtPlaces, AtPlacesIn, Fits, HasRoom, HasRoomIn, IsLoose, IsReading, all_found}
+use Rattle.command_words.specs.Commands.{AreAmounts, Flags, GivesNumber, GivesSpan, HasWatchers, IsCat, IsFileOptions, IsGenerate, IsMerge, IsNumber, IsOfFile, IsRange, IsRecord, IsRecover, ReadsWords, Recording, file_synopsis, synopsis_of}
+use Rattle.command_words.specs.Matches.{AreFeedNames, AreUnwatched, AtPlaces, AtPlacesIn, FitsSynopsis, TakesPositionals, HasRoomIn, IsLoose, IsReading, all_found}
 use Rattle.command_words.specs.declared.verbs.Verb.TheVariants as verb
 use Rattle.command_words.proofs.CutLemmas.{loose_cut, one_cut}
 use Rattle.command_words.proofs.OneCommand.{one_watching}
@@ -101,12 +101,12 @@ abbrev pub places_in : {synopsis : Synopsis} {words : List Word} {rows : List Ro
 places_in reading = flat_map place_of reading.items ++ reading.behind
 
 -- there is one
-pub same_reading : (synopsis : Synopsis) (words : List Word) (rows : List Row) (reading : IsReading synopsis words rows) (items : List Item) (places : List Word) → Reads synopsis words items places → (items ≡ reading.items) × (places ≡ places_in reading)
+pub same_reading : (synopsis : Synopsis) (words : List Word) (rows : List Row) (reading : IsReading synopsis words rows) (items : List Item) (places : List Word) → ReadsWords synopsis words items places → (items ≡ reading.items) × (places ≡ places_in reading)
 same_reading synopsis words rows reading items places reads =
     let both = one_cut synopsis words reading.items reading.behind items reads.behind reading.cut (loose_cut synopsis words items reads.behind reads.cut) in
     (both.0, reads.all ∙ ap₂ (λ (i : List Item) (b : List Word). flat_map place_of i ++ b) both.0 both.1)
 
-pub exact_reading : (synopsis : Synopsis) (words : List Word) (rows : List Row) (reading : IsReading synopsis words rows) → ((name : Word) → IsOption synopsis name → first_of name rows ≢ Some (codes "-")) → Reads synopsis words reading.items (places_in reading)
+pub exact_reading : (synopsis : Synopsis) (words : List Word) (rows : List Row) (reading : IsReading synopsis words rows) → ((name : Word) → IsOption synopsis name → first_of name rows ≢ Some (codes "-")) → ReadsWords synopsis words reading.items (places_in reading)
 exact_reading synopsis words rows reading clean = record {
   behind = reading.behind;
   cut = record {
@@ -136,7 +136,7 @@ pub record IsOfMore (v : Synopsis) (id others : Word) : Type 0 where
   pub first : v.first ≡ id
   pub rest : v.rest ≡ Some others
 
-one_few : (v : Synopsis) (id : Word) (n : ℕ) → IsOfOne v id → HasRoom v n → n ≤ 1
+one_few : (v : Synopsis) (id : Word) (n : ℕ) → IsOfOne v id → TakesPositionals v n → n ≤ 1
 one_few v id n one few = subst (λ (rest : Option Word). HasRoomIn rest n) one.alone few
 
 one_placed : (v : Synopsis) (id : Word) (places : List Word) (Has : Word → List Word → Type 0) → IsOfOne v id → AtPlaces v places Has → Has id places
@@ -267,7 +267,7 @@ generate_is words rows reading seed_word seed feeds messages found d first same 
   seed_word = seed_word;
   feeds_word = (get_or found 0 d).now;
   messages_word = (get_or found 1 d).now;
-  reads = subst (Reads (synopsis_of verb.Generate) words reading.items) (more_places (synopsis_of verb.Generate) words rows reading (codes "seed") (codes "rest") generated seed_word ((get_or found 0 d).now ∷ (get_or found 1 d).now ∷ (get_or found 2 d).now ∷ []) first (sym same ∙ three_texts found d long))
+  reads = subst (ReadsWords (synopsis_of verb.Generate) words reading.items) (more_places (synopsis_of verb.Generate) words rows reading (codes "seed") (codes "rest") generated seed_word ((get_or found 0 d).now ∷ (get_or found 1 d).now ∷ (get_or found 2 d).now ∷ []) first (sym same ∙ three_texts found d long))
       (exact_reading (synopsis_of verb.Generate) words rows reading (λ name none. absurd none));
   seeded = seeded;
   amounts = amounts;
@@ -296,11 +296,11 @@ module _ (words : List Word) (rows : List Row) (reading : IsReading (synopsis_of
     pub generate_named : (d : Bor Word) → (length (get_or found 2 d).now == 0) ≡ true → ⊥
     generate_named d empty = is.out_named (sym (each_same d).2 ∙ empty_text (get_or found 2 d).now empty)
 
-pub merge_is : (words : List Word) (rows : List Row) (reading : IsReading (synopsis_of verb.Merge) words rows) (out : Word) (inputs : List Word) (size : Option ℕ) → first_of (codes "out") rows ≡ Some out → all_found (codes "in") rows ≡ inputs → out ≢ [] → AreFeeds out inputs
+pub merge_is : (words : List Word) (rows : List Row) (reading : IsReading (synopsis_of verb.Merge) words rows) (out : Word) (inputs : List Word) (size : Option ℕ) → first_of (codes "out") rows ≡ Some out → all_found (codes "in") rows ≡ inputs → out ≢ [] → AreFeedNames out inputs
     → GivesNumber 1 67108864 (option_to_list (first_of (codes "chunk") rows)) size → IsMerge words out inputs (unwrap_or size 786432)
 merge_is words rows reading out inputs size is is2 named feeding sized = record {
   items = reading.items;
-  reads = subst (Reads (synopsis_of verb.Merge) words reading.items) (more_places (synopsis_of verb.Merge) words rows reading (codes "out") (codes "in") merged out inputs is is2)
+  reads = subst (ReadsWords (synopsis_of verb.Merge) words reading.items) (more_places (synopsis_of verb.Merge) words rows reading (codes "out") (codes "in") merged out inputs is is2)
       (exact_reading (synopsis_of verb.Merge) words rows reading (each_of (IsClean rows) (codes "chunk" ∷ []) (number_clean 1 67108864 (first_of (codes "chunk") rows) size sized, tt)));
   some = feeding.0;
   few = feeding.1;
@@ -323,15 +323,15 @@ module _ (words : List Word) (rows : List Row) (reading : IsReading (synopsis_of
       subst (λ (l : List Word). GivesNumber 1 67108864 l is.size) same is.sized
 
   -- the inputs are those that are found beside this output
-  pub merge_fed : (name : Word) → first_of (codes "out") rows ≡ Some name → AreFeeds name (all_found (codes "in") rows)
-  merge_fed name found = subst (λ (n : Word). AreFeeds n (all_found (codes "in") rows)) (same_Some out name (sym merge_names.0 ∙ found))
-      (subst (AreFeeds out) (sym merge_names.1) (is.some, is.few, λ i d less. (is.inputs_named i d less, is.differ i d less)))
+  pub merge_fed : (name : Word) → first_of (codes "out") rows ≡ Some name → AreFeedNames name (all_found (codes "in") rows)
+  merge_fed name found = subst (λ (n : Word). AreFeedNames n (all_found (codes "in") rows)) (same_Some out name (sym merge_names.0 ∙ found))
+      (subst (AreFeedNames out) (sym merge_names.1) (is.some, is.few, λ i d less. (is.inputs_named i d less, is.differ i d less)))
 
 pub recover_is : (words : List Word) (rows : List Row) (reading : IsReading (synopsis_of verb.Recover) words rows) (input out : Word) (size : Option ℕ) → first_of (codes "in") rows ≡ Some input → all_found (codes "out") rows ≡ out ∷ [] → input ≢ [] → out ≢ [] → input ≢ out
     → GivesNumber 1 67108864 (option_to_list (first_of (codes "chunk") rows)) size → IsRecover words input out (unwrap_or size 786432)
 recover_is words rows reading input out size is is2 in_named out_named differ sized = record {
   items = reading.items;
-  reads = subst (Reads (synopsis_of verb.Recover) words reading.items) (more_places (synopsis_of verb.Recover) words rows reading (codes "in") (codes "out") recovered input (out ∷ []) is is2)
+  reads = subst (ReadsWords (synopsis_of verb.Recover) words reading.items) (more_places (synopsis_of verb.Recover) words rows reading (codes "in") (codes "out") recovered input (out ∷ []) is is2)
       (exact_reading (synopsis_of verb.Recover) words rows reading (each_of (IsClean rows) (codes "chunk" ∷ []) (number_clean 1 67108864 (first_of (codes "chunk") rows) size sized, tt)));
   in_named = in_named;
   out_named = out_named;
@@ -357,12 +357,12 @@ module _ (words : List Word) (rows : List Row) (reading : IsReading (synopsis_of
 
 -- what was found of a recording
 module _ (words : List Word) (rows : List Row) (reading : IsReading (synopsis_of verb.Record) words rows) (out : Word) (feeds : List Word) (told : Recording) (size : Option ℕ) where
-  pub record_is : first_of (codes "out") rows ≡ Some out → all_found (codes "feed") rows ≡ feeds → out ≢ [] → AreFeeds out feeds → Flags (given (codes "lossless") reading.items) told.lossless
+  pub record_is : first_of (codes "out") rows ≡ Some out → all_found (codes "feed") rows ≡ feeds → out ≢ [] → AreFeedNames out feeds → Flags (given (codes "lossless") reading.items) told.lossless
       → IsFileOptions reading.items told.file → GivesNumber 1 1073741824 (option_to_list (first_of (codes "limit") rows)) size → told.limit ≡ unwrap_or size 104857600 → IsClean rows (codes "profile")
       → AreUnwatched out told.watchers feeds → HasWatchers reading.items told.range told.watchers → IsRecord words out feeds told
   record_is is is2 named feeding flagged options sized limited clean unwatched watched = record {
     items = reading.items;
-    reads = subst (Reads (synopsis_of verb.Record) words reading.items) (more_places (synopsis_of verb.Record) words rows reading (codes "out") (codes "feed") recorded out feeds is is2) (exact_reading (synopsis_of verb.Record) words rows reading all_clean);
+    reads = subst (ReadsWords (synopsis_of verb.Record) words reading.items) (more_places (synopsis_of verb.Record) words rows reading (codes "out") (codes "feed") recorded out feeds is is2) (exact_reading (synopsis_of verb.Record) words rows reading all_clean);
     some = feeding.0;
     few = feeding.1;
     out_named = named;
@@ -394,7 +394,7 @@ module _ (words : List Word) (rows : List Row) (reading : IsReading (synopsis_of
 pub of_file_is : (v : Synopsis) (words : List Word) (rows : List Row) (reading : IsReading v words rows) (file : Word) → HasOnlyFile v → first_of (codes "file") rows ≡ Some file → file ≢ [] → IsOfFile v words file
 of_file_is v words rows reading file only is named = record {
   items = reading.items;
-  reads = subst (Reads v words reading.items) (one_places v words rows reading (codes "file") (only_one_place v only) file is) (exact_reading v words rows reading (λ name option. absurd (no_option v only name option)));
+  reads = subst (ReadsWords v words reading.items) (one_places v words rows reading (codes "file") (only_one_place v only) file is) (exact_reading v words rows reading (λ name option. absurd (no_option v only name option)));
   named = named;
 }
 
@@ -402,7 +402,7 @@ pub cat_is : (words : List Word) (rows : List Row) (reading : IsReading (synopsi
     → IsRange reading.items range → topic ≡ first_of (codes "topic") rows → IsClean rows (codes "topic") → IsCat words file indexed range topic
 cat_is words rows reading file indexed range topic is named flagged ranged topical clean = record {
   items = reading.items;
-  reads = subst (Reads (synopsis_of verb.Cat) words reading.items) (one_places (synopsis_of verb.Cat) words rows reading (codes "file") printed file is) (exact_reading (synopsis_of verb.Cat) words rows reading all_clean);
+  reads = subst (ReadsWords (synopsis_of verb.Cat) words reading.items) (one_places (synopsis_of verb.Cat) words rows reading (codes "file") printed file is) (exact_reading (synopsis_of verb.Cat) words rows reading all_clean);
   named = named;
   flagged = flagged;
   ranged = ranged;
@@ -421,7 +421,7 @@ cat_is words rows reading file indexed range topic is named flagged ranged topic
     all_clean = each_of (IsClean rows) (synopsis_of verb.Cat).options (start_clean, (end_clean, (clean, tt)))
 
 -- an option that the words have isn't `-`
-pub dash_bad : (v : Synopsis) (words : List Word) (rows : List Row) (reading : IsReading v words rows) (items : List Item) (places : List Word) (name : Word) → IsOption v name → first_of name rows ≡ Some (codes "-") → Reads v words items places → ⊥
+pub dash_bad : (v : Synopsis) (words : List Word) (rows : List Row) (reading : IsReading v words rows) (items : List Item) (places : List Word) (name : Word) → IsOption v name → first_of name rows ≡ Some (codes "-") → ReadsWords v words items places → ⊥
 dash_bad v words rows reading items places name is dash reads =
     let same = (same_reading v words rows reading items places reads).0 in
     never_dash v name items is reads.cut.each (ap (given name) same ∙ reading.shows.options name is ∙ ap option_to_list dash)
@@ -446,11 +446,11 @@ Flagged items name = (is_there : Bool) × Flags (given name items) is_there
 pub record Fitting (v : Synopsis) (words : List Word) : Type 0 where
   pub items : List Item
   pub places : List Word
-  pub reads : Reads v words items places
-  pub fits : Fits v items places
+  pub reads : ReadsWords v words items places
+  pub fits : FitsSynopsis v items places
 
 -- where each option and each flag of it is given once at most
-pub fit_with : (v : Synopsis) (words : List Word) (items : List Item) (places : List Word) → Reads v words items places → AllOf (Once items) v.options → AllOf (Flagged items) v.flags → HasRoom v (length places) → Fitting v words
+pub fit_with : (v : Synopsis) (words : List Word) (items : List Item) (places : List Word) → ReadsWords v words items places → AllOf (Once items) v.options → AllOf (Flagged items) v.flags → TakesPositionals v (length places) → Fitting v words
 fit_with v words items places reads options flags few = record {
   items = items;
   places = places;
@@ -502,7 +502,7 @@ items_whole v [] each = All-nil NoDash
 items_whole v (item ∷ rest) each =
     All-append NoDash (words_of item) (flat_map words_of rest) (item_whole v item (All-head (IsItem v) item rest each)) (items_whole v rest (All-tail (IsItem v) item rest each))
 
-pub reads_whole : (v : Synopsis) (words : List Word) (items : List Item) (places : List Word) → Reads v words items places → All NoDash words
+pub reads_whole : (v : Synopsis) (words : List Word) (items : List Item) (places : List Word) → ReadsWords v words items places → All NoDash words
 reads_whole v words items places reads =
     subst (All NoDash) (sym reads.cut.form) (All-append NoDash (flat_map words_of items) reads.cut.tail (items_whole v items reads.cut.each) (elim reads.cut.ends [
       | inl ends ↦ subst (All NoDash) (sym ends.0) (All-nil NoDash)
@@ -516,13 +516,13 @@ module _ (words : List Word) (rows : List Row) (reading : IsReading (synopsis_of
   pub record_names : (first_of (codes "out") rows ≡ Some out) × (all_found (codes "feed") rows ≡ feeds)
   record_names = more_are (synopsis_of verb.Record) words rows reading (codes "out") (codes "feed") recorded out feeds (sym (same_reading (synopsis_of verb.Record) words rows reading is.items (out ∷ feeds) is.reads).1)
 
-  record_feeds : AreFeeds out feeds
+  record_feeds : AreFeedNames out feeds
   record_feeds = (is.some, is.few, λ i d less. (is.feeds_named i d less, is.differ i d less))
 
-  pub record_fed : (name : Word) → first_of (codes "out") rows ≡ Some name → AreFeeds name (all_found (codes "feed") rows)
+  pub record_fed : (name : Word) → first_of (codes "out") rows ≡ Some name → AreFeedNames name (all_found (codes "feed") rows)
   record_fed name found =
       let same : out ≡ name = same_Some out name (sym record_names.0 ∙ found) in
-      subst (λ (o : Word). AreFeeds o (all_found (codes "feed") rows)) same (subst (AreFeeds out) (sym record_names.1) record_feeds)
+      subst (λ (o : Word). AreFeedNames o (all_found (codes "feed") rows)) same (subst (AreFeedNames out) (sym record_names.1) record_feeds)
 
   pub record_watching : HasWatchers reading.items told.range told.watchers
   record_watching = subst (λ (l : List Item). HasWatchers l told.range told.watchers) (same_reading (synopsis_of verb.Record) words rows reading is.items (out ∷ feeds) is.reads).0 is.watched
@@ -560,10 +560,10 @@ pub texts_each : (P : Word → Type 0) (words : List (Bor Word)) → All P (text
 texts_each P [] each = All-nil (λ (word : Bor Word). P word.now)
 texts_each P (word ∷ words) each = All-cons (λ (word : Bor Word). P word.now) word words (All-head P word.now (texts words) each) (texts_each P words (All-tail P word.now (texts words) each))
 
-pub feeds_are : (out : Word) (feeds : List (Bor Word)) → 1 ≤ length feeds → length feeds ≤ 64 → All (λ feed. MayFeed out feed.now) feeds → AreFeeds out (texts feeds)
+pub feeds_are : (out : Word) (feeds : List (Bor Word)) → 1 ≤ length feeds → length feeds ≤ 64 → All (λ feed. MayFeed out feed.now) feeds → AreFeedNames out (texts feeds)
 feeds_are out feeds some few each = (omega (arith, length-map feeds (λ word. word.now), some), omega (arith, length-map feeds (λ word. word.now), few), All-map (MayFeed out) (λ word. word.now) feeds each)
 
-pub feeds_fit : (out : Word) (feeds : List (Bor Word)) → AreFeeds out (texts feeds) → (1 ≤ length feeds) × (length feeds ≤ 64) × All (λ feed. MayFeed out feed.now) feeds
+pub feeds_fit : (out : Word) (feeds : List (Bor Word)) → AreFeedNames out (texts feeds) → (1 ≤ length feeds) × (length feeds ≤ 64) × All (λ feed. MayFeed out feed.now) feeds
 feeds_fit out feeds are = (omega (arith, length-map feeds (λ word. word.now), are.0), omega (arith, length-map feeds (λ word. word.now), are.1), texts_each (MayFeed out) feeds are.2)
 
 pub of_named_file : (v : Synopsis) (words : List Word) (rows : List Row) (reading : IsReading v words rows) (file : Word) → HasOnlyFile v → IsOfFile v words file → (file ≢ []) × (first_of (codes "file") rows ≡ Some file)

@@ -3,8 +3,8 @@ use Rattle.std.proofs.Common.{◌≡◌, ◌≢◌, List, [], ◌∷◌, ◌++�
 use Rattle.std.specs.List.{All, flat_map, slice_index_or}
 use Rattle.std.proofs.lemmas.List.Elements.{All-head, All-tail}
 use Rattle.command_words.specs.Synopses.{Synopsis}
-use Rattle.command_words.specs.Items.{Word, Item, flag, joined, apart, plain, IsCut, IsFlag, IsItem, IsOption, place_of, words_of}
-use Rattle.command_words.specs.Commands.{Reads}
+use Rattle.command_words.specs.Items.{Word, Item, flag, joined, apart, plain, WordsAreItems, IsFlag, IsItem, IsOption, place_of, words_of}
+use Rattle.command_words.specs.Commands.{ReadsWords}
 use Rattle.command_words.specs.Matches.{IsLoose, IsLooseCut}
 use Rattle.command_words.proofs.ItemLemmas.{cut_once, uncut, flag_bare, option_bare, named_same, not_plain, flag_or_option, no_empty_flag, no_empty_option}
 
@@ -106,11 +106,11 @@ loose_item synopsis (plain word) is = is
 pub loose_items : (synopsis : Synopsis) (items : List Item) → All (IsItem synopsis) items → All (IsLoose synopsis) items
 loose_items synopsis items each = λ i d less. loose_item synopsis (slice_index_or items i d) (each i d less)
 
-pub loose_cut : (synopsis : Synopsis) (words : List Word) (items : List Item) (behind : List Word) → IsCut synopsis words items behind → IsLooseCut synopsis words items behind
+pub loose_cut : (synopsis : Synopsis) (words : List Word) (items : List Item) (behind : List Word) → WordsAreItems synopsis words items behind → IsLooseCut synopsis words items behind
 loose_cut synopsis words items behind cut = record { tail = cut.tail; form = cut.form; each = loose_items synopsis items cut.each; ends = cut.ends }
 
 -- and read in one way
-pub one_reading : (synopsis : Synopsis) (words : List Word) (items others : List Item) (places last : List Word) → Reads synopsis words items places → Reads synopsis words others last → (others ≡ items) × (last ≡ places)
+pub one_reading : (synopsis : Synopsis) (words : List Word) (items others : List Item) (places last : List Word) → ReadsWords synopsis words items places → ReadsWords synopsis words others last → (others ≡ items) × (last ≡ places)
 one_reading synopsis words items others places last reads other =
     let both = one_cut synopsis words items reads.behind others other.behind (loose_cut synopsis words items reads.behind reads.cut) (loose_cut synopsis words others other.behind other.cut) in
     (both.0, other.all ∙ ap (λ (l : List Item). flat_map place_of l ++ other.behind) both.0 ∙ ap (λ (l : List Word). flat_map place_of items ++ l) both.1 ∙ sym reads.all)

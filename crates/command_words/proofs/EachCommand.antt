@@ -6,7 +6,7 @@ use Rattle.std.proofs.lemmas.Option.{same_Some}
 use Rattle.mcap_model.specs.declared.options.FileOptions.{FileOptions}
 use Rattle.mcap_model.specs.declared.replay.Range.{Range}
 use Rattle.command_words.specs.Items.{Word, given}
-use Rattle.command_words.specs.Commands.{Behind, IsGenerate, IsMerge, IsRecover, command_name, file_commands, file_synopsis, synopsis_of, told_with, verb_of, verbs}
+use Rattle.command_words.specs.Commands.{WordsMean, IsGenerate, IsMerge, IsRecover, command_name, file_commands, file_synopsis, synopsis_of, told_with, verb_of, verbs}
 use Rattle.command_words.specs.declared.command.FileCommand.{FileCommand}
 use Rattle.command_words.specs.declared.command.Command.{Command}
 use Rattle.command_words.specs.declared.command.Command.TheVariants.{Record, OfFile, Cat, Recover, Merge, Generate}
@@ -81,7 +81,7 @@ pub of_verb : (v : Verb) (P : Command → Type 0) → OfVerb v P → (command : 
 of_verb v P all command same = of_its P command (subst (λ (u : Verb). OfVerb u P) (sym same) all)
 
 -- the words behind a command fit it
-pub fitting : (words : List Word) (command : Command) → Behind words command → Fitting (synopsis_of (verb_of command)) words
+pub fitting : (words : List Word) (command : Command) → WordsMean words command → Fitting (synopsis_of (verb_of command)) words
 fitting words (Record out feeds file limit lossless range watchers) is = fit_record words out feeds (told_with file limit lossless range watchers) is
 fitting words (OfFile what file) is = fit_file (file_synopsis (command_name what)) words file (command_name what, refl) is
 fitting words (Cat file indexed range topic) is = fit_cat words file indexed range topic is
@@ -93,17 +93,17 @@ fitting words (Generate seed feeds messages out) is =
     let one : IsGenerate words seed feeds messages out = is in fit_with (synopsis_of verb.Generate) words one.items (one.seed_word ∷ one.feeds_word ∷ one.messages_word ∷ out ∷ []) one.reads tt tt tt
 
 -- two with one verb are the same
-pub one_behind : (words : List Word) (a b : Command) → verb_of b ≡ verb_of a → Behind words a → Behind words b → b ≡ a
+pub one_behind : (words : List Word) (a b : Command) → verb_of b ≡ verb_of a → WordsMean words a → WordsMean words b → b ≡ a
 one_behind words (Record out feeds file limit lossless range watchers) b same is =
-    of_verb verb.Record (λ c. Behind words c → c ≡ Record out feeds file limit lossless range watchers)
+    of_verb verb.Record (λ c. WordsMean words c → c ≡ Record out feeds file limit lossless range watchers)
     (λ out' feeds' file' limit' lossless' range' watchers' other. one_record words out feeds (told_with file limit lossless range watchers) out' feeds' (told_with file' limit' lossless' range' watchers') is other) b same
 one_behind words (OfFile what file) b same is =
-    of_verb (verb.OfFile what) (λ c. Behind words c → c ≡ OfFile what file) (λ file' other. ap (OfFile what) (one_file (file_synopsis (command_name what)) words file file' is other)) b same
+    of_verb (verb.OfFile what) (λ c. WordsMean words c → c ≡ OfFile what file) (λ file' other. ap (OfFile what) (one_file (file_synopsis (command_name what)) words file file' is other)) b same
 one_behind words (Cat file indexed range topic) b same is =
-    of_verb verb.Cat (λ c. Behind words c → c ≡ Cat file indexed range topic) (λ file' indexed' range' topic' other. one_cat words file indexed range topic file' indexed' range' topic' is other) b same
+    of_verb verb.Cat (λ c. WordsMean words c → c ≡ Cat file indexed range topic) (λ file' indexed' range' topic' other. one_cat words file indexed range topic file' indexed' range' topic' is other) b same
 one_behind words (Recover input out chunk) b same is =
-    of_verb verb.Recover (λ c. Behind words c → c ≡ Recover input out chunk) (λ input' out' chunk' other. one_recover words input out chunk input' out' chunk' is other) b same
+    of_verb verb.Recover (λ c. WordsMean words c → c ≡ Recover input out chunk) (λ input' out' chunk' other. one_recover words input out chunk input' out' chunk' is other) b same
 one_behind words (Merge out inputs chunk) b same is =
-    of_verb verb.Merge (λ c. Behind words c → c ≡ Merge out inputs chunk) (λ out' inputs' chunk' other. one_merge words out inputs chunk out' inputs' chunk' is other) b same
+    of_verb verb.Merge (λ c. WordsMean words c → c ≡ Merge out inputs chunk) (λ out' inputs' chunk' other. one_merge words out inputs chunk out' inputs' chunk' is other) b same
 one_behind words (Generate seed feeds messages out) b same is =
-    of_verb verb.Generate (λ c. Behind words c → c ≡ Generate seed feeds messages out) (λ seed' feeds' messages' out' other. one_generate words seed feeds messages out seed' feeds' messages' out' is other) b same
+    of_verb verb.Generate (λ c. WordsMean words c → c ≡ Generate seed feeds messages out) (λ seed' feeds' messages' out' other. one_generate words seed feeds messages out seed' feeds' messages' out' is other) b same

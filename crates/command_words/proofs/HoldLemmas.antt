@@ -8,9 +8,9 @@ use Rattle.std.proofs.lemmas.Option.{same_Some}
 use Rattle.std.proofs.lemmas.Slice.Eq.{bytes_eq-Decides}
 use Rattle.clap.specs.Walk.{Row}
 use Rattle.command_words.specs.Synopses.{Synopsis}
-use Rattle.command_words.specs.Items.{Word, Item, flag, IsFlag, IsOption, given, use_of}
+use Rattle.command_words.specs.Items.{Word, Item, flag, IsFlag, IsOption, given, value_given}
 use Rattle.command_words.specs.Commands.{Flags}
-use Rattle.command_words.specs.Matches.{AtPlacesIn, Fits, HasRoom, HasRoomIn}
+use Rattle.command_words.specs.Matches.{AtPlacesIn, FitsSynopsis, TakesPositionals, HasRoomIn}
 use Rattle.command_words.proofs.ItemLemmas.{flag_or_option}
 use Rattle.command_words.proofs.RowLemmas.{Gathered, Holds, Said, find_more, put, put_gathers, put_others, row, other_text, said_of, said_others, taken}
 use Rattle.command_words.proofs.RuleLemmas.{flag_not_place, has_room, option_not_place, place_for, place_in, place_is, places_map, two_places}
@@ -18,8 +18,8 @@ use Rattle.command_words.proofs.SynopsisLemmas.{is_text, same_text}
 
 -- ---- lists
 
-pub given_push : (name : Word) (items : List Item) (item : Item) → given name (items ++ item ∷ []) ≡ given name items ++ use_of name item
-given_push name items item = sym (flat_map_more (use_of name) [] items item)
+pub given_push : (name : Word) (items : List Item) (item : Item) → given name (items ++ item ∷ []) ≡ given name items ++ value_given name item
+given_push name items item = sym (flat_map_more (value_given name) [] items item)
 
 gathered_others : (id value other : Word) (rows : List Row) (values : List Word) → id ≢ other → Gathered rows other values → Gathered (taken id value rows) other values
 gathered_others id value other rows [] unlike there = said_others id value other rows None unlike there
@@ -43,7 +43,7 @@ holds_nothing synopsis = record {
   few = no_words synopsis.rest;
 }
 
-pub holds_fits : (synopsis : Synopsis) (items : List Item) (places : List Word) (rows : List Row) → Holds synopsis items places rows → Fits synopsis items places
+pub holds_fits : (synopsis : Synopsis) (items : List Item) (places : List Word) (rows : List Row) → Holds synopsis items places rows → FitsSynopsis synopsis items places
 holds_fits synopsis items places rows holds = record {
   options = λ name is. let one = holds.options name is in (one.0, one.1);
   flags = λ name is. let one = holds.flags name is in (one.0, one.1);
@@ -78,7 +78,7 @@ holds_flag synopsis items places rows name is none holds = record {
         (true, given_push name items (flag name) ∙ rw (flags, same_text name) refl, said_of name (codes "true") rows none)
 
 -- an option more
-pub holds_option : (synopsis : Synopsis) (items : List Item) (places : List Word) (rows : List Row) (name value : Word) (item : Item) → ((other : Word) → use_of other item ≡ (if bytes_eq name other then value ∷ [] else []))
+pub holds_option : (synopsis : Synopsis) (items : List Item) (places : List Word) (rows : List Row) (name value : Word) (item : Item) → ((other : Word) → value_given other item ≡ (if bytes_eq name other then value ∷ [] else []))
     → IsOption synopsis name → Said rows name None → Holds synopsis items places rows → Holds synopsis (items ++ item ∷ []) places (taken name value rows)
 holds_option synopsis items places rows name value item uses is none holds = record {
   options = λ other option. elim (is_text name other) [
@@ -131,7 +131,7 @@ holds_place synopsis items places rows id word at holds =
           let one = holds.flags name is in
           (one.0, one.1, put_others id word name rows (λ same. flag_not_place synopsis name id is place (sym same)) ∙ one.2);
       placed = put_placed synopsis.first synopsis.rest (two_places synopsis) places rows id word at holds.placed;
-      few = subst (HasRoom synopsis) more (has_room synopsis (length places) id at);
+      few = subst (TakesPositionals synopsis) more (has_room synopsis (length places) id at);
     }
 
 -- the same items and positionals, in another form

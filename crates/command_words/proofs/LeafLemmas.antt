@@ -14,7 +14,7 @@ use Rattle.clap.specs.declared.builder.value_parser.Reading.TheVariants.{AsWritt
 use Rattle.clap.specs.declared.parser.matches.ValueSource.TheVariants.{DefaultValue}
 use Rattle.command_words.specs.Synopses.{IsOneOf, Synopsis, are_distinct, places_with}
 use Rattle.command_words.specs.Items.{Word, Item}
-use Rattle.command_words.specs.Matches.{Shows, all_found}
+use Rattle.command_words.specs.Matches.{ParsesInto, all_found}
 use Rattle.command_words.proofs.RowLemmas.{Gathered, Holds, Said, row, find_more, has_is_some, no_row, no_row_has, none_there, other_text}
 use Rattle.command_words.proofs.RuleLemmas.{flag_rule, option_rule, place_rule, place_rules, places_map, rest_rule, rest_rules, rules_of}
 use Rattle.command_words.proofs.SynopsisLemmas.{among_left, distinct_rest, flag_or_place_in, names_distinct, not_again, or_true, same_text}
@@ -182,8 +182,8 @@ gathered_found : (rows : List Row) (id : Word) (values : List Word) → Gathered
 gathered_found rows id [] there = ap (λ (r : Option Row). unwrap_or (option_map (λ (r : Row). r.values) r) []) there
 gathered_found rows id (v ∷ vs) there = ap (λ (r : Option Row). unwrap_or (option_map (λ (r : Row). r.values) r) []) there
 
-pub holds_shows : (synopsis : Synopsis) (items : List Item) (places : List Word) (rows : List Row) → Holds synopsis items places rows → Shows synopsis items places (fold with_default rows (rules_of synopsis))
-holds_shows synopsis items places rows holds = subst (Shows synopsis items places) (sym (finished_rows synopsis rows)) (record {
+pub holds_shows : (synopsis : Synopsis) (items : List Item) (places : List Word) (rows : List Row) → Holds synopsis items places rows → ParsesInto synopsis items places (fold with_default rows (rules_of synopsis))
+holds_shows synopsis items places rows holds = subst (ParsesInto synopsis items places) (sym (finished_rows synopsis rows)) (record {
   options = λ name is.
       let one = holds.options name is in
       let found = kept_found synopsis.flags name rows (λ flag. flag_or_option synopsis name flag is) ∙ one.2 in

@@ -9,7 +9,7 @@ use Rattle.clap.specs.declared.error.kind.ErrorKind.TheVariants.{OutOfMemory}
 use Rattle.clap.specs.declared.parser.matches.ArgMatches.{ArgMatches}
 use Rattle.command_words.specs.Items.{Word, place_of, words_of}
 use Rattle.command_words.specs.Commands.{name_of, synopsis_of}
-use Rattle.command_words.specs.Matches.{AreFine, AreRead, AreUnread, Fits}
+use Rattle.command_words.specs.Matches.{AreFine, EntersSubcommand, AreNoCommand, FitsSynopsis}
 use Rattle.command_words.specs.CommandLine.{IsMade, program}
 use Rattle.command_words.proofs.AppLemmas.{begins, program_simple, verb_fault, verb_rows}
 use Rattle.command_words.proofs.LeafLemmas.{holds_shows, leaf_passes, passes_leaf}
@@ -17,7 +17,7 @@ use Rattle.command_words.proofs.WalkLemmas.{back, fine_rest, forth}
 use Rattle.command_words.proofs.TurnLemmas.{both_none, first_none}
 
 -- words in which nothing is wrong are read
-pub are_read : (words : List Word) → AreFine words → fault_of program words ≡ [] → AreRead words (subcommand_of program words)
+pub are_read : (words : List Word) → AreFine words → fault_of program words ≡ [] → EntersSubcommand words (subcommand_of program words)
 are_read words fine none =
     let start = begins words fine none in
     let verb = start.0 in
@@ -35,10 +35,10 @@ are_read words fine none =
     }
 
 -- and words that fit a command have nothing wrong
-pub are_unread : (words : List Word) → (fault_of program words ≡ [] → ⊥) → AreUnread words
+pub are_unread : (words : List Word) → (fault_of program words ≡ [] → ⊥) → AreNoCommand words
 are_unread words bad verb rest items places form reads fits =
     let cut = reads.cut in
-    let passes = forth (name_of verb) (synopsis_of verb) items cut.tail reads.behind cut.each cut.ends (subst (Fits (synopsis_of verb) items) reads.all fits) in
+    let passes = forth (name_of verb) (synopsis_of verb) items cut.tail reads.behind cut.each cut.ends (subst (FitsSynopsis (synopsis_of verb) items) reads.all fits) in
     let leaf = passes_leaf (name_of verb) (synopsis_of verb) (flat_map words_of items ++ cut.tail) passes in
     let whole = verb_fault verb (flat_map words_of items ++ cut.tail) ∙ both_none _ [] leaf refl in
     bad (ap (fault_of program) (form ∙ ap (λ (l : List Word). name_of verb ∷ l) cut.form) ∙ whole)
@@ -46,19 +46,19 @@ are_unread words bad verb rest items places form reads fits =
 -- ---- what a parse answers
 
 pub found_is : (command : Command) (words : List Word) (found : ArgMatches) → IsMade program command → AreFine words → (is_simple_and_free (app_of command) ≡ true → fault_of (app_of command) words ≡ []) → HasMatchesOf (app_of command) words found
-    → AreRead words (subcommand_rows_of found)
+    → EntersSubcommand words (subcommand_rows_of found)
 found_is command words found made fine kinds matches =
     let none = subst (λ (a : App). fault_of a words ≡ []) made.is (kinds (ap is_simple_and_free made.is ∙ program_simple)) in
     let simple : is_simple program ≡ true = refl in
     let same = (matches (ap is_simple made.is ∙ simple)).1 ∙ ap (λ (a : App). subcommand_of a words) made.is in
-    subst (AreRead words) (sym same) (are_read words fine none)
+    subst (EntersSubcommand words) (sym same) (are_read words fine none)
 
 only_memory : (kinds : Kinds) (e : Error) → HasKind kinds e → kinds ≡ [] → kind_of e ≡ OutOfMemory
 only_memory [] e (inl is) none = is
 only_memory [] e (inr is) none = absurd is
 only_memory (k ∷ kinds) e is none = cc
 
-pub refused_is : (command : Command) (words : List Word) (e : Error) → IsMade program command → kind_of e ≢ OutOfMemory → (is_simple_and_free (app_of command) ≡ true → HasKind (fault_of (app_of command) words) e) → AreUnread words
+pub refused_is : (command : Command) (words : List Word) (e : Error) → IsMade program command → kind_of e ≢ OutOfMemory → (is_simple_and_free (app_of command) ≡ true → HasKind (fault_of (app_of command) words) e) → AreNoCommand words
 refused_is command words e made more kinds =
     let has = subst (λ (a : App). HasKind (fault_of a words) e) made.is (kinds (ap is_simple_and_free made.is ∙ program_simple)) in
     are_unread words (λ none. more (only_memory (fault_of program words) e has none))

@@ -9,7 +9,7 @@ use Rattle.clap.specs.Words.{Row, first_of, one_of}
 use Rattle.mcap_model.specs.declared.replay.Range.{Range}
 use Rattle.command_words.specs.Items.{Word, Item, given}
 use Rattle.command_words.specs.Commands.{Flags, GivesNumber, GivesSpan, HasChunks, HasProfile, HasWatchers, IsRange, IsSpan, MayWatch, SizesChunks, synopsis_of, watchers_with, whole_time}
-use Rattle.command_words.specs.Matches.{Shows}
+use Rattle.command_words.specs.Matches.{ParsesInto}
 use Rattle.command_words.specs.declared.verbs.Verb.TheVariants as verb
 use Rattle.command_words.proofs.OneCommand.{no_colon, one_flag, one_given_span, one_number, one_value}
 
@@ -21,7 +21,7 @@ IsShown rows name flag = (is_there : Bool) → one_of name rows ≡ Some (bool_t
 pub parts_of_span : (word : Word) (span : Range) (is : IsSpan word span) (parts : Option (Bor Word × Bor Word)) → IsSplitOnceResult 58 word parts → MatchOption parts ⊥ (λ x. (x.0.now ≡ is.start_word) × (x.1.now ≡ is.end_word))
 parts_of_span word span is parts cut = split_after 58 word is.start_word is.end_word parts cut (omega arith) is.form (no_colon is.start_word is.started.digits)
 
-module _ (rows : List Row) (items : List Item) (places : List Word) (shows : Shows (synopsis_of verb.Record) items places rows) where
+module _ (rows : List Row) (items : List Item) (places : List Word) (shows : ParsesInto (synopsis_of verb.Record) items places rows) where
   flag_given : (flag : Bool) → IsShown rows (codes "plain") flag → Flags (given (codes "plain") items) flag
   flag_given flag shown = let one = shows.flags (codes "plain") (inl refl) in subst (Flags (given (codes "plain") items)) (sym (shown one.0 one.2)) one.1
 
@@ -96,7 +96,7 @@ no_given_span word (Some w) (Some s) is bad (other, gives, span) =
     let second : w ≡ other = cc in
     bad s (subst (λ (v : Word). IsSpan v s) (sym (first ∙ second)) span)
 
-module _ (rows : List Row) (items : List Item) (places : List Word) (shows : Shows (synopsis_of verb.Cat) items places rows) where
+module _ (rows : List Row) (items : List Item) (places : List Word) (shows : ParsesInto (synopsis_of verb.Cat) items places rows) where
   pub range_is : (start : Option ℕ) (range : Range) → GivesNumber 0 18446744073709551615 (option_to_list (first_of (codes "start") rows)) start → range.start ≡ unwrap_or start 0
       → GivesNumber 0 18446744073709551615 (option_to_list (first_of (codes "end") rows)) range.end → IsRange items range
   range_is start range started from ended = record {

@@ -11,7 +11,7 @@ use Rattle.clap.specs.declared.parser.matches.ValueSource.TheVariants.{CommandLi
 use Rattle.command_words.specs.Synopses.{Synopsis}
 use Rattle.command_words.specs.Items.{Word, Item, IsFlag, IsOption, given}
 use Rattle.command_words.specs.Commands.{Flags}
-use Rattle.command_words.specs.Matches.{AtPlaces, HasRoom}
+use Rattle.command_words.specs.Matches.{AtPlaces, TakesPositionals}
 use Rattle.command_words.proofs.SynopsisLemmas.{same_text}
 
 -- what is found for an argument that was given once
@@ -51,7 +51,7 @@ pub record Holds (synopsis : Synopsis) (items : List Item) (places : List Word) 
   pub options : (name : Word) → IsOption synopsis name → (value : Option Word) × (given name items ≡ option_to_list value) × Said rows name value
   pub flags : (name : Word) → IsFlag synopsis name → (is_there : Bool) × Flags (given name items) is_there × Said rows name (if is_there then Some (codes "true") else None)
   pub placed : AtPlaces synopsis places (Gathered rows)
-  pub few : HasRoom synopsis (length places)
+  pub few : TakesPositionals synopsis (length places)
 
 abbrev pub taken : Word → Word → List Row → List Row
 taken id value rows = rows ++ row id value ∷ []

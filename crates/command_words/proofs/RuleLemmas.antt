@@ -11,7 +11,7 @@ use Rattle.clap.specs.Simple.{filled, new_rule, with_index}
 use Rattle.clap.specs.declared.builder.action.ArgAction.TheVariants.{Append, SetTrue}
 use Rattle.command_words.specs.Synopses.{IsOneOf, Synopsis, places_with}
 use Rattle.command_words.specs.Items.{Word, IsFlag, IsOption}
-use Rattle.command_words.specs.Matches.{AtPlaces, AtPlacesIn, HasRoom, HasRoomIn}
+use Rattle.command_words.specs.Matches.{AtPlaces, AtPlacesIn, TakesPositionals, HasRoomIn}
 use Rattle.command_words.proofs.ItemLemmas.{flag_or_option}
 use Rattle.command_words.proofs.SynopsisLemmas.{among, flag_or_place_in, is_text, option_or_place_in, or_false, same_text, two_places_in, unlike_text}
 
@@ -233,7 +233,7 @@ room_in first rest zero fits = (first, refl)
 room_in first None (suc n) fits = absurd (omega (arith, fits))
 room_in first (Some id) (suc n) fits = (id, refl)
 
-pub room : (synopsis : Synopsis) (n : ℕ) → HasRoom synopsis (suc n) → (id : Word) × (place_for synopsis n ≡ Some id)
+pub room : (synopsis : Synopsis) (n : ℕ) → TakesPositionals synopsis (suc n) → (id : Word) × (place_for synopsis n ≡ Some id)
 room synopsis = room_in synopsis.first synopsis.rest
 
 has_room_in : (first : Word) (rest : Option Word) (n : ℕ) (id : Word) → place_in first rest n ≡ Some id → HasRoomIn rest (suc n)
@@ -241,12 +241,12 @@ has_room_in first None zero id is = omega arith
 has_room_in first None (suc n) id is = cc
 has_room_in first (Some rest) n id is = tt
 
-pub has_room : (synopsis : Synopsis) (n : ℕ) (id : Word) → place_for synopsis n ≡ Some id → HasRoom synopsis (suc n)
+pub has_room : (synopsis : Synopsis) (n : ℕ) (id : Word) → place_for synopsis n ≡ Some id → TakesPositionals synopsis (suc n)
 has_room synopsis = has_room_in synopsis.first synopsis.rest
 
 room_less_in : (rest : Option Word) (m n : ℕ) → m ≤ n → HasRoomIn rest n → HasRoomIn rest m
 room_less_in None m n less fits = omega (arith, less, fits)
 room_less_in (Some id) m n less fits = tt
 
-pub room_less : (synopsis : Synopsis) (m n : ℕ) → m ≤ n → HasRoom synopsis n → HasRoom synopsis m
+pub room_less : (synopsis : Synopsis) (m n : ℕ) → m ≤ n → TakesPositionals synopsis n → TakesPositionals synopsis m
 room_less synopsis = room_less_in synopsis.rest

@@ -9,8 +9,8 @@ use Rattle.clap.specs.declared.parser.matches.ArgMatches.{ArgMatches}
 use Rattle.clap.specs.declared.parser.matches.ArgMatches.TheViews.{out-ArgMatches}
 use Rattle.command_words.specs.Synopses.{IsOneOf, are_distinct}
 use Rattle.command_words.specs.Items.{Word}
-use Rattle.command_words.specs.Commands.{AreBad, Behind, Derives, IsOnly, name_of, synopsis_of, verb_of, verbs}
-use Rattle.command_words.specs.Matches.{AreRead, AreUnread, IsReading}
+use Rattle.command_words.specs.Commands.{AreBad, WordsMean, Derives, IsOnly, name_of, synopsis_of, verb_of, verbs}
+use Rattle.command_words.specs.Matches.{EntersSubcommand, AreNoCommand, IsReading}
 use Rattle.command_words.specs.declared.command.Command.{Command}
 use Rattle.command_words.specs.declared.command.WordsRefused.{WordsRefused}
 use Rattle.command_words.specs.declared.verbs.Verb.{Verb}
@@ -44,7 +44,7 @@ name_whole v same = not_again (codes "-") (map name_of verbs) refl (subst (IsOne
 -- ---- words
 
 -- words that fit no command are bad
-pub unread_bad : (words : List Word) → AreUnread words → AreBad words
+pub unread_bad : (words : List Word) → AreNoCommand words → AreBad words
 unread_bad words unread command is = let fit = fitting is.rest command is.behind in unread (verb_of command) is.rest fit.items fit.places is.form fit.reads fit.fits
 
 -- and so are words of which one is `-`
@@ -58,7 +58,7 @@ one_command words a is b other =
     let form : name_of (verb_of a) ∷ is.rest ≡ name_of (verb_of b) ∷ other.rest = sym is.form ∙ other.form in
     let rest : other.rest ≡ is.rest = cc in
     let names : name_of (verb_of a) ≡ name_of (verb_of b) = cc in
-    one_behind is.rest a b (one_name (verb_of b) (verb_of a) (sym names)) is.behind (subst (λ (l : List Word). Behind l b) rest other.behind)
+    one_behind is.rest a b (one_name (verb_of b) (verb_of a) (sym names)) is.behind (subst (λ (l : List Word). WordsMean l b) rest other.behind)
 
 pub only_one : (words : List Word) (result : Result Command WordsRefused) → IfOk result (λ command. Derives words command) → IfOk result (λ command. IsOnly words command)
 only_one words (Ok command) is = one_command words command is
@@ -81,7 +81,7 @@ pub entered_rows : (found : ArgMatches) (name : Word) (rows : List Row) (entered
 entered_rows found name rows entered is same = same ∙ ap (option_map (λ (p : Word × List Row). p.1)) is
 
 -- the command that was entered, and no other
-module _ (words : List Word) (found : ArgMatches) (read : AreRead words (subcommand_rows_of found)) where
+module _ (words : List Word) (found : ArgMatches) (read : EntersSubcommand words (subcommand_rows_of found)) where
   pub read_name : (entered : Option Word) → entered ≡ subcommand_name_of found → entered ≡ Some (name_of read.verb)
   read_name entered same = entered_name found (name_of read.verb) read.rows entered read.found same
 
@@ -92,12 +92,12 @@ module _ (words : List Word) (found : ArgMatches) (read : AreRead words (subcomm
   pub read_behind : (v : Verb) (rows : List Row) → v ≡ read.verb → rows ≡ read.rows → IsReading (synopsis_of v) read.rest rows
   read_behind v rows same same2 = subst (λ (u : Verb). IsReading (synopsis_of u) read.rest rows) (sym same) (subst (λ (l : List Row). IsReading (synopsis_of read.verb) read.rest l) (sym same2) read.reading)
 
-  pub read_derives : (v : Verb) → v ≡ read.verb → (command : Command) → Behind read.rest command × (verb_of command ≡ v) → Derives words command
+  pub read_derives : (v : Verb) → v ≡ read.verb → (command : Command) → WordsMean read.rest command × (verb_of command ≡ v) → Derives words command
   read_derives v same command is = record { rest = read.rest; form = read.form ∙ ap (λ (u : Verb). name_of u ∷ read.rest) (sym (is.1 ∙ same)); behind = is.0 }
 
-  pub read_bad : (v : Verb) → v ≡ read.verb → ((command : Command) → verb_of command ≡ v → Behind read.rest command → ⊥) → AreBad words
+  pub read_bad : (v : Verb) → v ≡ read.verb → ((command : Command) → verb_of command ≡ v → WordsMean read.rest command → ⊥) → AreBad words
   read_bad v same bad command is =
       let form : name_of (verb_of command) ∷ is.rest ≡ name_of read.verb ∷ read.rest = sym is.form ∙ read.form in
       let rest : is.rest ≡ read.rest = cc in
       let named : name_of (verb_of command) ≡ name_of read.verb = cc in
-      bad command (one_name (verb_of command) read.verb named ∙ sym same) (subst (λ (l : List Word). Behind l command) rest is.behind)
+      bad command (one_name (verb_of command) read.verb named ∙ sym same) (subst (λ (l : List Word). WordsMean l command) rest is.behind)

@@ -14,9 +14,9 @@ use Rattle.clap.specs.Walk.{Row, Rule, Text, Waiting, idle, option, Walk, settle
 use Rattle.clap.specs.Faults.{turn_fault, use_fault}
 use Rattle.clap.proofs.LexerLemmas.{name_and_value-at, name_and_value-without}
 use Rattle.command_words.specs.Synopses.{Synopsis}
-use Rattle.command_words.specs.Items.{Word, Item, flag, joined, apart, plain, EndsWith, IsBare, IsFlag, IsFree, IsItem, IsOption, given, place_of, use_of, words_of}
+use Rattle.command_words.specs.Items.{Word, Item, flag, joined, apart, plain, EndsItems, IsBare, IsFlag, IsFree, IsItem, IsOption, given, place_of, value_given, words_of}
 use Rattle.command_words.specs.Commands.{Flags}
-use Rattle.command_words.specs.Matches.{AreFine, AtPlacesIn, Fits, HasRoom, IsLoose, IsLooseCut}
+use Rattle.command_words.specs.Matches.{AreFine, AtPlacesIn, FitsSynopsis, TakesPositionals, IsLoose, IsLooseCut}
 use Rattle.command_words.proofs.SynopsisLemmas.{same_text}
 use Rattle.command_words.proofs.ItemLemmas.{flag_bare, no_empty_flag, no_empty_option, option_bare}
 use Rattle.command_words.proofs.RowLemmas.{Gathered, Holds, Said, first_put, first_use, put, taken}
@@ -124,7 +124,7 @@ back_behind name synopsis (word ∷ rest) items places rows pending waiting hold
     (subst (λ (v : Walk). Holds synopsis items ((places ++ word ∷ []) ++ rest) (end_rows synopsis v rest)) (sym goes) end)
 
 pub forth_behind : (name : Word) (synopsis : Synopsis) (words : List Word) (items : List Item) (places : List Word) (rows : List Row) (pending : Pending) (waiting : Waiting) → Holds synopsis items places (rows_in synopsis rows pending)
-    → HasRoom synopsis (length (places ++ words)) → fault_in synopsis rows pending ≡ [] → Passes name synopsis (at rows pending waiting (position_for synopsis (length places)) true) words
+    → TakesPositionals synopsis (length (places ++ words)) → fault_in synopsis rows pending ≡ [] → Passes name synopsis (at rows pending waiting (position_for synopsis (length places)) true) words
 forth_behind name synopsis [] items places rows pending waiting holds few none = passes_end name synopsis rows pending waiting (position_for synopsis (length places)) true none
 forth_behind name synopsis (word ∷ rest) items places rows pending waiting holds few none =
     let w = at rows pending waiting (position_for synopsis (length places)) true in
@@ -132,7 +132,7 @@ forth_behind name synopsis (word ∷ rest) items places rows pending waiting hol
     let goes = behind_goes synopsis word there.0 places rows pending waiting there.1 in
     let more = place_held synopsis items places (rows_in synopsis rows pending) there.0 word there.1 holds in
     let end = forth_behind name synopsis rest items (places ++ word ∷ []) (rows_in synopsis rows pending) (Some (there.0, word ∷ [])) (waiting_for (length places)) more
-    (subst (λ (l : List Word). HasRoom synopsis (length l)) (sym (append_assoc places (word ∷ []) rest)) few)
+    (subst (λ (l : List Word). TakesPositionals synopsis (length l)) (sym (append_assoc places (word ∷ []) rest)) few)
     (place_fault synopsis items places (rows_in synopsis rows pending) there.0 word there.1 holds) in
     passes_more name synopsis w word rest (behind_turn name synopsis word waiting rows pending (position_for synopsis (length places)) ∙ place_turn name synopsis rows pending (length places) there.0 there.1 ∙ none)
     (subst (λ (v : Walk). Passes name synopsis v rest) (sym goes) end)
@@ -325,7 +325,7 @@ pub record Rest (synopsis : Synopsis) (words : List Word) (items : List Item) (p
   pub cut : IsLooseCut synopsis words more behind
   pub holds : Holds synopsis (items ++ more) (places ++ (flat_map place_of more ++ behind)) end
 
-rest_end : (synopsis : Synopsis) (items : List Item) (places : List Word) (tail behind : List Word) (end : List Row) → EndsWith tail behind → Holds synopsis items (places ++ behind) end → Rest synopsis tail items places end
+rest_end : (synopsis : Synopsis) (items : List Item) (places : List Word) (tail behind : List Word) (end : List Row) → EndsItems tail behind → Holds synopsis items (places ++ behind) end → Rest synopsis tail items places end
 rest_end synopsis items places tail behind end ends holds = record {
   more = [];
   behind = behind;
@@ -461,14 +461,14 @@ two_of a more (x ∷ []) (Some y) same = cc
 two_of a more (x ∷ y ∷ front) None same = cc
 two_of a more (x ∷ y ∷ front) (Some z) same = cc
 
-given_parts : (name : Word) (items : List Item) (item : Item) (more : List Item) → given name (items ++ item ∷ more) ≡ given name items ++ (use_of name item ++ given name more)
+given_parts : (name : Word) (items : List Item) (item : Item) (more : List Item) → given name (items ++ item ∷ more) ≡ given name items ++ (value_given name item ++ given name more)
 given_parts name [] item more = refl
 given_parts name (x ∷ items) item more =
-    ap (λ (l : List Word). use_of name x ++ l) (given_parts name items item more) ∙ sym (append_assoc (use_of name x) (given name items) (use_of name item ++ given name more))
+    ap (λ (l : List Word). value_given name x ++ l) (given_parts name items item more) ∙ sym (append_assoc (value_given name x) (given name items) (value_given name item ++ given name more))
 
 -- an option that stands once wasn't said before
-option_unsaid : (synopsis : Synopsis) (items more : List Item) (places others : List Word) (rows : List Row) (item : Item) (n value : Word) → IsOption synopsis n → use_of n item ≡ value ∷ [] → Holds synopsis items places rows
-    → Fits synopsis (items ++ item ∷ more) others → Said rows n None
+option_unsaid : (synopsis : Synopsis) (items more : List Item) (places others : List Word) (rows : List Row) (item : Item) (n value : Word) → IsOption synopsis n → value_given n item ≡ value ∷ [] → Holds synopsis items places rows
+    → FitsSynopsis synopsis (items ++ item ∷ more) others → Said rows n None
 option_unsaid synopsis items more places others rows item n value is uses holds fits = go (holds.options n is)
   where
     nothing : given n items ≡ []
@@ -481,7 +481,7 @@ option_unsaid synopsis items more places others rows item n value is uses holds 
     go (None, is, said) = said
     go (Some x, is, said) = let wrong : x ∷ [] ≡ [] = sym is ∙ nothing in cc
 
-flag_unsaid : (synopsis : Synopsis) (items more : List Item) (places others : List Word) (rows : List Row) (n : Word) → IsFlag synopsis n → Holds synopsis items places rows → Fits synopsis (items ++ flag n ∷ more) others → Said rows n None
+flag_unsaid : (synopsis : Synopsis) (items more : List Item) (places others : List Word) (rows : List Row) (n : Word) → IsFlag synopsis n → Holds synopsis items places rows → FitsSynopsis synopsis (items ++ flag n ∷ more) others → Said rows n None
 flag_unsaid synopsis items more places others rows n is holds fits = go (holds.flags n is)
   where
     there : (values : List Word) (is_there : Bool) → Flags values is_there → (found : Option Word) × (values ≡ option_to_list found)
@@ -492,7 +492,7 @@ flag_unsaid synopsis items more places others rows n is holds fits = go (holds.f
     nothing =
         let flags = fits.flags n is in
         let once = there (given n (items ++ flag n ∷ more)) flags.0 flags.1 in
-        let uses : use_of n (flag n) ≡ [] ∷ [] = rw (same_text n) refl in
+        let uses : value_given n (flag n) ≡ [] ∷ [] = rw (same_text n) refl in
         let parts : given n items ++ [] ∷ given n more ≡ option_to_list once.0 = sym (given_parts n items (flag n) more ∙ ap (λ (l : List Word). given n items ++ (l ++ given n more)) uses) ∙ once.1 in
         two_of [] (given n more) (given n items) once.0 parts
 
@@ -556,22 +556,22 @@ apart_steps name synopsis n waiting rows pending position is none =
 
 -- the walk over the items' words passes
 abbrev Forth : Word → Synopsis → List Item → List Item → List Word → List Row → Pending → Waiting → List Word → List Word → Type 0
-Forth name synopsis more items places rows pending waiting tail behind = All (IsItem synopsis) more → EndsWith tail behind → IsCalm waiting → Holds synopsis items places (rows_in synopsis rows pending) → fault_in synopsis rows pending ≡ []
-    → Fits synopsis (items ++ more) (places ++ (flat_map place_of more ++ behind)) → Passes name synopsis (at rows pending waiting (position_for synopsis (length places)) false) (flat_map words_of more ++ tail)
+Forth name synopsis more items places rows pending waiting tail behind = All (IsItem synopsis) more → EndsItems tail behind → IsCalm waiting → Holds synopsis items places (rows_in synopsis rows pending) → fault_in synopsis rows pending ≡ []
+    → FitsSynopsis synopsis (items ++ more) (places ++ (flat_map place_of more ++ behind)) → Passes name synopsis (at rows pending waiting (position_for synopsis (length places)) false) (flat_map words_of more ++ tail)
 
-fits_as : (synopsis : Synopsis) (items others : List Item) (places last : List Word) → items ≡ others → places ≡ last → Fits synopsis items places → Fits synopsis others last
-fits_as synopsis items others places last same same2 fits = subst (λ (l : List Word). Fits synopsis others l) same2 (subst (λ (l : List Item). Fits synopsis l places) same fits)
+fits_as : (synopsis : Synopsis) (items others : List Item) (places last : List Word) → items ≡ others → places ≡ last → FitsSynopsis synopsis items places → FitsSynopsis synopsis others last
+fits_as synopsis items others places last same same2 fits = subst (λ (l : List Word). FitsSynopsis synopsis others l) same2 (subst (λ (l : List Item). FitsSynopsis synopsis l places) same fits)
 
 -- with an item moved from those to come to those that are read
-fits_moved : (synopsis : Synopsis) (items more : List Item) (item : Item) (places behind : List Word) → Fits synopsis (items ++ item ∷ more) (places ++ (flat_map place_of (item ∷ more) ++ behind))
-    → Fits synopsis ((items ++ item ∷ []) ++ more) ((places ++ place_of item) ++ (flat_map place_of more ++ behind))
+fits_moved : (synopsis : Synopsis) (items more : List Item) (item : Item) (places behind : List Word) → FitsSynopsis synopsis (items ++ item ∷ more) (places ++ (flat_map place_of (item ∷ more) ++ behind))
+    → FitsSynopsis synopsis ((items ++ item ∷ []) ++ more) ((places ++ place_of item) ++ (flat_map place_of more ++ behind))
 fits_moved synopsis items more item places behind fits =
     fits_as synopsis (items ++ item ∷ more) ((items ++ item ∷ []) ++ more) (places ++ (flat_map place_of (item ∷ more) ++ behind)) ((places ++ place_of item) ++ (flat_map place_of more ++ behind))
     (sym (append_assoc items (item ∷ []) more))
     (ap (λ (l : List Word). places ++ l) (append_assoc (place_of item) (flat_map place_of more) behind) ∙ sym (append_assoc places (place_of item) (flat_map place_of more ++ behind))) fits
 
-forth_end : (name : Word) (synopsis : Synopsis) (items : List Item) (places : List Word) (rows : List Row) (pending : Pending) (waiting : Waiting) (tail behind : List Word) → EndsWith tail behind → Holds synopsis items places (rows_in synopsis rows pending) → fault_in synopsis rows pending ≡ []
-    → HasRoom synopsis (length (places ++ behind)) → Passes name synopsis (at rows pending waiting (position_for synopsis (length places)) false) tail
+forth_end : (name : Word) (synopsis : Synopsis) (items : List Item) (places : List Word) (rows : List Row) (pending : Pending) (waiting : Waiting) (tail behind : List Word) → EndsItems tail behind → Holds synopsis items places (rows_in synopsis rows pending) → fault_in synopsis rows pending ≡ []
+    → TakesPositionals synopsis (length (places ++ behind)) → Passes name synopsis (at rows pending waiting (position_for synopsis (length places)) false) tail
 forth_end name synopsis items places rows pending waiting tail behind (inl ends) holds none few =
     subst (λ (l : List Word). Passes name synopsis (at rows pending waiting (position_for synopsis (length places)) false) l) (sym ends.0) (passes_end name synopsis rows pending waiting (position_for synopsis (length places)) false none)
 forth_end name synopsis items places rows pending waiting tail behind (inr ends) holds none few =
@@ -627,5 +627,5 @@ forth_any name synopsis (plain word ∷ more) items places rows pending waiting 
     (subst (λ (v : Walk). Passes name synopsis v last) (sym goes) next)
 
 -- items that fit are read
-pub forth : (name : Word) (synopsis : Synopsis) (items : List Item) (tail behind : List Word) → All (IsItem synopsis) items → EndsWith tail behind → Fits synopsis items (flat_map place_of items ++ behind) → Passes name synopsis (at [] None idle 1 false) (flat_map words_of items ++ tail)
+pub forth : (name : Word) (synopsis : Synopsis) (items : List Item) (tail behind : List Word) → All (IsItem synopsis) items → EndsItems tail behind → FitsSynopsis synopsis items (flat_map place_of items ++ behind) → Passes name synopsis (at [] None idle 1 false) (flat_map words_of items ++ tail)
 forth name synopsis items tail behind each ends fits = forth_any name synopsis items [] [] [] None idle tail behind each ends tt (holds_nothing synopsis) refl fits

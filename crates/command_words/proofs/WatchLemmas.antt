@@ -9,7 +9,7 @@ use Rattle.std.proofs.lemmas.List.{append_cancel_left}
 use Rattle.std.proofs.lemmas.List.Elements.{All-map}
 use Rattle.std.proofs.lemmas.List.FromFn.{get_or-map-range_with_len, length-map-range_with_len, map-range_with_len_more}
 use Rattle.command_words.specs.Items.{Word}
-use Rattle.command_words.specs.Commands.{AreApart, IsUnwatched, watch_name, watch_names}
+use Rattle.command_words.specs.Commands.{NamesDiffer, IsUnwatched, watch_name, watch_names}
 
 -- a text with more behind it is another
 grows : (out : Word) (x : ℕ) (more : Word) → out ≡ out ++ x ∷ more → ⊥
@@ -43,7 +43,7 @@ pub one_more : (out : Word) (names after : List Word) (n : ℕ) (name : Word) �
 one_more out names after n name so_far is pushed =
     pushed ∙ ap₂ (λ (l : List Word) (w : Word). l ++ w ∷ []) so_far is ∙ sym (map-range_with_len_more (watch_name out) 1 n (n + 1) (omega arith))
 
-pub names_apart : (out : Word) (many : ℕ) → many ≤ 16 → AreApart out (watch_names out many)
+pub names_apart : (out : Word) (many : ℕ) → many ≤ 16 → NamesDiffer out (watch_names out many)
 names_apart out many few = (others, pairs)
   where
     others : All (λ name. out ≢ name) (watch_names out many)

@@ -7,7 +7,7 @@ use Rattle.mcap_wire.specs.Limits.{chunk_size_limit, buffer_limit, profile_limit
 use Rattle.mcap_model.specs.declared.options.FileOptions.{FileOptions}
 use Rattle.mcap_model.specs.declared.replay.Range.{Range}
 use Rattle.command_words.specs.Synopses.{Synopsis}
-use Rattle.command_words.specs.Items.{Word, Item, IsCut, given, place_of}
+use Rattle.command_words.specs.Items.{Word, Item, WordsAreItems, given, place_of}
 use Rattle.command_words.specs.declared.command.Command.{Command}
 use Rattle.command_words.specs.declared.command.FileCommand.{FileCommand}
 use Rattle.command_words.specs.declared.command.FileCommand.TheVariants.{Info, Check}
@@ -86,16 +86,16 @@ abbrev pub name_of : Verb → Word
 name_of verb = (synopsis_of verb).name
 
 -- how the usage shows a command
-abbrev pub shown : Verb → Word
-shown verb.Record = codes "record [--plain] [--lossless] [--limit N] [--chunk N] [--profile T] [--watch START:END] [--watchers N] OUT FEED..."
-shown (verb.OfFile what) = command_name what ++ codes " FILE"
-shown verb.Cat = codes "cat [--indexed] [--start N] [--end N] [--topic T] FILE"
-shown verb.Recover = codes "recover [--chunk N] IN OUT"
-shown verb.Merge = codes "merge [--chunk N] OUT IN..."
-shown verb.Generate = codes "gen SEED FEEDS MESSAGES OUT"
+abbrev pub usage_of : Verb → Word
+usage_of verb.Record = codes "record [--plain] [--lossless] [--limit N] [--chunk N] [--profile T] [--watch START:END] [--watchers N] OUT FEED..."
+usage_of (verb.OfFile what) = command_name what ++ codes " FILE"
+usage_of verb.Cat = codes "cat [--indexed] [--start N] [--end N] [--topic T] FILE"
+usage_of verb.Recover = codes "recover [--chunk N] IN OUT"
+usage_of verb.Merge = codes "merge [--chunk N] OUT IN..."
+usage_of verb.Generate = codes "gen SEED FEEDS MESSAGES OUT"
 
 abbrev pub usage_line : Verb → Word
-usage_line verb = codes "  " ++ (shown verb ++ codes "\n")
+usage_line verb = codes "  " ++ (usage_of verb ++ codes "\n")
 
 abbrev pub usage_text : Word
 usage_text = codes "usage: mcaprec\n" ++ flat_map usage_line verbs
@@ -141,17 +141,17 @@ abbrev pub watch_names : Word → ℕ → List Word
 watch_names out many = map (watch_name out) (range_with_len 1 many)
 
 -- no two of the names are equal, and none is the output's
-abbrev pub AreApart : Word → List Word → Type 0
-AreApart out names = All (λ name. out ≢ name) names × AllPairs (λ a b. a ≢ b) names
+abbrev pub NamesDiffer : Word → List Word → Type 0
+NamesDiffer out names = All (λ name. out ≢ name) names × AllPairs (λ a b. a ≢ b) names
 
 -- the feed isn't the file of one of so many watchers
 abbrev pub IsUnwatched : Word → ℕ → Word → Type 0
 IsUnwatched out watchers feed = (j : ℕ) → 1 ≤ j → j ≤ watchers → feed ≢ watch_name out j
 
 -- the words behind the command: these items, and these positionals from left to right
-pub record Reads (synopsis : Synopsis) (words : List Word) (items : List Item) (places : List Word) : Type 0 where
+pub record ReadsWords (synopsis : Synopsis) (words : List Word) (items : List Item) (places : List Word) : Type 0 where
   pub behind : List Word
-  pub cut : IsCut synopsis words items behind
+  pub cut : WordsAreItems synopsis words items behind
   pub all : places ≡ flat_map place_of items ++ behind
 
 -- 1 to 20 decimal digits, whose value is in its range
@@ -255,7 +255,7 @@ told_with file limit lossless range watchers = record {
 -- record, its options, OUT and each FEED
 pub record IsRecord (words : List Word) (out : Word) (feeds : List Word) (told : Recording) : Type 0 where
   pub items : List Item
-  pub reads : Reads (synopsis_of verb.Record) words items (out ∷ feeds)
+  pub reads : ReadsWords (synopsis_of verb.Record) words items (out ∷ feeds)
   pub some : 1 ≤ length feeds
   pub few : length feeds ≤ feed_limit
   pub out_named : out ≢ []
@@ -272,7 +272,7 @@ pub record IsRecord (words : List Word) (out : Word) (feeds : List Word) (told :
 -- a command without options, and FILE
 pub record IsOfFile (synopsis : Synopsis) (words : List Word) (file : Word) : Type 0 where
   pub items : List Item
-  pub reads : Reads synopsis words items (file ∷ [])
+  pub reads : ReadsWords synopsis words items (file ∷ [])
   pub named : file ≢ []
 
 -- --start and --end
@@ -285,7 +285,7 @@ pub record IsRange (items : List Item) (range : Range) : Type 0 where
 -- cat, its options, and FILE
 pub record IsCat (words : List Word) (file : Word) (indexed : Bool) (range : Range) (topic : Option Word) : Type 0 where
   pub items : List Item
-  pub reads : Reads (synopsis_of verb.Cat) words items (file ∷ [])
+  pub reads : ReadsWords (synopsis_of verb.Cat) words items (file ∷ [])
   pub named : file ≢ []
   pub flagged : Flags (given (codes "indexed") items) indexed
   pub ranged : IsRange items range
@@ -294,7 +294,7 @@ pub record IsCat (words : List Word) (file : Word) (indexed : Bool) (range : Ran
 -- recover, --chunk, IN and OUT
 pub record IsRecover (words : List Word) (input out : Word) (chunk : ℕ) : Type 0 where
   pub items : List Item
-  pub reads : Reads (synopsis_of verb.Recover) words items (input ∷ out ∷ [])
+  pub reads : ReadsWords (synopsis_of verb.Recover) words items (input ∷ out ∷ [])
   pub in_named : input ≢ []
   pub out_named : out ≢ []
   pub differ : input ≢ out
@@ -305,7 +305,7 @@ pub record IsRecover (words : List Word) (input out : Word) (chunk : ℕ) : Type
 -- merge, --chunk, OUT and each IN
 pub record IsMerge (words : List Word) (out : Word) (inputs : List Word) (chunk : ℕ) : Type 0 where
   pub items : List Item
-  pub reads : Reads (synopsis_of verb.Merge) words items (out ∷ inputs)
+  pub reads : ReadsWords (synopsis_of verb.Merge) words items (out ∷ inputs)
   pub some : 1 ≤ length inputs
   pub few : length inputs ≤ feed_limit
   pub out_named : out ≢ []
@@ -327,19 +327,19 @@ pub record IsGenerate (words : List Word) (seed feeds messages : ℕ) (out : Wor
   pub seed_word : Word
   pub feeds_word : Word
   pub messages_word : Word
-  pub reads : Reads (synopsis_of verb.Generate) words items (seed_word ∷ feeds_word ∷ messages_word ∷ out ∷ [])
+  pub reads : ReadsWords (synopsis_of verb.Generate) words items (seed_word ∷ feeds_word ∷ messages_word ∷ out ∷ [])
   pub seeded : IsNumber 0 largest_seed seed_word seed
   pub amounts : AreAmounts feeds_word messages_word feeds messages
   pub out_named : out ≢ []
 
 -- the words behind the command are those of this one
-abbrev pub Behind : List Word → Command → Type 0
-Behind words (Record out feeds file limit lossless range watchers) = IsRecord words out feeds (told_with file limit lossless range watchers)
-Behind words (OfFile what file) = IsOfFile (file_synopsis (command_name what)) words file
-Behind words (Cat file indexed range topic) = IsCat words file indexed range topic
-Behind words (Recover input out chunk) = IsRecover words input out chunk
-Behind words (Merge out inputs chunk) = IsMerge words out inputs chunk
-Behind words (Generate seed feeds messages out) = IsGenerate words seed feeds messages out
+abbrev pub WordsMean : List Word → Command → Type 0
+WordsMean words (Record out feeds file limit lossless range watchers) = IsRecord words out feeds (told_with file limit lossless range watchers)
+WordsMean words (OfFile what file) = IsOfFile (file_synopsis (command_name what)) words file
+WordsMean words (Cat file indexed range topic) = IsCat words file indexed range topic
+WordsMean words (Recover input out chunk) = IsRecover words input out chunk
+WordsMean words (Merge out inputs chunk) = IsMerge words out inputs chunk
+WordsMean words (Generate seed feeds messages out) = IsGenerate words seed feeds messages out
 
 abbrev pub verb_of : Command → Verb
 verb_of (Record out feeds file limit lossless range watchers) = verb.Record
@@ -353,7 +353,7 @@ verb_of (Generate seed feeds messages out) = verb.Generate
 pub record Derives (words : List Word) (command : Command) : Type 0 where
   pub rest : List Word
   pub form : words ≡ name_of (verb_of command) ∷ rest
-  pub behind : Behind rest command
+  pub behind : WordsMean rest command
 
 -- no command has these words
 abbrev pub AreBad : List Word → Type 0

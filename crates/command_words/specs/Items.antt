@@ -45,26 +45,26 @@ words_of (apart name value) = (codes "--" ++ name) ∷ value ∷ []
 words_of (plain word) = word ∷ []
 
 -- what ends the items: nothing, or `--` and positionals, none of which is `-`
-abbrev pub EndsWith : List Word → List Word → Type 0
-EndsWith tail behind = ((tail ≡ []) × (behind ≡ [])) ⊎ ((tail ≡ codes "--" ∷ behind) × All (λ word. word ≢ codes "-") behind)
+abbrev pub EndsItems : List Word → List Word → Type 0
+EndsItems tail behind = ((tail ≡ []) × (behind ≡ [])) ⊎ ((tail ≡ codes "--" ∷ behind) × All (λ word. word ≢ codes "-") behind)
 
 -- the words are those of the items, and what ends them
-pub record IsCut (synopsis : Synopsis) (words : List Word) (items : List Item) (behind : List Word) : Type 0 where
+pub record WordsAreItems (synopsis : Synopsis) (words : List Word) (items : List Item) (behind : List Word) : Type 0 where
   pub tail : List Word
   pub form : words ≡ flat_map words_of items ++ tail
   pub each : All (IsItem synopsis) items
-  pub ends : EndsWith tail behind
+  pub ends : EndsItems tail behind
 
 -- the value that an item gives to this name, where a flag gives an empty one
-abbrev pub use_of : Word → Item → List Word
-use_of name (flag other) = if bytes_eq other name then [] ∷ [] else []
-use_of name (joined other value) = if bytes_eq other name then value ∷ [] else []
-use_of name (apart other value) = if bytes_eq other name then value ∷ [] else []
-use_of name (plain word) = []
+abbrev pub value_given : Word → Item → List Word
+value_given name (flag other) = if bytes_eq other name then [] ∷ [] else []
+value_given name (joined other value) = if bytes_eq other name then value ∷ [] else []
+value_given name (apart other value) = if bytes_eq other name then value ∷ [] else []
+value_given name (plain word) = []
 
 -- the values that the items give to this name, in order
 abbrev pub given : Word → List Item → List Word
-given name items = flat_map (use_of name) items
+given name items = flat_map (value_given name) items
 
 abbrev pub place_of : Item → List Word
 place_of (flag name) = []

@@ -7,8 +7,8 @@ use Rattle.clap.specs.Values.{bool_text}
 use Rattle.clap.specs.Words.{Row, all_of, first_of, found_of, one_of, rows_of}
 use Rattle.clap.specs.declared.parser.matches.ArgMatches.{ArgMatches}
 use Rattle.command_words.specs.Synopses.{Synopsis}
-use Rattle.command_words.specs.Items.{Word, Item, flag, joined, apart, plain, EndsWith, IsFlag, IsFree, IsOption, given, place_of, words_of}
-use Rattle.command_words.specs.Commands.{Flags, IsUnwatched, Reads, feed_limit, name_of, synopsis_of}
+use Rattle.command_words.specs.Items.{Word, Item, flag, joined, apart, plain, EndsItems, IsFlag, IsFree, IsOption, given, place_of, words_of}
+use Rattle.command_words.specs.Commands.{Flags, IsUnwatched, ReadsWords, feed_limit, name_of, synopsis_of}
 use Rattle.command_words.specs.declared.verbs.Verb.{Verb}
 
 -- so many positionals stand there: with another than the first any number, and else one at most
@@ -17,8 +17,8 @@ HasRoomIn None n = n ≤ 1
 HasRoomIn (Some rest) n = ⊤
 
 -- the command takes this many positionals
-abbrev pub HasRoom : Synopsis → ℕ → Type 0
-HasRoom synopsis n = HasRoomIn synopsis.rest n
+abbrev pub TakesPositionals : Synopsis → ℕ → Type 0
+TakesPositionals synopsis n = HasRoomIn synopsis.rest n
 
 -- the first positional, and the other where there is one, have these of the words
 abbrev pub AtPlacesIn : Word → Option Word → List Word → (Word → List Word → Type 0) → Type 0
@@ -34,17 +34,17 @@ abbrev pub all_found : Word → List Row → List Word
 all_found name rows = unwrap_or (all_of name rows) []
 
 -- each name is given once at most, and there are no more positionals than the command takes
-pub record Fits (synopsis : Synopsis) (items : List Item) (places : List Word) : Type 0 where
+pub record FitsSynopsis (synopsis : Synopsis) (items : List Item) (places : List Word) : Type 0 where
   pub options : (name : Word) → IsOption synopsis name → (value : Option Word) × (given name items ≡ option_to_list value)
   pub flags : (name : Word) → IsFlag synopsis name → (is_there : Bool) × Flags (given name items) is_there
-  pub few : HasRoom synopsis (length places)
+  pub few : TakesPositionals synopsis (length places)
 
 -- what a parse that succeeded gives for the items and the positionals
-pub record Shows (synopsis : Synopsis) (items : List Item) (places : List Word) (rows : List Row) : Type 0 where
+pub record ParsesInto (synopsis : Synopsis) (items : List Item) (places : List Word) (rows : List Row) : Type 0 where
   pub options : (name : Word) → IsOption synopsis name → given name items ≡ option_to_list (first_of name rows)
   pub flags : (name : Word) → IsFlag synopsis name → (is_there : Bool) × Flags (given name items) is_there × (one_of name rows ≡ Some (bool_text is_there))
   pub placed : AtPlaces synopsis places (λ id words. all_found id rows ≡ words)
-  pub few : HasRoom synopsis (length places)
+  pub few : TakesPositionals synopsis (length places)
 
 -- as an item of the command, but that a value behind `=` may be `-`
 abbrev pub IsLoose : Synopsis → Item → Type 0
@@ -58,17 +58,17 @@ pub record IsLooseCut (synopsis : Synopsis) (words : List Word) (items : List It
   pub tail : List Word
   pub form : words ≡ flat_map words_of items ++ tail
   pub each : All (IsLoose synopsis) items
-  pub ends : EndsWith tail behind
+  pub ends : EndsItems tail behind
 
 -- what was found is what some items, and positionals behind `--`, give
 pub record IsReading (synopsis : Synopsis) (words : List Word) (rows : List Row) : Type 0 where
   pub items : List Item
   pub behind : List Word
   pub cut : IsLooseCut synopsis words items behind
-  pub shows : Shows synopsis items (flat_map place_of items ++ behind) rows
+  pub shows : ParsesInto synopsis items (flat_map place_of items ++ behind) rows
 
 -- the words are those of the subcommand that was entered, with what was found there
-pub record AreRead (words : List Word) (entered : Option (Word × List Row)) : Type 0 where
+pub record EntersSubcommand (words : List Word) (entered : Option (Word × List Row)) : Type 0 where
   pub verb : Verb
   pub rest : List Word
   pub form : words ≡ name_of verb ∷ rest
@@ -77,8 +77,8 @@ pub record AreRead (words : List Word) (entered : Option (Word × List Row)) : T
   pub reading : IsReading (synopsis_of verb) rest rows
 
 -- no command has the words, of any whose names are given once at most, with no more positionals than it takes
-abbrev pub AreUnread : List Word → Type 0
-AreUnread words = (verb : Verb) (rest : List Word) (items : List Item) (places : List Word) → words ≡ name_of verb ∷ rest → Reads (synopsis_of verb) rest items places → Fits (synopsis_of verb) items places → ⊥
+abbrev pub AreNoCommand : List Word → Type 0
+AreNoCommand words = (verb : Verb) (rest : List Word) (items : List Item) (places : List Word) → words ≡ name_of verb ∷ rest → ReadsWords (synopsis_of verb) rest items places → FitsSynopsis (synopsis_of verb) items places → ⊥
 
 -- texts, none of which is `-`
 abbrev pub AreFine : List Word → Type 0
@@ -95,8 +95,8 @@ abbrev pub values_in : ArgMatches → Word → List Word
 values_in found name = all_found name (rows_found found)
 
 -- they may be the names of the feeds behind OUT
-abbrev pub AreFeeds : Word → List Word → Type 0
-AreFeeds out feeds = (1 ≤ length feeds) × (length feeds ≤ feed_limit) × All (λ feed. (feed ≢ []) × (out ≢ feed)) feeds
+abbrev pub AreFeedNames : Word → List Word → Type 0
+AreFeedNames out feeds = (1 ≤ length feeds) × (length feeds ≤ feed_limit) × All (λ feed. (feed ≢ []) × (out ≢ feed)) feeds
 
 -- none of the feeds is the file of one of so many watchers
 abbrev pub AreUnwatched : Word → ℕ → List Word → Type 0

@@ -3,8 +3,8 @@ ghost use Rattle.std.specs.Prelude.{◌≡◌, ◌≢◌, ◌≤◌, ◌↔◌, 
 ghost use Rattle.std.specs.List.{All};
 ghost use Rattle.clap.specs.Words.{subcommand_rows_of};
 ghost use Rattle.command_words.specs.Items.{Word, texts};
-ghost use Rattle.command_words.specs.Commands.{AreAmounts, AreBad, Behind, Derives, IsCat, IsGenerate, IsMerge, IsOnly, IsRecord, IsRecover, Recording, synopsis_of, verb_of};
-ghost use Rattle.command_words.specs.Matches.{AreFeeds, AreRead, AreUnwatched, IsReading, rows_found, value_in, values_in};
+ghost use Rattle.command_words.specs.Commands.{AreAmounts, AreBad, WordsMean, Derives, IsCat, IsGenerate, IsMerge, IsOnly, IsRecord, IsRecover, Recording, synopsis_of, verb_of};
+ghost use Rattle.command_words.specs.Matches.{AreFeedNames, EntersSubcommand, AreUnwatched, IsReading, rows_found, value_in, values_in};
 ghost use Rattle.command_words.specs.declared.command.Command.{Command as Wanted};
 ghost use Rattle.mcap_model.specs.declared.replay.Range.{Range as Times};
 
@@ -71,7 +71,7 @@ fn are_named(out: &str, feeds: &[&str]) -> bool
 
 // Whether the names may be the feeds' beside that output.
 fn are_feeds(out: &str, feeds: &[&str]) -> bool
-    ensures { IsTrue result ↔ AreFeeds out.now (texts feeds.now) }
+    ensures { IsTrue result ↔ AreFeedNames out.now (texts feeds.now) }
 {
     if feeds.is_empty() || feeds.len() > FEED_LIMIT {
         return false;
@@ -105,8 +105,8 @@ fn feeds_of(
     place: &str,
     out: &str,
 ) -> Result<Names, WordsRefused>
-    ensures feeds { IfOk result (λ feeds. (values_in found.now place.now ≡ feeds) × AreFeeds out.now feeds) }
-    ensures bad { IfErr result (λ refused. refused ≡ WordsRefused.BadWords → AreFeeds out.now (values_in found.now place.now) → ⊥) }
+    ensures feeds { IfOk result (λ feeds. (values_in found.now place.now ≡ feeds) × AreFeedNames out.now feeds) }
+    ensures bad { IfErr result (λ refused. refused ≡ WordsRefused.BadWords → AreFeedNames out.now (values_in found.now place.now) → ⊥) }
 {
     let Some(feeds) = values_of(found, place) else {
         return Err(WordsRefused::BadWords);
@@ -127,8 +127,8 @@ fn recorded_feeds(
     out: &str,
     watchers: u32,
 ) -> Result<Names, WordsRefused>
-    ensures feeds { IfOk result (λ feeds. (values_in found.now (codes "feed") ≡ feeds) × AreFeeds out.now feeds × AreUnwatched out.now watchers feeds) }
-    ensures bad { IfErr result (λ refused. refused ≡ WordsRefused.BadWords → AreFeeds out.now (values_in found.now (codes "feed")) → AreUnwatched out.now watchers (values_in found.now (codes "feed")) → ⊥) }
+    ensures feeds { IfOk result (λ feeds. (values_in found.now (codes "feed") ≡ feeds) × AreFeedNames out.now feeds × AreUnwatched out.now watchers feeds) }
+    ensures bad { IfErr result (λ refused. refused ≡ WordsRefused.BadWords → AreFeedNames out.now (values_in found.now (codes "feed")) → AreUnwatched out.now watchers (values_in found.now (codes "feed")) → ⊥) }
 {
     if !feeds_are_unwatched(found, out, watchers) {
         return Err(WordsRefused::BadWords);
@@ -155,7 +155,7 @@ fn one_name(alloc: Global, found: &ArgMatches) -> Result<Text, WordsRefused>
 
 // What was found behind `record`.
 fn record_of(alloc: Global, found: &ArgMatches) -> Result<Command, WordsRefused>
-    ensures command { (words : List Word) → IsReading (synopsis_of Verb.Record) words (rows_found found.now) → IfOk result (λ command. Behind words command × (verb_of command ≡ Verb.Record)) }
+    ensures command { (words : List Word) → IsReading (synopsis_of Verb.Record) words (rows_found found.now) → IfOk result (λ command. WordsMean words command × (verb_of command ≡ Verb.Record)) }
     ensures bad { (words : List Word) → IsReading (synopsis_of Verb.Record) words (rows_found found.now) → IfErr result (λ refused. refused ≡ WordsRefused.BadWords → (out : Word) (feeds : List Word) (told : Recording) → IsRecord words out feeds told → ⊥) }
 {
     if is_dash(found, "profile") {
@@ -196,7 +196,7 @@ fn record_of(alloc: Global, found: &ArgMatches) -> Result<Command, WordsRefused>
 
 // What was found behind `cat`.
 fn cat_of(alloc: Global, found: &ArgMatches) -> Result<Command, WordsRefused>
-    ensures command { (words : List Word) → IsReading (synopsis_of Verb.Cat) words (rows_found found.now) → IfOk result (λ command. Behind words command × (verb_of command ≡ Verb.Cat)) }
+    ensures command { (words : List Word) → IsReading (synopsis_of Verb.Cat) words (rows_found found.now) → IfOk result (λ command. WordsMean words command × (verb_of command ≡ Verb.Cat)) }
     ensures bad { (words : List Word) → IsReading (synopsis_of Verb.Cat) words (rows_found found.now) → IfErr result (λ refused. refused ≡ WordsRefused.BadWords → (file : Word) (indexed : Bool) (range : Times) (topic : Option Word) → IsCat words file indexed range topic → ⊥) }
 {
     if is_dash(found, "topic") {
@@ -236,7 +236,7 @@ fn only_output<'a>(found: &ArgMatches<'a>, input: &str) -> Option<&'a str>
 
 // What was found behind `recover`.
 fn recover_of(alloc: Global, found: &ArgMatches) -> Result<Command, WordsRefused>
-    ensures command { (words : List Word) → IsReading (synopsis_of Verb.Recover) words (rows_found found.now) → IfOk result (λ command. Behind words command × (verb_of command ≡ Verb.Recover)) }
+    ensures command { (words : List Word) → IsReading (synopsis_of Verb.Recover) words (rows_found found.now) → IfOk result (λ command. WordsMean words command × (verb_of command ≡ Verb.Recover)) }
     ensures bad { (words : List Word) → IsReading (synopsis_of Verb.Recover) words (rows_found found.now) → IfErr result (λ refused. refused ≡ WordsRefused.BadWords → (input out : Word) (chunk : ℕ) → IsRecover words input out chunk → ⊥) }
 {
     let Some(input) = name_of_file(found, "in") else {
@@ -261,7 +261,7 @@ fn recover_of(alloc: Global, found: &ArgMatches) -> Result<Command, WordsRefused
 
 // What was found behind `merge`.
 fn merge_of(alloc: Global, found: &ArgMatches) -> Result<Command, WordsRefused>
-    ensures command { (words : List Word) → IsReading (synopsis_of Verb.Merge) words (rows_found found.now) → IfOk result (λ command. Behind words command × (verb_of command ≡ Verb.Merge)) }
+    ensures command { (words : List Word) → IsReading (synopsis_of Verb.Merge) words (rows_found found.now) → IfOk result (λ command. WordsMean words command × (verb_of command ≡ Verb.Merge)) }
     ensures bad { (words : List Word) → IsReading (synopsis_of Verb.Merge) words (rows_found found.now) → IfErr result (λ refused. refused ≡ WordsRefused.BadWords → (out : Word) (inputs : List Word) (chunk : ℕ) → IsMerge words out inputs chunk → ⊥) }
 {
     let Some(out) = name_of_file(found, "out") else {
@@ -313,7 +313,7 @@ fn amounts_of(feeds_word: &str, messages_word: &str) -> Result<Amounts, BadValue
 
 // What was found behind `gen`.
 fn generate_of(alloc: Global, found: &ArgMatches) -> Result<Command, WordsRefused>
-    ensures command { (words : List Word) → IsReading (synopsis_of Verb.Generate) words (rows_found found.now) → IfOk result (λ command. Behind words command × (verb_of command ≡ Verb.Generate)) }
+    ensures command { (words : List Word) → IsReading (synopsis_of Verb.Generate) words (rows_found found.now) → IfOk result (λ command. WordsMean words command × (verb_of command ≡ Verb.Generate)) }
     ensures bad { (words : List Word) → IsReading (synopsis_of Verb.Generate) words (rows_found found.now) → IfErr result (λ refused. refused ≡ WordsRefused.BadWords → (seed feeds messages : ℕ) (out : Word) → IsGenerate words seed feeds messages out → ⊥) }
 {
     let seed = match number_at(found, "seed", 0, u64::MAX) {
@@ -343,8 +343,8 @@ fn generate_of(alloc: Global, found: &ArgMatches) -> Result<Command, WordsRefuse
 
 // What was found behind the name of a command.
 fn command_of(alloc: Global, verb: Verb, found: &ArgMatches) -> Result<Command, WordsRefused>
-    ensures command { (words : List Word) → IsReading (synopsis_of verb) words (rows_found found.now) → IfOk result (λ command. Behind words command × (verb_of command ≡ verb)) }
-    ensures bad { (words : List Word) → IsReading (synopsis_of verb) words (rows_found found.now) → IfErr result (λ refused. refused ≡ WordsRefused.BadWords → (command : Wanted) → verb_of command ≡ verb → Behind words command → ⊥) }
+    ensures command { (words : List Word) → IsReading (synopsis_of verb) words (rows_found found.now) → IfOk result (λ command. WordsMean words command × (verb_of command ≡ verb)) }
+    ensures bad { (words : List Word) → IsReading (synopsis_of verb) words (rows_found found.now) → IfErr result (λ refused. refused ≡ WordsRefused.BadWords → (command : Wanted) → verb_of command ≡ verb → WordsMean words command → ⊥) }
 {
     match verb {
         Verb::Record => return record_of(alloc, found),
@@ -361,8 +361,8 @@ fn command_of(alloc: Global, verb: Verb, found: &ArgMatches) -> Result<Command, 
 
 // The command that was found.
 fn found_command(alloc: Global, found: &ArgMatches) -> Result<Command, WordsRefused>
-    ensures command { (words : List Word) → AreRead words (subcommand_rows_of found.now) → IfOk result (Derives words) }
-    ensures bad { (words : List Word) → AreRead words (subcommand_rows_of found.now) → result ≡ Err WordsRefused.BadWords → AreBad words }
+    ensures command { (words : List Word) → EntersSubcommand words (subcommand_rows_of found.now) → IfOk result (Derives words) }
+    ensures bad { (words : List Word) → EntersSubcommand words (subcommand_rows_of found.now) → result ≡ Err WordsRefused.BadWords → AreBad words }
 {
     let Some((name, below)) = found.subcommand() else {
         return Err(WordsRefused::BadWords);

@@ -4,7 +4,7 @@ ghost use Rattle.std.specs.List.{All};
 ghost use Rattle.std.specs.Str.{IsUtf8};
 ghost use Rattle.clap.specs.Words.{subcommand_rows_of};
 ghost use Rattle.command_words.specs.Items.{texts};
-ghost use Rattle.command_words.specs.Matches.{AreFine, AreRead, AreUnread};
+ghost use Rattle.command_words.specs.Matches.{AreFine, EntersSubcommand, AreNoCommand};
 
 use crate::command::WordsRefused;
 use crate::command_line::program_command;
@@ -38,8 +38,8 @@ pub fn plain_words<'a>(alloc: Global, words: &'a [Text]) -> Result<Vec<&'a str>,
 /// What `clap` finds in the words.
 pub fn read_words<'a>(alloc: Global, words: &'a [&'a str]) -> Result<ArgMatches<'a>, WordsRefused>
     requires { AreFine (texts words.now) }
-    ensures read { IfOk result (λ found. AreRead (texts words.now) (subcommand_rows_of found)) }
-    ensures bad { result ≡ Err WordsRefused.BadWords → AreUnread (texts words.now) }
+    ensures read { IfOk result (λ found. EntersSubcommand (texts words.now) (subcommand_rows_of found)) }
+    ensures bad { result ≡ Err WordsRefused.BadWords → AreNoCommand (texts words.now) }
 {
     let Ok(program) = program_command(alloc) else {
         return Err(WordsRefused::Memory);

@@ -1,7 +1,7 @@
 //! The names of the files of watchers.
 ghost use Rattle.std.specs.Prelude.{◌≡◌, ◌≢◌, ◌≤◌, ◌↔◌, ◌++◌, ℕ, List, IsTrue, IfOk, MatchOption, codes, decimal};
 ghost use Rattle.std.specs.List.{All};
-ghost use Rattle.command_words.specs.Commands.{AreApart, IsUnwatched, watch_name, watch_names as names_of_watches, watcher_limit};
+ghost use Rattle.command_words.specs.Commands.{NamesDiffer, IsUnwatched, watch_name, watch_names as names_of_watches, watcher_limit};
 ghost use Rattle.command_words.specs.Items.{Word};
 ghost use Rattle.command_words.specs.Matches.{AreUnwatched, values_in};
 
@@ -83,7 +83,7 @@ fn watch_name_of(alloc: Global, out: &str, number: u32) -> Result<Text, Memory>
 pub fn watch_names(alloc: Global, out: &str, many: u32) -> Result<Vec<Text>, Memory>
     requires { many ≤ watcher_limit }
     ensures names { IfOk result (λ names. names.items ≡ names_of_watches out.now many) }
-    ensures apart { IfOk result (λ names. AreApart out.now names.items) }
+    ensures apart { IfOk result (λ names. NamesDiffer out.now names.items) }
 {
     let mut names = Vec::new(alloc);
     'numbers: for number in 0..many {

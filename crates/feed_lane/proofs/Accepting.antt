@@ -12,45 +12,45 @@ use Rattle.record_core.specs.Desk.{fields_of_message}
 use Rattle.record_core.specs.declared.answers.Found.{Found}
 use Rattle.record_core.specs.declared.answers.NewMessage.{NewMessage}
 use Rattle.feed_lane.specs.declared.report.Accepted.{Accepted}
-use Rattle.feed_lane.specs.Pass.{PassState, Finds, message_record, with_message}
-use Rattle.feed_lane.specs.Lanes.{Lists, messages, Accepts, full_in, InTurnWith, IsGiven, IsListed, ListsFit}
+use Rattle.feed_lane.specs.Pass.{PassState, Finds, message_record, with_published}
+use Rattle.feed_lane.specs.Lanes.{ReportLists, messages, Accepts, full_in, InTurnWith, IsGiven, IsAccountedFor, ListsFit}
 use Rattle.feed_lane.specs.Kept.{LaneIds}
-use Rattle.feed_lane.specs.Steps.{Extends, HasId, ListsStand}
+use Rattle.feed_lane.specs.Steps.{Extends, DeclaredWithId, ListsStand}
 use Rattle.feed_lane.proofs.Members.{open_by, finds_above, seen_later, declares_on, accepts_on, cause_on, full_shown, declared_above, accepted_above}
 
 abbrev pub accepted_at : ℕ → ℕ → Accepted
 accepted_at index place = record { index = index; place = place }
 
 -- the lists with one more recorded message
-abbrev pub with_accepted : Lists → Accepted → Lists
+abbrev pub with_accepted : ReportLists → Accepted → ReportLists
 with_accepted lists a = record { accepted = lists.accepted ++ a ∷ []; declared = lists.declared; refused = lists.refused }
 
-pub message_extends : (before : PassState) (found : Found) (m : NewMessage) → Finds before found → Extends before (with_message before found m)
+pub message_extends : (before : PassState) (found : Found) (m : NewMessage) → Finds before found → Extends before (with_published before found m)
 message_extends before found m finds = record {
   own = λ pair has. has_kept before.own ((found.count, message_record m) ∷ []) pair has;
   named = λ pair has. has;
   fulls = λ full has. has;
   lacks = λ pair has. has;
   limit = refl;
-  seen = seen_later before (with_message before found m) found finds refl;
+  seen = seen_later before (with_published before found m) found finds refl;
 }
 
-given_kept : (lists : Lists) (a : Accepted) (place : ℕ) → IsGiven lists place → IsGiven (with_accepted lists a) place
+given_kept : (lists : ReportLists) (a : Accepted) (place : ℕ) → IsGiven lists place → IsGiven (with_accepted lists a) place
 given_kept lists a place (inl (x, has, same)) = inl (x, has_kept lists.accepted (a ∷ []) x has, same)
 given_kept lists a place (inr declared) = inr declared
 
-listed_kept : (lists : Lists) (a : Accepted) (index : ℕ) → IsListed lists index → IsListed (with_accepted lists a) index
+listed_kept : (lists : ReportLists) (a : Accepted) (index : ℕ) → IsAccountedFor lists index → IsAccountedFor (with_accepted lists a) index
 listed_kept lists a index (inl (x, has, same)) = inl (x, has_kept lists.accepted (a ∷ []) x has, same)
 listed_kept lists a index (inr refused) = inr refused
 
 -- the message at hand, which is on that channel and was published as this
-pub record IsTaken (records : List Top) (handled : ℕ) (lists : Lists) (source : ℕ) (t : Top) (m : NewMessage) : Type 0 where
-  pub id : HasId records lists.declared source m.channel
+pub record IsTaken (records : List Top) (handled : ℕ) (lists : ReportLists) (source : ℕ) (t : Top) (m : NewMessage) : Type 0 where
+  pub id : DeclaredWithId records lists.declared source m.channel
   pub at : At (messages records) handled t
   pub is : IsMessage t source (fields_of_message m)
   pub small : length m.payload.now ≤ 33554432
 
-new_accepts : (records : List Top) (handled : ℕ) (ids : LaneIds) (lists : Lists) (before : PassState) (found : Found) (m : NewMessage) (source : ℕ) (t : Top) → ListsStand records handled (handled + 1) ids lists before → IsTaken records handled lists source t m → Accepts records lists.declared (with_message before found m) (accepted_at handled found.count)
+new_accepts : (records : List Top) (handled : ℕ) (ids : LaneIds) (lists : ReportLists) (before : PassState) (found : Found) (m : NewMessage) (source : ℕ) (t : Top) → ListsStand records handled (handled + 1) ids lists before → IsTaken records handled lists source t m → Accepts records lists.declared (with_published before found m) (accepted_at handled found.count)
 new_accepts records handled ids lists before found m source t stands taken = record {
   source = source;
   message = fields_of_message m;
@@ -65,10 +65,10 @@ new_accepts records handled ids lists before found m source t stands taken = rec
   own = subst (λ (id : ℕ). Has (before.own ++ (found.count, message_record m) ∷ []) (found.count, message_of id (fields_of_message m))) (sym taken.id.is) (has_last before.own (found.count, message_record m) []);
 }
 
-pub accepted_fits : (records : List Top) (handled : ℕ) (ids : LaneIds) (lists : Lists) (before : PassState) (found : Found) (m : NewMessage) (source : ℕ) (t : Top) → ListsStand records handled (handled + 1) ids lists before → Finds before found → IsTaken records handled lists source t m → ListsFit records (handled + 1) (handled + 1) (with_accepted lists (accepted_at handled found.count)) (with_message before found m)
+pub accepted_fits : (records : List Top) (handled : ℕ) (ids : LaneIds) (lists : ReportLists) (before : PassState) (found : Found) (m : NewMessage) (source : ℕ) (t : Top) → ListsStand records handled (handled + 1) ids lists before → Finds before found → IsTaken records handled lists source t m → ListsFit records (handled + 1) (handled + 1) (with_accepted lists (accepted_at handled found.count)) (with_published before found m)
 accepted_fits records handled ids lists before found m source t stands finds taken =
     let was = stands.fits in
-    let after = with_message before found m in
+    let after = with_published before found m in
     let extends = message_extends before found m finds in
     let above = finds_above before found finds in
     let new = accepted_at handled found.count in
@@ -126,7 +126,7 @@ accepted_fits records handled ids lists before found m source t stands finds tak
       ];
     }
 
-pub accepted_stands : (records : List Top) (handled : ℕ) (ids : LaneIds) (lists : Lists) (before : PassState) (found : Found) (m : NewMessage) (source : ℕ) (t : Top) → ListsStand records handled (handled + 1) ids lists before → Finds before found → found.end ≡ None → IsTaken records handled lists source t m → ListsStand records (handled + 1) (handled + 1) ids (with_accepted lists (accepted_at handled found.count)) (with_message before found m)
+pub accepted_stands : (records : List Top) (handled : ℕ) (ids : LaneIds) (lists : ReportLists) (before : PassState) (found : Found) (m : NewMessage) (source : ℕ) (t : Top) → ListsStand records handled (handled + 1) ids lists before → Finds before found → found.end ≡ None → IsTaken records handled lists source t m → ListsStand records (handled + 1) (handled + 1) ids (with_accepted lists (accepted_at handled found.count)) (with_published before found m)
 accepted_stands records handled ids lists before found m source t stands finds end taken =
     let extends = message_extends before found m finds in
     record {
@@ -135,6 +135,6 @@ accepted_stands records handled ids lists before found m source t stands finds e
       going = stands.going;
       firsts = λ k d at. extends.seen d.first (stands.firsts k d at);
       tos = λ k full at. extends.seen full.to (stands.tos k full at);
-      is_open = open_by (with_message before found m) found refl end;
+      is_open = open_by (with_published before found m) found refl end;
       tried = stands.tried;
     }

@@ -21,8 +21,8 @@ use Rattle.feed_lane.specs.declared.report.DeclaredAt.{DeclaredAt}
 use Rattle.feed_lane.specs.declared.report.Cause.{Cause}
 use Rattle.feed_lane.specs.declared.report.Cause.TheVariants as causes
 use Rattle.feed_lane.specs.Pass.{FullAt, Reason, for_size, for_room, for_id, PassState, Finds, full_at, with_found, with_reason, with_full, with_lack, GetsId, PublishedBy, DeclaredInto, FoundAtLeast}
-use Rattle.feed_lane.specs.Lanes.{Lists, messages, IsLong, IsChannelOf, IsWide, EndsWith, CauseFits, IsDeclared, IsUndeclared, IsTried, full_in, lack_in, reason_in, IsLacking, InStep, ListsFit}
-use Rattle.feed_lane.specs.Steps.{Above, goes_on, HasId, IsRefusal, publish_cause, declare_cause, full_cause}
+use Rattle.feed_lane.specs.Lanes.{ReportLists, messages, HasTooMuchData, IsChannelOf, IsWide, LastFindsEnd, CauseFits, IsDeclared, IsUndeclared, IsTried, full_in, lack_in, reason_in, IsLacking, InStep, ListsFit}
+use Rattle.feed_lane.specs.Steps.{Above, goes_on, DeclaredWithId, RefusalLeaves, publish_cause, declare_cause, full_cause}
 use Rattle.feed_lane.proofs.Members.{false_true, open_by, finds_above, seen_later, in_step_none, in_step_one}
 
 -- ---- refusals
@@ -39,7 +39,7 @@ none_in : (P : FullAt → Type 0) (cause : Cause) → full_in cause ≡ [] → E
 none_in P cause none n full at = absurd (at_none n full (subst (λ (l : List FullAt). At l n full) none at))
 
 -- no call was made, for want of memory
-pub unchanged : (records : List Top) (handled : ℕ) (pass : PassState) → IsRefusal records handled pass pass causes.Memory
+pub unchanged : (records : List Top) (handled : ℕ) (pass : PassState) → RefusalLeaves records handled pass pass causes.Memory
 unchanged records handled pass = record {
   extends = record { own = λ pair has. has; named = λ pair has. has; fulls = λ full has. has; lacks = λ pair has. has; limit = refl; seen = λ n s. s };
   own = refl;
@@ -56,7 +56,7 @@ unchanged records handled pass = record {
 }
 
 -- the call found something too large without a look at the intake
-too_large : (records : List Top) (handled : ℕ) (pass : PassState) (len : ℕ) → IsLong records handled len ⊎ IsWide records handled len → IsRefusal records handled pass (with_reason pass (for_size len)) (causes.TooLarge len)
+too_large : (records : List Top) (handled : ℕ) (pass : PassState) (len : ℕ) → HasTooMuchData records handled len ⊎ IsWide records handled len → RefusalLeaves records handled pass (with_reason pass (for_size len)) (causes.TooLarge len)
 too_large records handled pass len large = record {
   extends = record { own = λ pair has. has; named = λ pair has. has; fulls = λ full has. has; lacks = λ pair has. has; limit = refl; seen = λ n s. record { found = s.found; shown = s.shown; within = s.within } };
   own = refl;
@@ -77,7 +77,7 @@ abbrev with_reasons : PassState → Found → List Reason → PassState
 with_reasons before found more = record before { reasons = before.reasons ++ more; found = Some found }
 
 -- the call found the intake, and left the rest as it was
-found_only : (records : List Top) (handled : ℕ) (before : PassState) (found : Found) (cause : Cause) → Finds before found → (goes_on cause ≡ true → found.end ≡ None) → IsPlain handled cause → CauseFits records (handled + 1) (with_reasons before found (reason_in cause)) handled cause → IsRefusal records handled before (with_reasons before found (reason_in cause)) cause
+found_only : (records : List Top) (handled : ℕ) (before : PassState) (found : Found) (cause : Cause) → Finds before found → (goes_on cause ≡ true → found.end ≡ None) → IsPlain handled cause → CauseFits records (handled + 1) (with_reasons before found (reason_in cause)) handled cause → RefusalLeaves records handled before (with_reasons before found (reason_in cause)) cause
 found_only records handled before found cause finds end plain fits = record {
   extends = record { own = λ pair has. has; named = λ pair has. has; fulls = λ full has. has; lacks = λ pair has. has; limit = refl; seen = seen_later before (with_reasons before found (reason_in cause)) found finds refl };
   own = refl;
@@ -94,15 +94,15 @@ found_only records handled before found cause finds end plain fits = record {
 }
 
 -- memory lacked for the call
-lacked_memory : (records : List Top) (handled : ℕ) (before : PassState) (found : Found) → Finds before found → found.end ≡ None → IsRefusal records handled before (with_found before found) causes.Memory
+lacked_memory : (records : List Top) (handled : ℕ) (before : PassState) (found : Found) → Finds before found → found.end ≡ None → RefusalLeaves records handled before (with_found before found) causes.Memory
 lacked_memory records handled before found finds end =
-    subst (λ (l : List Reason). IsRefusal records handled before (made l) causes.Memory) (append-nil before.reasons) (found_only records handled before found causes.Memory finds (λ on. end) (refl, refl) tt)
+    subst (λ (l : List Reason). RefusalLeaves records handled before (made l) causes.Memory) (append-nil before.reasons) (found_only records handled before found causes.Memory finds (λ on. end) (refl, refl) tt)
   where
     made : List Reason → PassState
     made l = record before { reasons = l; found = Some found }
 
 -- the buffer was full
-was_full : (records : List Top) (handled : ℕ) (before : PassState) (found : Found) (held : ℕ) → Finds before found → found.end ≡ None → held ≡ found.held → before.limit ≤ held → IsRefusal records handled before (with_full before found) (full_cause held (Some found))
+was_full : (records : List Top) (handled : ℕ) (before : PassState) (found : Found) (held : ℕ) → Finds before found → found.end ≡ None → held ≡ found.held → before.limit ≤ held → RefusalLeaves records handled before (with_full before found) (full_cause held (Some found))
 was_full records handled before found held finds end same le =
     let full : FullAt = record { from = found.taken; to = found.count; held = held } in
     let is : full ≡ full_at found = ap (λ (n : ℕ). made n) same in
@@ -131,7 +131,7 @@ was_full records handled before found held finds end same le =
     ]
 
 -- no id was left
-lacked : (records : List Top) (handled : ℕ) (before : PassState) (found : Found) (d : ChannelDef) (refusal : DeclareRefused) (cause : Cause) → Finds before found → found.end ≡ None → full_in cause ≡ [] → lack_in handled cause ≡ (handled, refusal) ∷ [] → reason_in cause ≡ for_id refusal ∷ [] → IsChannelOf records handled d → CauseFits records (handled + 1) (with_lack before found d refusal) handled cause → IsRefusal records handled before (with_lack before found d refusal) cause
+lacked : (records : List Top) (handled : ℕ) (before : PassState) (found : Found) (d : ChannelDef) (refusal : DeclareRefused) (cause : Cause) → Finds before found → found.end ≡ None → full_in cause ≡ [] → lack_in handled cause ≡ (handled, refusal) ∷ [] → reason_in cause ≡ for_id refusal ∷ [] → IsChannelOf records handled d → CauseFits records (handled + 1) (with_lack before found d refusal) handled cause → RefusalLeaves records handled before (with_lack before found d refusal) cause
 lacked records handled before found d refusal cause finds end none lack why is fits = record {
   extends = record { own = λ pair has. has; named = λ pair has. has; fulls = λ full has. has; lacks = λ pair has. has_kept before.lacks ((d, refusal) ∷ []) pair has; limit = refl; seen = seen_later before (with_lack before found d refusal) found finds refl };
   own = refl;
@@ -148,11 +148,11 @@ lacked records handled before found d refusal cause finds end none lack why is f
 }
 
 -- the intake has ended
-ended : (handled : ℕ) (before : PassState) (found : Found) (at : ℕ) (end : End) → found.end ≡ Some end → at ≡ found.count → (more : List Reason) → EndsWith (handled + 1) (with_reasons before found more) handled at end
+ended : (handled : ℕ) (before : PassState) (found : Found) (at : ℕ) (end : End) → found.end ≡ Some end → at ≡ found.count → (more : List Reason) → LastFindsEnd (handled + 1) (with_reasons before found more) handled at end
 ended handled before found at end is same more = record { last = refl; found = found; shown = refl; ended = is; at_count = same }
 
 -- the intake knows the id that a channel of the feed got
-pub named_there : (records : List Top) (handled bound : ℕ) (lists : Lists) (before : PassState) (source id : ℕ) (found : Found) → ListsFit records handled bound lists before → HasId records lists.declared source id → Finds before found → (1 ≤ id) × (id ≤ found.channels)
+pub named_there : (records : List Top) (handled bound : ℕ) (lists : ReportLists) (before : PassState) (source id : ℕ) (found : Found) → ListsFit records handled bound lists before → DeclaredWithId records lists.declared source id → Finds before found → (1 ≤ id) × (id ≤ found.channels)
 named_there records handled bound lists before source id found fits has finds =
     let named = (fits.declares has.listed.0 has.by has.listed.1).named in
     let there = finds.ids named.0 _ named.1 in
@@ -160,22 +160,22 @@ named_there records handled bound lists before source id found fits has finds =
 
 -- the refusal of a message that stands there, on a channel to which the pass gave an id
 pub publish_refused : (records : List Top) (handled source : ℕ) (t : Top) (before after : PassState) (m : NewMessage) (refusal : PublishRefused) → At (messages records) handled t → IsMessage t source (fields_of_message m)
-    → ((found : Found) → Finds before found → (1 ≤ m.channel) × (m.channel ≤ found.channels)) → PublishedBy before after m (Err refusal) → IsRefusal records handled before after (publish_cause refusal after.found)
+    → ((found : Found) → Finds before found → (1 ≤ m.channel) × (m.channel ≤ found.channels)) → PublishedBy before after m (Err refusal) → RefusalLeaves records handled before after (publish_cause refusal after.found)
 publish_refused records handled source t before after m (publishing.TooLarge len) at is known (size, over, same) =
-    subst (λ (p : PassState). IsRefusal records handled before p (causes.TooLarge len)) (sym same)
+    subst (λ (p : PassState). RefusalLeaves records handled before p (causes.TooLarge len)) (sym same)
     (too_large records handled before len (inl (record { source = source; message = fields_of_message m; top = t; at = at; is = is; size = size; over = over })))
 publish_refused records handled source t before after m (publishing.Closed place) at is known (found, short, finds, end, here, same) =
-    subst (λ (p : PassState). IsRefusal records handled before p (causes.Closed place)) (sym same)
+    subst (λ (p : PassState). RefusalLeaves records handled before p (causes.Closed place)) (sym same)
     (found_only records handled before found (causes.Closed place) finds (λ on. absurd (false_true on)) (refl, refl) (ended handled before found place ends.Closed end here _))
 publish_refused records handled source t before after m (publishing.Stopped place stop) at is known (found, short, finds, end, here, same) =
-    subst (λ (p : PassState). IsRefusal records handled before p (causes.Stopped place stop)) (sym same)
+    subst (λ (p : PassState). RefusalLeaves records handled before p (causes.Stopped place stop)) (sym same)
     (found_only records handled before found (causes.Stopped place stop) finds (λ on. absurd (false_true on)) (refl, refl) (ended handled before found place (ends.Stopped stop) end here _))
 publish_refused records handled source t before after m publishing.UnknownChannel at is known (found, short, finds, end, unknown, same) =
     absurd (elim unknown [ inl none ↦ omega (arith, (known found finds).0, none) | inr above ↦ omega (arith, (known found finds).1, above) ])
 publish_refused records handled source t before after m (publishing.TooManyRecords count) at is known (found, short, finds, end, there, here, many, same) =
-    subst (λ (p : PassState). IsRefusal records handled before p (causes.TooManyRecords count)) (sym same) (found_only records handled before found (causes.TooManyRecords count) finds (λ on. end) (refl, refl) (many, record { found = found; shown = refl; within = omega (arith, here) }))
+    subst (λ (p : PassState). RefusalLeaves records handled before p (causes.TooManyRecords count)) (sym same) (found_only records handled before found (causes.TooManyRecords count) finds (λ on. end) (refl, refl) (many, record { found = found; shown = refl; within = omega (arith, here) }))
 publish_refused records handled source t before after m (publishing.Full held) at is known (found, short, finds, end, there, few, here, le, same) =
-    subst (λ (p : PassState). IsRefusal records handled before p (full_cause held p.found)) (sym same) (was_full records handled before found held finds end here le)
+    subst (λ (p : PassState). RefusalLeaves records handled before p (full_cause held p.found)) (sym same) (was_full records handled before found held finds end here le)
 
 -- memory lacks for no message whose channel got an id
 full_unlacking : (held : ℕ) (found : Found) → causes.Full held found.taken found.count ≡ causes.Memory → ⊥
@@ -204,28 +204,28 @@ publish_lacks before after m (publishing.Full held) known (found, short, finds, 
     full_unlacking held found (subst (λ (p : PassState). full_cause held p.found ≡ causes.Memory) same e)
 
 -- the refusal of a declaration of the channel of the message at hand
-pub declare_refused : (records : List Top) (handled : ℕ) (before after : PassState) (d : ChannelDef) (refusal : DeclareRefused) → IsChannelOf records handled d → DeclaredInto before after d (Err refusal) → IsRefusal records handled before after (declare_cause refusal after.found)
+pub declare_refused : (records : List Top) (handled : ℕ) (before after : PassState) (d : ChannelDef) (refusal : DeclareRefused) → IsChannelOf records handled d → DeclaredInto before after d (Err refusal) → RefusalLeaves records handled before after (declare_cause refusal after.found)
 declare_refused records handled before after d (declaring.TooLarge len) is (size, over, same) =
-    subst (λ (p : PassState). IsRefusal records handled before p (causes.TooLarge len)) (sym same)
+    subst (λ (p : PassState). RefusalLeaves records handled before p (causes.TooLarge len)) (sym same)
     (too_large records handled before len (inr (d, is, size, over)))
 declare_refused records handled before after d (declaring.Closed place) is (found, narrow, finds, end, here, same) =
-    subst (λ (p : PassState). IsRefusal records handled before p (causes.Closed place)) (sym same)
+    subst (λ (p : PassState). RefusalLeaves records handled before p (causes.Closed place)) (sym same)
     (found_only records handled before found (causes.Closed place) finds (λ on. absurd (false_true on)) (refl, refl) (ended handled before found place ends.Closed end here _))
 declare_refused records handled before after d (declaring.Stopped place stop) is (found, narrow, finds, end, here, same) =
-    subst (λ (p : PassState). IsRefusal records handled before p (causes.Stopped place stop)) (sym same)
+    subst (λ (p : PassState). RefusalLeaves records handled before p (causes.Stopped place stop)) (sym same)
     (found_only records handled before found (causes.Stopped place stop) finds (λ on. absurd (false_true on)) (refl, refl) (ended handled before found place (ends.Stopped stop) end here _))
 declare_refused records handled before after d (declaring.TooManyRecords count) is (found, narrow, finds, end, unnamed, here, many, same) =
-    subst (λ (p : PassState). IsRefusal records handled before p (causes.TooManyRecords count)) (sym same) (found_only records handled before found (causes.TooManyRecords count) finds (λ on. end) (refl, refl) (many, record { found = found; shown = refl; within = omega (arith, here) }))
+    subst (λ (p : PassState). RefusalLeaves records handled before p (causes.TooManyRecords count)) (sym same) (found_only records handled before found (causes.TooManyRecords count) finds (λ on. end) (refl, refl) (many, record { found = found; shown = refl; within = omega (arith, here) }))
 declare_refused records handled before after d (declaring.Full held) is (found, narrow, finds, end, unnamed, few, here, le, same) =
-    subst (λ (p : PassState). IsRefusal records handled before p (full_cause held p.found)) (sym same) (was_full records handled before found held finds end here le)
+    subst (λ (p : PassState). RefusalLeaves records handled before p (full_cause held p.found)) (sym same) (was_full records handled before found held finds end here le)
 declare_refused records handled before after d declaring.TooManySchemas is (found, narrow, finds, end, unnamed, place, many, same) =
-    subst (λ (p : PassState). IsRefusal records handled before p causes.TooManySchemas) (sym same)
+    subst (λ (p : PassState). RefusalLeaves records handled before p causes.TooManySchemas) (sym same)
     (lacked records handled before found d declaring.TooManySchemas causes.TooManySchemas finds end refl refl refl is (d, is, has_last before.lacks (d, declaring.TooManySchemas) []))
 declare_refused records handled before after d declaring.TooManyChannels is (found, narrow, finds, end, unnamed, place, many, same) =
-    subst (λ (p : PassState). IsRefusal records handled before p causes.TooManyChannels) (sym same)
+    subst (λ (p : PassState). RefusalLeaves records handled before p causes.TooManyChannels) (sym same)
     (lacked records handled before found d declaring.TooManyChannels causes.TooManyChannels finds end refl refl refl is (d, is, has_last before.lacks (d, declaring.TooManyChannels) []))
 declare_refused records handled before after d declaring.Memory is (found, narrow, finds, end, unnamed, place, left, same) =
-    subst (λ (p : PassState). IsRefusal records handled before p causes.Memory) (sym same) (lacked_memory records handled before found finds end)
+    subst (λ (p : PassState). RefusalLeaves records handled before p causes.Memory) (sym same) (lacked_memory records handled before found finds end)
 
 -- the cause is that a record is too large only where the refusal is
 large_same : {n len : ℕ} → causes.TooLarge n ≡ causes.TooLarge len → n ≡ len

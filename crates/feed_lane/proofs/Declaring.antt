@@ -10,15 +10,15 @@ use Rattle.mcap_model.proofs.Lists.{at_either, at_second, pairs_at, pairs_from}
 use Rattle.record_core.specs.declared.answers.Found.{Found}
 use Rattle.feed_lane.specs.declared.report.DeclaredAt.{DeclaredAt}
 use Rattle.feed_lane.specs.declared.report.Refused.{Refused}
-use Rattle.feed_lane.specs.Pass.{PassState, placed_from, Finds, AreAdded, with_declared}
-use Rattle.feed_lane.specs.Lanes.{Lists, IsOn, Describes, Declares, IsTried, full_in, IsNamed, InTurnWith, IsGiven, ListsFit}
-use Rattle.feed_lane.specs.Kept.{LaneIds, with_id}
-use Rattle.feed_lane.specs.Steps.{Extends, HasId, IdsStand, ListsStand}
+use Rattle.feed_lane.specs.Pass.{PassState, with_places, Finds, AreAdded, with_declared}
+use Rattle.feed_lane.specs.Lanes.{ReportLists, IsOn, DeclaresContent, DeclarationAdds, IsTried, full_in, ShowsDeclaration, InTurnWith, IsGiven, ListsFit}
+use Rattle.feed_lane.specs.Kept.{LaneIds, with_channel_id}
+use Rattle.feed_lane.specs.Steps.{Extends, DeclaredWithId, IdsStand, ListsStand}
 use Rattle.feed_lane.proofs.Growing.{on_one}
 use Rattle.feed_lane.proofs.Members.{open_by, finds_above, seen_later, in_step_joined, in_step_one, declares_on, accepts_on, accepts_listed, has_id_listed, cause_on, full_shown, placed_at, declared_above, accepted_above}
 
 -- the lists with one more declaration
-abbrev pub with_declaration : Lists → DeclaredAt → Lists
+abbrev pub with_declaration : ReportLists → DeclaredAt → ReportLists
 with_declaration lists d = record { accepted = lists.accepted; declared = lists.declared ++ d ∷ []; refused = lists.refused }
 
 -- The declaration for the message at hand, whose channel had none: the id that it got, and the records that it added from
@@ -26,7 +26,7 @@ with_declaration lists d = record { accepted = lists.accepted; declared = lists.
 pub record IsNew (records : List Top) (handled : ℕ) (ids : LaneIds) (source : ℕ) (found : Found) (content : ChannelDef) (d : DeclaredAt) : Type 0 where
   pub none : At ids.given source 0
   pub on : IsOn records handled source
-  pub describes : Describes records source content
+  pub describes : DeclaresContent records source content
   pub index : d.index ≡ handled
   pub first : d.first ≡ found.count
   pub some : 1 ≤ d.channel
@@ -36,7 +36,7 @@ pub record IsNew (records : List Top) (handled : ℕ) (ids : LaneIds) (source : 
 
 declared_extends : (before : PassState) (found : Found) (content : ChannelDef) (channel : ℕ) (added : List Rec) → Finds before found → Extends before (with_declared before found content channel added)
 declared_extends before found content channel added finds = record {
-  own = λ pair has. has_kept before.own (placed_from found.count added) pair has;
+  own = λ pair has. has_kept before.own (with_places found.count added) pair has;
   named = λ pair has. has_kept before.named ((channel, content) ∷ []) pair has;
   fulls = λ full has. has;
   lacks = λ pair has. has;
@@ -44,7 +44,7 @@ declared_extends before found content channel added finds = record {
   seen = seen_later before (with_declared before found content channel added) found finds refl;
 }
 
-new_declares : (records : List Top) (handled : ℕ) (ids : LaneIds) (source : ℕ) (before : PassState) (found : Found) (content : ChannelDef) (d : DeclaredAt) (is : IsNew records handled ids source found content d) → Declares records (with_declared before found content d.channel is.added) d
+new_declares : (records : List Top) (handled : ℕ) (ids : LaneIds) (source : ℕ) (before : PassState) (found : Found) (content : ChannelDef) (d : DeclaredAt) (is : IsNew records handled ids source found content d) → DeclarationAdds records (with_declared before found content d.channel is.added) d
 new_declares records handled ids source before found content d is = record {
   source = source;
   on = subst (λ (n : ℕ). IsOn records n source) (sym is.index) is.on;
@@ -54,23 +54,23 @@ new_declares records handled ids source before found content d is = record {
   added = is.added;
   are = is.are;
   many = is.many;
-  own = subst (λ (n : ℕ). Each (Has (before.own ++ placed_from found.count is.added)) (placed_from n is.added)) (sym is.first)
-      (λ k pair at. (length before.own + k, at_second before.own (placed_from found.count is.added) k pair at));
+  own = subst (λ (n : ℕ). Each (Has (before.own ++ with_places found.count is.added)) (with_places n is.added)) (sym is.first)
+      (λ k pair at. (length before.own + k, at_second before.own (with_places found.count is.added) k pair at));
 }
 
 -- no other declaration is for that channel
-not_twice : (records : List Top) (handled : ℕ) (ids : LaneIds) (lists : Lists) (source : ℕ) (before : PassState) (found : Found) (content : ChannelDef) (d : DeclaredAt) → ListsStand records handled handled ids lists before → IsNew records handled ids source found content d → (k : ℕ) (e : DeclaredAt) (channel : ℕ) → At lists.declared k e → IsOn records e.index channel → IsOn records d.index channel → ⊥
+not_twice : (records : List Top) (handled : ℕ) (ids : LaneIds) (lists : ReportLists) (source : ℕ) (before : PassState) (found : Found) (content : ChannelDef) (d : DeclaredAt) → ListsStand records handled handled ids lists before → IsNew records handled ids source found content d → (k : ℕ) (e : DeclaredAt) (channel : ℕ) → At lists.declared k e → IsOn records e.index channel → IsOn records d.index channel → ⊥
 not_twice records handled ids lists source before found content d stands is k e channel at on on_d =
     let same : channel ≡ source = on_one records handled channel source (subst (λ (n : ℕ). IsOn records n channel) is.index on_d) is.on in
     stands.ids_stand.fresh source e is.none (k, at) (subst (IsOn records e.index) same on)
 
-given_kept : (lists : Lists) (d : DeclaredAt) (place : ℕ) → IsGiven lists place → IsGiven (with_declaration lists d) place
+given_kept : (lists : ReportLists) (d : DeclaredAt) (place : ℕ) → IsGiven lists place → IsGiven (with_declaration lists d) place
 given_kept lists d place (inl accepted) = inl accepted
 given_kept lists d place (inr (e, has, from, to)) = inr (e, has_kept lists.declared (d ∷ []) e has, from, to)
 
-own_rises : (before : PassState) (found : Found) (added : List Rec) → Finds before found → AllPairs (λ p q. p.0 < q.0) before.own → AllPairs (λ p q. p.0 < q.0) (before.own ++ placed_from found.count added)
+own_rises : (before : PassState) (found : Found) (added : List Rec) → Finds before found → AllPairs (λ p q. p.0 < q.0) before.own → AllPairs (λ p q. p.0 < q.0) (before.own ++ with_places found.count added)
 own_rises before found added finds was =
-    let more = placed_from found.count added in
+    let more = with_places found.count added in
     pairs_from (λ (p q : ℕ × Rec). p.0 < q.0) (before.own ++ more) (λ i j p q lt at_i at_j. elim (at_either before.own more i p at_i) [
       | inl one ↦ elim (at_either before.own more j q at_j) [
         | inl other ↦ pairs_at (λ (p q : ℕ × Rec). p.0 < q.0) before.own was i j p q lt one other
@@ -85,7 +85,7 @@ own_rises before found added finds was =
       ]
     ])
 
-pub declared_fits : (records : List Top) (handled : ℕ) (ids : LaneIds) (lists : Lists) (source : ℕ) (before : PassState) (found : Found) (content : ChannelDef) (d : DeclaredAt) → ListsStand records handled handled ids lists before → Finds before found → (is : IsNew records handled ids source found content d) → ListsFit records handled (handled + 1) (with_declaration lists d) (with_declared before found content d.channel is.added)
+pub declared_fits : (records : List Top) (handled : ℕ) (ids : LaneIds) (lists : ReportLists) (source : ℕ) (before : PassState) (found : Found) (content : ChannelDef) (d : DeclaredAt) → ListsStand records handled handled ids lists before → Finds before found → (is : IsNew records handled ids source found content d) → ListsFit records handled (handled + 1) (with_declaration lists d) (with_declared before found content d.channel is.added)
 declared_fits records handled ids lists source before found content d stands finds is =
     let was = stands.fits in
     let after = with_declared before found content d.channel is.added in
@@ -95,7 +95,7 @@ declared_fits records handled ids lists source before found content d stands fin
       accepts = λ k a at. accepts_listed records lists.declared (d ∷ []) after a (accepts_on records lists.declared before after a extends (was.accepts k a at));
       declares = λ k e at. elim (at_more lists.declared d k e at) [
         | inl old ↦ declares_on records before after e extends (was.declares k e old)
-        | inr last ↦ subst (Declares records after) (sym last.1) (new_declares records handled ids source before found content d is)
+        | inr last ↦ subst (DeclarationAdds records after) (sym last.1) (new_declares records handled ids source before found content d is)
       ];
       refuses = λ k r at. cause_on records handled handled before after r.index r.cause (stands.going k r at) extends (was.refuses k r at);
       once = λ j k e f channel at_j at_k on_e on_f. elim (at_more lists.declared d j e at_j) [
@@ -108,7 +108,7 @@ declared_fits records handled ids lists source before found content d stands fin
           | inr other ↦ last.0 ∙ sym other.0
         ]
       ];
-      given = λ k pair at. elim (at_either before.own (placed_from found.count is.added) k pair at) [
+      given = λ k pair at. elim (at_either before.own (with_places found.count is.added) k pair at) [
         | inl old ↦ given_kept lists d pair.0 (was.given k pair old)
         | inr (n, here, new) ↦
             let there = placed_at found.count is.added n pair new in
@@ -127,8 +127,8 @@ declared_fits records handled ids lists source before found content d stands fin
           λ lt. let below = accepted_above records lists.declared before a found.count (was.accepts k a at_k) above in omega (arith, below, is.first),
         )
       ];
-      named = in_step_joined (IsNamed records) lists.declared (d ∷ []) before.named ((d.channel, content) ∷ []) was.named
-          (in_step_one (IsNamed records) d (d.channel, content) (refl, record { source = source; on = subst (λ (n : ℕ). IsOn records n source) (sym is.index) is.on; describes = is.describes }));
+      named = in_step_joined (ShowsDeclaration records) lists.declared (d ∷ []) before.named ((d.channel, content) ∷ []) was.named
+          (in_step_one (ShowsDeclaration records) d (d.channel, content) (refl, record { source = source; on = subst (λ (n : ℕ). IsOn records n source) (sym is.index) is.on; describes = is.describes }));
       lacks = was.lacks;
       reasons = was.reasons;
       fulls = was.fulls;
@@ -153,7 +153,7 @@ declared_fits records handled ids lists source before found content d stands fin
       apart = was.apart;
     }
 
-new_ids : (records : List Top) (handled : ℕ) (ids : LaneIds) (lists : Lists) (source : ℕ) (before : PassState) (found : Found) (content : ChannelDef) (d : DeclaredAt) → ListsStand records handled handled ids lists before → IsNew records handled ids source found content d → HasId records (lists.declared ++ d ∷ []) source d.channel → IdsStand records (lists.declared ++ d ∷ []) (with_id ids source d.channel)
+new_ids : (records : List Top) (handled : ℕ) (ids : LaneIds) (lists : ReportLists) (source : ℕ) (before : PassState) (found : Found) (content : ChannelDef) (d : DeclaredAt) → ListsStand records handled handled ids lists before → IsNew records handled ids source found content d → DeclaredWithId records (lists.declared ++ d ∷ []) source d.channel → IdsStand records (lists.declared ++ d ∷ []) (with_channel_id ids source d.channel)
 new_ids records handled ids lists source before found content d stands is has = record {
   fresh = λ other e at listed on. elim (at_set ids.given source other 0 d.channel at) [
     | inl here ↦ omega (arith, here.1, is.some)
@@ -165,12 +165,12 @@ new_ids records handled ids lists source before found content d stands is has = 
   kept = stands.ids_stand.kept;
   wide = stands.ids_stand.wide;
   known = λ other id at some. elim (at_set ids.given source other id d.channel at) [
-    | inl here ↦ subst (λ (n : ℕ). HasId records (lists.declared ++ d ∷ []) other n) (sym here.1) (subst (λ (n : ℕ). HasId records (lists.declared ++ d ∷ []) n d.channel) (sym here.0) has)
+    | inl here ↦ subst (λ (n : ℕ). DeclaredWithId records (lists.declared ++ d ∷ []) other n) (sym here.1) (subst (λ (n : ℕ). DeclaredWithId records (lists.declared ++ d ∷ []) n d.channel) (sym here.0) has)
     | inr there ↦ has_id_listed records lists.declared (d ∷ []) other id (stands.ids_stand.known other id there.1 some)
   ];
 }
 
-pub new_has_id : (records : List Top) (handled : ℕ) (ids : LaneIds) (lists : Lists) (source : ℕ) (found : Found) (content : ChannelDef) (d : DeclaredAt) → IsNew records handled ids source found content d → HasId records (lists.declared ++ d ∷ []) source d.channel
+pub new_has_id : (records : List Top) (handled : ℕ) (ids : LaneIds) (lists : ReportLists) (source : ℕ) (found : Found) (content : ChannelDef) (d : DeclaredAt) → IsNew records handled ids source found content d → DeclaredWithId records (lists.declared ++ d ∷ []) source d.channel
 new_has_id records handled ids lists source found content d is = record {
   by = d;
   listed = has_last lists.declared d [];
@@ -190,7 +190,7 @@ tried_kept records declared d r later was = record {
   ];
 }
 
-pub declared_stands : (records : List Top) (handled : ℕ) (ids : LaneIds) (lists : Lists) (source : ℕ) (before : PassState) (found : Found) (content : ChannelDef) (d : DeclaredAt) → ListsStand records handled handled ids lists before → Finds before found → found.end ≡ None → (is : IsNew records handled ids source found content d) → ListsStand records handled (handled + 1) (with_id ids source d.channel) (with_declaration lists d) (with_declared before found content d.channel is.added)
+pub declared_stands : (records : List Top) (handled : ℕ) (ids : LaneIds) (lists : ReportLists) (source : ℕ) (before : PassState) (found : Found) (content : ChannelDef) (d : DeclaredAt) → ListsStand records handled handled ids lists before → Finds before found → found.end ≡ None → (is : IsNew records handled ids source found content d) → ListsStand records handled (handled + 1) (with_channel_id ids source d.channel) (with_declaration lists d) (with_declared before found content d.channel is.added)
 declared_stands records handled ids lists source before found content d stands finds end is =
     let after = with_declared before found content d.channel is.added in
     let extends = declared_extends before found content d.channel is.added finds in

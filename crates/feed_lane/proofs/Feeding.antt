@@ -17,7 +17,7 @@ use Rattle.mcap_model.specs.declared.refusals.ReadingRefused.TheVariants as refu
 use Rattle.mcap_scan.specs.declared.reader.Reader.{Reader}
 use Rattle.mcap_scan.specs.declared.reader.Stage.{Stage}
 use Rattle.mcap_scan.specs.declared.reader.Stage.TheVariants as stages
-use Rattle.mcap_scan.specs.Scanning.{Stands as ReaderStands, StageStands, IsGoing, Finds, RefusalStands, MemoryStands, tables_of}
+use Rattle.mcap_scan.specs.Scanning.{Stands as ReaderStands, StageStands, IsGoing, FindsEnd, RefusalStands, MemoryStands, tables_of}
 use Rattle.mcap_scan.proofs.Scanning.{tables_stand, good_stand}
 use Rattle.mcap_scan.proofs.Refused.{nothing_read}
 use Rattle.record_walk.specs.Walking.{ReachesLast}
@@ -32,8 +32,8 @@ use Rattle.record_core.specs.declared.answers.Found.{Found}
 use Rattle.mcap_model.specs.declared.ends.End.{End}
 use Rattle.feed_lane.specs.Pass.{PassState}
 use Rattle.feed_lane.specs.Lanes.{messages, LaneFits}
-use Rattle.feed_lane.specs.Steps.{lists_of, IsOpen, goes_on, LaneStands, AreKnown, MessageTaken, Waits, RecordHandled, passed_among, Counts, Counted, over_end}
-use Rattle.feed_lane.specs.Feeds.{ReadSoFar, FeedEnds, IsInLast, AllTaken, TakesMessages, reported, Reports}
+use Rattle.feed_lane.specs.Steps.{lists_of, IsOpen, goes_on, LaneStands, AreKnown, MessageTaken, MessagesWait, RecordHandled, passed_among, CountsUp, Counted, over_end}
+use Rattle.feed_lane.specs.Feeds.{ReadSoFar, FeedEnds, IsInLast, AllHandled, TakesMessages, reported, Reports}
 use Rattle.feed_lane.proofs.Members.{true_false, unended}
 use Rattle.feed_lane.proofs.Growing.{stands_more}
 use Rattle.feed_lane.proofs.Walking.{waits_behind, waits_due, walked_messages, messages_behind, among_more, walked_passed, given_passed, passed_behind, passed_few}
@@ -46,7 +46,7 @@ counted_none before now n (Ok it) same none = (omega (arith, same), omega (arith
 counted_none before now n (Err over) same none = (omega (arith, same), omega (arith, same), tt)
 
 -- a message that was at hand is a record that was taken
-pub message_record : (lane : Lane) (records : List Top) (handled : ℕ) (content : List ℕ) (more : List Top) (pass : PassState) (result : Result Unit Over) → Waits records handled (top 5 content ∷ more) → MessageTaken lane records handled pass result → RecordHandled lane records handled more pass result
+pub message_record : (lane : Lane) (records : List Top) (handled : ℕ) (content : List ℕ) (more : List Top) (pass : PassState) (result : Result Unit Over) → MessagesWait records handled (top 5 content ∷ more) → MessageTaken lane records handled pass result → RecordHandled lane records handled more pass result
 message_record lane records handled content more pass (Ok it) waits taken = (handled + 1, omega arith, taken, waits_behind records handled content more waits)
 message_record lane records handled content more pass (Err over) waits taken = (handled, omega arith, taken)
 
@@ -93,7 +93,7 @@ among_last given p = ap passed_among (map-append (λ (q : Placed). q.top) given 
 
 -- the record was taken
 pub fed : (lane : Lane) (pass : PassState) (tops : List Top) (given : List Placed) (p : Placed) (ahead : List Placed) → Good reading_limits tops → ReachesLast tops given → walked tops ≡ (given ++ p ∷ []) ++ ahead
-    → RecordHandled lane (flat tops) (length (messages (tops_of given))) (tops_of ahead) pass (Ok tt) → Counts (passed_among (tops_of given)) lane.passed (passed_among (p.top ∷ [])) → Feeds lane pass tops (given ++ p ∷ [])
+    → RecordHandled lane (flat tops) (length (messages (tops_of given))) (tops_of ahead) pass (Ok tt) → CountsUp (passed_among (tops_of given)) lane.passed (passed_among (p.top ∷ [])) → Feeds lane pass tops (given ++ p ∷ [])
 fed lane pass tops given p ahead good reaches all taken counts =
     let more = among_last given p in
     let few = subst (λ (l : List Top). passed l ≤ 1099511627776) (sym reaches.are) (passed_few reaches.earlier reaches.last (subst (Good reading_limits) reaches.are good)) in
@@ -120,7 +120,7 @@ open_ends pass is none = λ found end shown same. absurd (unended pass found end
 
 -- all were given
 pub reports_whole : (lane : Lane) (pass : PassState) (before now : SourceState) (tops : List Top) (given : List Placed) (end : FeedEnd) → Feeds lane pass tops given → given ≡ walked tops → FeedEnds before now tops end
-    → (AllTaken tops (length (messages (tops_of given))) lane.passed → TakesMessages tops (length (messages (tops_of given))) lane.passed lane.refused.items end) → Reports before now pass (report_of lane end)
+    → (AllHandled tops (length (messages (tops_of given))) lane.passed → TakesMessages tops (length (messages (tops_of given))) lane.passed lane.refused.items end) → Reports before now pass (report_of lane end)
 reports_whole lane pass before now tops given end feeds whole ends takes = record {
   tops = tops;
   handled = length (messages (tops_of given));
@@ -137,7 +137,7 @@ reports_whole lane pass before now tops given end feeds whole ends takes = recor
 }
 
 pub reports_done : (lane : Lane) (pass : PassState) (before now : SourceState) (was : List Top) (given : List Placed) (reader : Reader) (offset : ℕ) → Feeds lane pass was given → (tops : List Top) → tops ≡ was → given ≡ walked tops
-    → Finds reader before now tops offset → Reports before now pass (report_of lane feed_ends.Done)
+    → FindsEnd reader before now tops offset → Reports before now pass (report_of lane feed_ends.Done)
 reports_done lane pass before now was given reader offset feeds tops same whole finds =
     reports_whole lane pass before now tops given feed_ends.Done (subst (λ (l : List Top). Feeds lane pass l given) (sym same) feeds) whole (offset, finds.halts) (λ all. all)
 

@@ -11,26 +11,26 @@ use Rattle.feed_lane.specs.declared.report.DeclaredAt.{DeclaredAt}
 use Rattle.feed_lane.specs.declared.report.Refused.{Refused}
 use Rattle.feed_lane.specs.declared.report.Cause.{Cause}
 use Rattle.feed_lane.specs.declared.report.Cause.TheVariants as causes
-use Rattle.feed_lane.specs.Pass.{Reason, for_channel, PassState, placed_from}
-use Rattle.feed_lane.specs.Lanes.{Lists, IsGiven, reason_in, reasons_of, LaneFits}
-use Rattle.feed_lane.specs.Laws.{GivenOnce, IsOwn, PlacesAreGiven, ChannelsAreKnown}
+use Rattle.feed_lane.specs.Pass.{Reason, for_channel, PassState, with_places}
+use Rattle.feed_lane.specs.Lanes.{ReportLists, IsGiven, reason_in, reasons_of, LaneFits}
+use Rattle.feed_lane.specs.Laws.{GivenOnce, GotPlace, PlacesAreGiven, ChannelsAreKnown}
 
 -- each place of some records is there
-placed_there : (first : ℕ) (rs : List Rec) (place : ℕ) → first ≤ place → place < first + length rs → (k : ℕ) × (pair : ℕ × Rec) × At (placed_from first rs) k pair × (pair.0 ≡ place)
+placed_there : (first : ℕ) (rs : List Rec) (place : ℕ) → first ≤ place → place < first + length rs → (k : ℕ) × (pair : ℕ × Rec) × At (with_places first rs) k pair × (pair.0 ≡ place)
 placed_there first [] place from to = absurd (omega (arith, from, to))
 placed_there first (r ∷ rs) place from to = elim (cases_lt first place) [
   | inl later ↦ let more = placed_there (first + 1) rs place (omega (arith, later)) (omega (arith, to)) in (suc more.0, more.1, more.2, more.3)
   | inr here ↦ (0, (first, r), refl, omega (arith, from, here))
 ]
 
-given_own : (records : List Top) (handled : ℕ) (lists : Lists) (pass : PassState) → LaneFits records handled lists pass → (place : ℕ) → IsGiven lists place → IsOwn pass place
+given_own : (records : List Top) (handled : ℕ) (lists : ReportLists) (pass : PassState) → LaneFits records handled lists pass → (place : ℕ) → IsGiven lists place → GotPlace pass place
 given_own records handled lists pass fits place (inl (a, has, same)) = let own = (fits.accepts has.0 a has.1).own in (_, own, same)
 given_own records handled lists pass fits place (inr (d, has, from, to)) =
     let declares = fits.declares has.0 d has.1 in
     let there = placed_there d.first declares.added place from (omega (arith, to, declares.many)) in
     (there.1, declares.own there.0 there.1 there.2, there.3)
 
-once : (records : List Top) (handled : ℕ) (lists : Lists) (pass : PassState) → LaneFits records handled lists pass → GivenOnce lists
+once : (records : List Top) (handled : ℕ) (lists : ReportLists) (pass : PassState) → LaneFits records handled lists pass → GivenOnce lists
 once records handled lists pass fits = record {
   accepted = λ j k a b at_j at_k same. elim (cases_lt j k) [
     | inl lt ↦ absurd (let rise = (pairs_at (λ (a b : Accepted). (a.index < b.index) × (a.place < b.place)) lists.accepted fits.accepted_rise j k a b lt at_j at_k).1 in omega (arith, rise, same))

@@ -21,10 +21,10 @@ use Rattle.feed_lane.specs.declared.report.Cause.TheVariants as causes
 use Rattle.feed_lane.specs.declared.ids.KeptSchema.{KeptSchema}
 use Rattle.feed_lane.specs.declared.lane.Lane.{Lane}
 use Rattle.feed_lane.specs.Pass.{PassState}
-use Rattle.feed_lane.specs.Lanes.{Lists, messages, IsOn, SchemaShown, Describes, Declares, Accepts, IsLong, IsChannelOf, IsWide, LacksId, CauseFits, IsUndeclared, IsTried, lacks_of, IsNamed, IsLacking, InStep, ListsFit}
+use Rattle.feed_lane.specs.Lanes.{ReportLists, messages, IsOn, SchemaShown, DeclaresContent, DeclarationAdds, Accepts, HasTooMuchData, IsChannelOf, IsWide, LacksId, CauseFits, IsUndeclared, IsTried, lacks_of, ShowsDeclaration, IsLacking, InStep, ListsFit}
 use Rattle.feed_lane.specs.Kept.{LaneIds, KeptStands, with_kept}
 use Rattle.feed_lane.specs.Sizes.{IsLength}
-use Rattle.feed_lane.specs.Steps.{lists_of, HasId, IdsStand, ListsStand, LaneStands, ChannelFound}
+use Rattle.feed_lane.specs.Steps.{lists_of, DeclaredWithId, IdsStand, ListsStand, LaneStands, ChannelFound}
 use Rattle.feed_lane.proofs.Members.{in_step_on}
 
 -- ---- what the records show
@@ -85,7 +85,7 @@ schema_more records more id (Some s) some = record {
   is = some.is;
 }
 
-describes_more : (records more : List Top) (channel : ℕ) (d : ChannelDef) → Describes records channel d → Describes (records ++ more) channel d
+describes_more : (records more : List Top) (channel : ℕ) (d : ChannelDef) → DeclaresContent records channel d → DeclaresContent (records ++ more) channel d
 describes_more records more channel d was = record {
   shown = was.shown;
   known = shows_more records more channel was.shown was.known;
@@ -102,7 +102,7 @@ length_more records more channel len was = record {
   size = was.size;
 }
 
-declares_more : (records more : List Top) (pass : PassState) (d : DeclaredAt) → Declares records pass d → Declares (records ++ more) pass d
+declares_more : (records more : List Top) (pass : PassState) (d : DeclaredAt) → DeclarationAdds records pass d → DeclarationAdds (records ++ more) pass d
 declares_more records more pass d was = record {
   source = was.source;
   on = on_more records more d.index was.source was.on;
@@ -140,7 +140,7 @@ channel_more records more index content was = record {
 wide_more : (records more : List Top) (index len : ℕ) → IsWide records index len → IsWide (records ++ more) index len
 wide_more records more index len wide = (wide.0, channel_more records more index wide.0 wide.1, wide.2, wide.3)
 
-tried_more : (records more : List Top) (declared : List DeclaredAt) (pass : PassState) (r : Refused) → r.index < length (messages records) → Each (Declares records pass) declared → IsTried records declared r → IsTried (records ++ more) declared r
+tried_more : (records more : List Top) (declared : List DeclaredAt) (pass : PassState) (r : Refused) → r.index < length (messages records) → Each (DeclarationAdds records pass) declared → IsTried records declared r → IsTried (records ++ more) declared r
 tried_more records more declared pass r below declares was = record {
   large = λ len is. elim (was.large len is) [
     | inl wide ↦ inl (wide_more records more r.index len wide)
@@ -166,7 +166,7 @@ undeclared_yet records handled source declared ids stand none on other d on_othe
 lacks_more : (records more : List Top) (pass : PassState) (index : ℕ) (refusal : DeclareRefused) → LacksId records pass index refusal → LacksId (records ++ more) pass index refusal
 lacks_more records more pass index refusal was = (was.0, channel_more records more index was.0 was.1, was.2)
 
-long_more : (records more : List Top) (index len : ℕ) → IsLong records index len → IsLong (records ++ more) index len
+long_more : (records more : List Top) (index len : ℕ) → HasTooMuchData records index len → HasTooMuchData (records ++ more) index len
 long_more records more index len was = record {
   source = was.source;
   message = was.message;
@@ -177,7 +177,7 @@ long_more records more index len was = record {
   over = was.over;
 }
 
-large_more : (records more : List Top) (index len : ℕ) → IsLong records index len ⊎ IsWide records index len → IsLong (records ++ more) index len ⊎ IsWide (records ++ more) index len
+large_more : (records more : List Top) (index len : ℕ) → HasTooMuchData records index len ⊎ IsWide records index len → HasTooMuchData (records ++ more) index len ⊎ IsWide (records ++ more) index len
 large_more records more index len (inl long) = inl (long_more records more index len long)
 large_more records more index len (inr wide) = inr (wide_more records more index len wide)
 
@@ -191,21 +191,21 @@ cause_more records more handled pass index causes.TooManyChannels was = lacks_mo
 cause_more records more handled pass index (causes.TooManyRecords count) was = was
 cause_more records more handled pass index causes.Memory was = was
 
-named_more : (records more : List Top) (lists : Lists) (pass : PassState) → InStep (IsNamed records) lists.declared pass.named → InStep (IsNamed (records ++ more)) lists.declared pass.named
+named_more : (records more : List Top) (lists : ReportLists) (pass : PassState) → InStep (ShowsDeclaration records) lists.declared pass.named → InStep (ShowsDeclaration (records ++ more)) lists.declared pass.named
 named_more records more lists pass was =
-    in_step_on (IsNamed records) (IsNamed (records ++ more)) lists.declared pass.named (λ d pair is. (is.0, channel_more records more d.index pair.1 is.1)) was
+    in_step_on (ShowsDeclaration records) (ShowsDeclaration (records ++ more)) lists.declared pass.named (λ d pair is. (is.0, channel_more records more d.index pair.1 is.1)) was
 
-lacking_more : (records more : List Top) (lists : Lists) (pass : PassState) → InStep (IsLacking records) (lacks_of lists.refused) pass.lacks → InStep (IsLacking (records ++ more)) (lacks_of lists.refused) pass.lacks
+lacking_more : (records more : List Top) (lists : ReportLists) (pass : PassState) → InStep (IsLacking records) (lacks_of lists.refused) pass.lacks → InStep (IsLacking (records ++ more)) (lacks_of lists.refused) pass.lacks
 lacking_more records more lists pass was =
     in_step_on (IsLacking records) (IsLacking (records ++ more)) (lacks_of lists.refused) pass.lacks (λ lack pair is. (is.0, channel_more records more lack.0 pair.0 is.1)) was
 
 -- ---- the lists
 
 -- a declaration's message stands among the records
-declared_less : (records more : List Top) (pass : PassState) (d : DeclaredAt) (channel : ℕ) → Declares records pass d → IsOn (records ++ more) d.index channel → IsOn records d.index channel
+declared_less : (records more : List Top) (pass : PassState) (d : DeclaredAt) (channel : ℕ) → DeclarationAdds records pass d → IsOn (records ++ more) d.index channel → IsOn records d.index channel
 declared_less records more pass d channel was on = on_less records more d.index channel on (on_within records d.index was.source was.on)
 
-pub fits_more : (records more : List Top) (handled bound : ℕ) (lists : Lists) (pass : PassState) → ListsFit records handled bound lists pass → ListsFit (records ++ more) handled bound lists pass
+pub fits_more : (records more : List Top) (handled bound : ℕ) (lists : ReportLists) (pass : PassState) → ListsFit records handled bound lists pass → ListsFit (records ++ more) handled bound lists pass
 fits_more records more handled bound lists pass was = record {
   accepts = λ k a at. accepts_more records more lists.declared pass a (was.accepts k a at);
   declares = λ k d at. declares_more records more pass d (was.declares k d at);
@@ -235,7 +235,7 @@ fits_more records more handled bound lists pass was = record {
   apart = was.apart;
 }
 
-has_id_more : (records more : List Top) (declared : List DeclaredAt) (source id : ℕ) → HasId records declared source id → HasId (records ++ more) declared source id
+has_id_more : (records more : List Top) (declared : List DeclaredAt) (source id : ℕ) → DeclaredWithId records declared source id → DeclaredWithId (records ++ more) declared source id
 has_id_more records more declared source id has = record {
   by = has.by;
   listed = has.listed;
@@ -243,7 +243,7 @@ has_id_more records more declared source id has = record {
   is = has.is;
 }
 
-pub stands_more : (records more : List Top) (handled bound : ℕ) (ids : LaneIds) (lists : Lists) (pass : PassState) → ListsStand records handled bound ids lists pass → ListsStand (records ++ more) handled bound ids lists pass
+pub stands_more : (records more : List Top) (handled bound : ℕ) (ids : LaneIds) (lists : ReportLists) (pass : PassState) → ListsStand records handled bound ids lists pass → ListsStand (records ++ more) handled bound ids lists pass
 stands_more records more handled bound ids lists pass was = record {
   fits = fits_more records more handled bound lists pass was.fits;
   ids_stand = record {
@@ -264,7 +264,7 @@ stands_more records more handled bound ids lists pass was = record {
 -- ---- between the steps
 
 -- a declaration may have been made for the message at hand
-pub may_declare : (records : List Top) (handled : ℕ) (ids : LaneIds) (lists : Lists) (pass : PassState) → ListsStand records handled handled ids lists pass → ListsStand records handled (handled + 1) ids lists pass
+pub may_declare : (records : List Top) (handled : ℕ) (ids : LaneIds) (lists : ReportLists) (pass : PassState) → ListsStand records handled handled ids lists pass → ListsStand records handled (handled + 1) ids lists pass
 may_declare records handled ids lists pass stands =
     let was = stands.fits in
     record {
@@ -317,7 +317,7 @@ standing lane now records handled pass is stood stands = subst (λ (it : Lane). 
 })
 
 -- the same with another schema of the feed
-pub keeping : (records : List Top) (handled bound : ℕ) (ids : LaneIds) (lists : Lists) (pass : PassState) (kept : KeptSchema) → KeptStands records kept → ListsStand records handled bound ids lists pass
+pub keeping : (records : List Top) (handled bound : ℕ) (ids : LaneIds) (lists : ReportLists) (pass : PassState) (kept : KeptSchema) → KeptStands records kept → ListsStand records handled bound ids lists pass
     → ListsStand records handled bound (with_kept ids kept) lists pass
 keeping records handled bound ids lists pass kept stood stands = record {
   fits = stands.fits;

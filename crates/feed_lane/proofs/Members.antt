@@ -15,9 +15,9 @@ use Rattle.feed_lane.specs.declared.report.Accepted.{Accepted}
 use Rattle.feed_lane.specs.declared.report.DeclaredAt.{DeclaredAt}
 use Rattle.feed_lane.specs.declared.report.Cause.{Cause}
 use Rattle.feed_lane.specs.declared.report.Cause.TheVariants as causes
-use Rattle.feed_lane.specs.Pass.{FullAt, PassState, placed_from, Finds, FoundAtLeast}
-use Rattle.feed_lane.specs.Lanes.{Declares, Accepts, LacksId, CauseFits, full_in, InStep}
-use Rattle.feed_lane.specs.Steps.{Above, Extends, IsOpen, goes_on, HasId}
+use Rattle.feed_lane.specs.Pass.{FullAt, PassState, with_places, Finds, FoundAtLeast}
+use Rattle.feed_lane.specs.Lanes.{DeclarationAdds, Accepts, LacksId, CauseFits, full_in, InStep}
+use Rattle.feed_lane.specs.Steps.{Above, Extends, IsOpen, goes_on, DeclaredWithId}
 
 pub false_true : false ≡ true → ⊥
 false_true e = cc
@@ -86,7 +86,7 @@ in_step_one R x y holds = (refl, λ n a b at_a at_b. by n a b at_a at_b)
 
 -- ---- members
 
-pub declares_on : (records : List Top) (before after : PassState) (d : DeclaredAt) → Extends before after → Declares records before d → Declares records after d
+pub declares_on : (records : List Top) (before after : PassState) (d : DeclaredAt) → Extends before after → DeclarationAdds records before d → DeclarationAdds records after d
 declares_on records before after d extends was = record {
   source = was.source;
   on = was.on;
@@ -130,7 +130,7 @@ accepts_listed records declared more pass a was = record {
   own = was.own;
 }
 
-pub has_id_listed : (records : List Top) (declared more : List DeclaredAt) (source id : ℕ) → HasId records declared source id → HasId records (declared ++ more) source id
+pub has_id_listed : (records : List Top) (declared more : List DeclaredAt) (source id : ℕ) → DeclaredWithId records declared source id → DeclaredWithId records (declared ++ more) source id
 has_id_listed records declared more source id was = record {
   by = was.by;
   listed = has_kept declared more was.by was.listed;
@@ -170,7 +170,7 @@ full_shown records handled pass index causes.Memory n full was at = absurd (at_n
 -- ---- places
 
 -- records whose places are all below one
-placed_below : (first : ℕ) (rs : List Rec) (n : ℕ) → first ≤ n → Each (λ pair. pair.0 < n) (placed_from first rs) → first + length rs ≤ n
+placed_below : (first : ℕ) (rs : List Rec) (n : ℕ) → first ≤ n → Each (λ pair. pair.0 < n) (with_places first rs) → first + length rs ≤ n
 placed_below first [] n le each = omega (arith, le)
 placed_below first (r ∷ rs) n le each =
     let here = each 0 (first, r) refl in
@@ -178,7 +178,7 @@ placed_below first (r ∷ rs) n le each =
     omega (arith, more)
 
 -- where each of them stands
-pub placed_at : (first : ℕ) (rs : List Rec) (k : ℕ) (pair : ℕ × Rec) → At (placed_from first rs) k pair → (pair.0 ≡ first + k) × (k < length rs)
+pub placed_at : (first : ℕ) (rs : List Rec) (k : ℕ) (pair : ℕ × Rec) → At (with_places first rs) k pair → (pair.0 ≡ first + k) × (k < length rs)
 placed_at first [] k pair at = absurd (at_none k pair at)
 placed_at first (r ∷ rs) zero pair at = (omega (arith, ap (λ (p : ℕ × Rec). p.0) (some_same at)), omega arith)
   where
@@ -186,7 +186,7 @@ placed_at first (r ∷ rs) zero pair at = (omega (arith, ap (λ (p : ℕ × Rec)
     some_same e = cc
 placed_at first (r ∷ rs) (suc k) pair at = let t = placed_at (first + 1) rs k pair at in (omega (arith, t.0), omega (arith, t.1))
 
-pub declared_above : (records : List Top) (pass : PassState) (d : DeclaredAt) (n : ℕ) → Declares records pass d → FoundAtLeast pass d.first → Above pass n → d.first + d.count ≤ n
+pub declared_above : (records : List Top) (pass : PassState) (d : DeclaredAt) (n : ℕ) → DeclarationAdds records pass d → FoundAtLeast pass d.first → Above pass n → d.first + d.count ≤ n
 declared_above records pass d n was seen above =
     let below = placed_below d.first was.added n (above.seen d.first seen) (λ k pair at. let own = was.own k pair at in above.own own.0 pair own.1) in
     omega (arith, below, was.many)

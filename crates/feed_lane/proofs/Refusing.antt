@@ -13,16 +13,16 @@ use Rattle.record_core.specs.declared.answers.DeclareRefused.{DeclareRefused}
 use Rattle.feed_lane.specs.declared.report.Refused.{Refused}
 use Rattle.feed_lane.specs.declared.report.Cause.{Cause}
 use Rattle.feed_lane.specs.Pass.{FullAt, Reason, PassState}
-use Rattle.feed_lane.specs.Lanes.{Lists, messages, CauseFits, IsTried, full_in, fulls_of, lack_in, lacks_of, reason_in, reasons_of, IsNamed, IsLacking, InStep, InTurnWith, ListsFit}
+use Rattle.feed_lane.specs.Lanes.{ReportLists, messages, CauseFits, IsTried, full_in, fulls_of, lack_in, lacks_of, reason_in, reasons_of, ShowsDeclaration, IsLacking, InStep, InTurnWith, ListsFit}
 use Rattle.feed_lane.specs.Kept.{LaneIds}
-use Rattle.feed_lane.specs.Steps.{goes_on, IsRefusal, ListsStand, LastEnds, ListsTell}
+use Rattle.feed_lane.specs.Steps.{goes_on, RefusalLeaves, ListsStand, LastEnds, ListsTell}
 use Rattle.feed_lane.proofs.Members.{in_step_joined, declares_on, accepts_on, cause_on, declared_above, accepted_above}
 
 abbrev pub refused_at : ℕ → Cause → Refused
 refused_at index cause = record { index = index; cause = cause }
 
 -- the lists with one more refusal
-abbrev pub with_refused : Lists → Refused → Lists
+abbrev pub with_refused : ReportLists → Refused → ReportLists
 with_refused lists r = record { accepted = lists.accepted; declared = lists.declared; refused = lists.refused ++ r ∷ [] }
 
 at_in : {X : Type 0} (xs ys : List X) (n : ℕ) (x : X) → At (xs ++ ys) n x → At xs n x ⊎ Has ys x
@@ -31,7 +31,7 @@ at_in xs ys n x at = elim (at_either xs ys n x at) [
   | inr later ↦ inr (later.0, later.2)
 ]
 
-pub refused_fits : (records : List Top) (handled : ℕ) (ids : LaneIds) (lists : Lists) (before after : PassState) (cause : Cause) → ListsStand records handled (handled + 1) ids lists before → IsRefusal records handled before after cause → handled < length (messages records) → ListsFit records (handled + 1) (handled + 1) (with_refused lists (refused_at handled cause)) after
+pub refused_fits : (records : List Top) (handled : ℕ) (ids : LaneIds) (lists : ReportLists) (before after : PassState) (cause : Cause) → ListsStand records handled (handled + 1) ids lists before → RefusalLeaves records handled before after cause → handled < length (messages records) → ListsFit records (handled + 1) (handled + 1) (with_refused lists (refused_at handled cause)) after
 refused_fits records handled ids lists before after cause stands is some =
     let was = stands.fits in
     let new = refused_at handled cause in
@@ -49,7 +49,7 @@ refused_fits records handled ids lists before after cause stands is some =
       declared_rise = was.declared_rise;
       refused_rise = pairs_more (λ (r s : Refused). r.index < s.index) lists.refused new was.refused_rise (λ k s at. was.refused_below k s at);
       in_turn = was.in_turn;
-      named = subst (InStep (IsNamed records) lists.declared) (sym is.named) was.named;
+      named = subst (InStep (ShowsDeclaration records) lists.declared) (sym is.named) was.named;
       lacks = subst (λ (l : List (ℕ × DeclareRefused)). InStep (IsLacking records) l after.lacks)
           (sym (flat_map-append (λ (r : Refused). lack_in r.index r.cause) lists.refused (new ∷ []) ∙ ap (λ (l : List (ℕ × DeclareRefused)). lacks_of lists.refused ++ l) (append-nil (lack_in handled cause))))
           (subst (InStep (IsLacking records) (lacks_of lists.refused ++ lack_in handled cause)) (sym is.lacks)
@@ -95,21 +95,21 @@ refused_fits records handled ids lists before after cause stands is some =
       ];
     }
 
-tried_more : (records : List Top) (lists : Lists) (new : Refused) → Each (IsTried records lists.declared) lists.refused → IsTried records lists.declared new → Each (IsTried records lists.declared) (lists.refused ++ new ∷ [])
+tried_more : (records : List Top) (lists : ReportLists) (new : Refused) → Each (IsTried records lists.declared) lists.refused → IsTried records lists.declared new → Each (IsTried records lists.declared) (lists.refused ++ new ∷ [])
 tried_more records lists new was now = λ k r at. elim (at_more lists.refused new k r at) [
   | inl old ↦ was k r old
   | inr last ↦ subst (IsTried records lists.declared) (sym last.1) now
 ]
 
 -- what the lists tell with one more refusal
-pub refused_tells : (records : List Top) (handled : ℕ) (ids : LaneIds) (lists : Lists) (before after : PassState) (cause : Cause) → ListsStand records handled (handled + 1) ids lists before → IsRefusal records handled before after cause → IsTried records lists.declared (refused_at handled cause) → ListsTell records (with_refused lists (refused_at handled cause)) after
+pub refused_tells : (records : List Top) (handled : ℕ) (ids : LaneIds) (lists : ReportLists) (before after : PassState) (cause : Cause) → ListsStand records handled (handled + 1) ids lists before → RefusalLeaves records handled before after cause → IsTried records lists.declared (refused_at handled cause) → ListsTell records (with_refused lists (refused_at handled cause)) after
 refused_tells records handled ids lists before after cause stands is tried = record {
   firsts = λ k d at. is.extends.seen d.first (stands.firsts k d at);
   tried = tried_more records lists (refused_at handled cause) stands.tried tried;
 }
 
 -- the lane goes on
-pub refused_stands : (records : List Top) (handled : ℕ) (ids : LaneIds) (lists : Lists) (before after : PassState) (cause : Cause) → ListsStand records handled (handled + 1) ids lists before → IsRefusal records handled before after cause → handled < length (messages records) → IsTried records lists.declared (refused_at handled cause) → goes_on cause ≡ true → ListsStand records (handled + 1) (handled + 1) ids (with_refused lists (refused_at handled cause)) after
+pub refused_stands : (records : List Top) (handled : ℕ) (ids : LaneIds) (lists : ReportLists) (before after : PassState) (cause : Cause) → ListsStand records handled (handled + 1) ids lists before → RefusalLeaves records handled before after cause → handled < length (messages records) → IsTried records lists.declared (refused_at handled cause) → goes_on cause ≡ true → ListsStand records (handled + 1) (handled + 1) ids (with_refused lists (refused_at handled cause)) after
 refused_stands records handled ids lists before after cause stands is some tried on =
     let new = refused_at handled cause in
     record {
@@ -129,5 +129,5 @@ refused_stands records handled ids lists before after cause stands is some tried
     }
 
 -- the lane is over
-pub refused_last : (handled : ℕ) (lists : Lists) (cause : Cause) → goes_on cause ≡ false → LastEnds (handled + 1) (lists.refused ++ refused_at handled cause ∷ [])
+pub refused_last : (handled : ℕ) (lists : ReportLists) (cause : Cause) → goes_on cause ≡ false → LastEnds (handled + 1) (lists.refused ++ refused_at handled cause ∷ [])
 refused_last handled lists cause off = (refused_at handled cause, (length lists.refused, at_last lists.refused (refused_at handled cause) []), refl, off)

@@ -7,7 +7,7 @@ use Rattle.std.proofs.lemmas.List.Elements.{filter-append}
 use Rattle.std.proofs.lemmas.List.Sums.{sum_by-cons}
 use Rattle.std.proofs.lemmas.Grind.{flat_map-append}
 use Rattle.mcap_model.specs.Places.{At, Each}
-use Rattle.mcap_model.specs.Tops.{Top, top_bytes, spelled, offset_behind, chunk_records, records_in, is_chunk, inner_tops, opened, is_flat_kind, flattened, flat, Placed, placed_inside, walked_one, walked_from, walked}
+use Rattle.mcap_model.specs.Tops.{Top, top_bytes, spelled, offset_behind, chunk_records, records_in, is_chunk, inner_tops, unchunked, is_flat_kind, flattened, flat, Placed, placed_inside, walked_one, walked_from, walked}
 use Rattle.mcap_model.specs.Made.{top}
 use Rattle.mcap_model.specs.Rules.{is_unknown, stands_in_chunk}
 use Rattle.mcap_model.specs.Kept.{reading_limits, Fits, Good}
@@ -20,19 +20,19 @@ use Rattle.mcap_model.proofs.FewRecords.{records_short, chunk_short}
 use Rattle.mcap_model.proofs.Flat.{named_or, inside_tops, map-append}
 use Rattle.mcap_model.proofs.Unpacking.{chunks_are_opened}
 use Rattle.feed_lane.specs.Lanes.{messages}
-use Rattle.feed_lane.specs.Steps.{AtHand, Waits, passed_among}
+use Rattle.feed_lane.specs.Steps.{AtHand, MessagesWait, passed_among}
 use Rattle.feed_lane.proofs.Growing.{messages_more}
 
 -- ---- which messages wait
 
 -- the first of them is at hand
-pub waits_at : (records : List Top) (handled : ℕ) (content : List ℕ) (more : List Top) → Waits records handled (top 5 content ∷ more) → AtHand records handled content
+pub waits_at : (records : List Top) (handled : ℕ) (content : List ℕ) (more : List Top) → MessagesWait records handled (top 5 content ∷ more) → AtHand records handled content
 waits_at records handled content more waits =
     subst (λ (n : ℕ). At (messages records) n (top 5 content)) waits.many
     (subst (λ (l : List Top). At l (length waits.done) (top 5 content)) (sym waits.split) (at_last waits.done (top 5 content) (messages more)))
 
 -- it is handled
-pub waits_behind : (records : List Top) (handled : ℕ) (content : List ℕ) (more : List Top) → Waits records handled (top 5 content ∷ more) → Waits records (handled + 1) more
+pub waits_behind : (records : List Top) (handled : ℕ) (content : List ℕ) (more : List Top) → MessagesWait records handled (top 5 content ∷ more) → MessagesWait records (handled + 1) more
 waits_behind records handled content more waits = record {
   done = waits.done ++ top 5 content ∷ [];
   split = waits.split ∙ sym (append_assoc waits.done (top 5 content ∷ []) (messages more));
@@ -40,7 +40,7 @@ waits_behind records handled content more waits = record {
 }
 
 -- another record is none of them
-pub waits_other : (records : List Top) (handled : ℕ) (t : Top) (more : List Top) → (t.op ≡ 5 → ⊥) → Waits records handled (t ∷ more) → Waits records handled more
+pub waits_other : (records : List Top) (handled : ℕ) (t : Top) (more : List Top) → (t.op ≡ 5 → ⊥) → MessagesWait records handled (t ∷ more) → MessagesWait records handled more
 waits_other records handled t more other waits = record {
   done = waits.done;
   split = waits.split ∙ ap (λ (b : Bool). waits.done ++ cond b (t ∷ messages more) (messages more)) (ne_eqb t.op 5 other);
@@ -48,7 +48,7 @@ waits_other records handled t more other waits = record {
 }
 
 -- all were handled
-pub waits_none : (records : List Top) (handled : ℕ) → Waits records handled [] → handled ≡ length (messages records)
+pub waits_none : (records : List Top) (handled : ℕ) → MessagesWait records handled [] → handled ≡ length (messages records)
 waits_none records handled waits =
     sym waits.many ∙ sym (ap length (waits.split ∙ append-nil waits.done))
 
@@ -93,7 +93,7 @@ walked_more at t ts =
     map-append (λ (p : Placed). p.top) (walked_one at t) (walked_from (at + length (top_bytes t)) ts)
     ∙ ap (λ (l : List Top). l ++ tops_of (walked_from (at + length (top_bytes t)) ts)) (one_walked at t)
 
-all_messages : (t : Top) → messages (all_in t) ≡ messages (opened t)
+all_messages : (t : Top) → messages (all_in t) ≡ messages (unchunked t)
 all_messages t = by (is_chunk t) refl
   where
     by : (b : Bool) → is_chunk t ≡ b → messages (t ∷ cond b (inner_tops t) []) ≡ messages (cond b (inner_tops t) (t ∷ []))
@@ -106,7 +106,7 @@ walked_from_messages at (t ∷ ts) =
     let next = at + length (top_bytes t) in
     ap messages (walked_more at t ts)
     ∙ messages_more (all_in t) (tops_of (walked_from next ts))
-    ∙ ap (λ (l : List Top). l ++ messages (tops_of (walked_from next ts))) (all_messages t ∙ sym (messages_flat (opened t)))
+    ∙ ap (λ (l : List Top). l ++ messages (tops_of (walked_from next ts))) (all_messages t ∙ sym (messages_flat (unchunked t)))
     ∙ ap (λ (l : List Top). messages (flattened t) ++ l) (walked_from_messages next ts)
     ∙ sym (messages_more (flattened t) (flat ts))
 
@@ -115,7 +115,7 @@ pub walked_messages : (tops : List Top) → messages (tops_of (walked tops)) ≡
 walked_messages tops = walked_from_messages 8 tops
 
 -- behind the messages of the records that were given, that one waits, and those that are due
-pub waits_next : (tops : List Top) (given : List Placed) (p : Placed) (ahead : List Placed) → walked tops ≡ (given ++ p ∷ []) ++ ahead → Waits (flat tops) (length (messages (tops_of given))) (p.top ∷ tops_of ahead)
+pub waits_next : (tops : List Top) (given : List Placed) (p : Placed) (ahead : List Placed) → walked tops ≡ (given ++ p ∷ []) ++ ahead → MessagesWait (flat tops) (length (messages (tops_of given))) (p.top ∷ tops_of ahead)
 waits_next tops given p ahead all = record {
   done = messages (tops_of given);
   split =
@@ -127,7 +127,7 @@ waits_next tops given p ahead all = record {
 }
 
 -- where those that are due wait, all messages that were given are handled
-pub waits_due : (tops : List Top) (given ahead : List Placed) (handled : ℕ) → walked tops ≡ given ++ ahead → Waits (flat tops) handled (tops_of ahead) → handled ≡ length (messages (tops_of given))
+pub waits_due : (tops : List Top) (given ahead : List Placed) (handled : ℕ) → walked tops ≡ given ++ ahead → MessagesWait (flat tops) handled (tops_of ahead) → handled ≡ length (messages (tops_of given))
 waits_due tops given ahead handled all waits =
     let whole : messages (flat tops) ≡ messages (tops_of given) ++ messages (tops_of ahead) =
     sym (walked_messages tops)

@@ -7,7 +7,7 @@ use Rattle.mcap_model.specs.Tops.{Top, flat}
 use Rattle.mcap_model.specs.declared.refusals.ReadingRefused.TheVariants as refusals
 use Rattle.mcap_model.specs.Kept.{reading_limits, Good, at_end}
 use Rattle.mcap_model.specs.Written.{passed}
-use Rattle.mcap_scan.specs.Sources.{ReadTo}
+use Rattle.mcap_scan.specs.Sources.{ReadFromFront}
 use Rattle.mcap_scan.specs.Scanning.{HaltsSo, RefusalStands}
 use Rattle.record_core.specs.declared.answers.Found.{Found}
 use Rattle.feed_lane.specs.declared.report.Refused.{Refused}
@@ -15,7 +15,7 @@ use Rattle.feed_lane.specs.declared.report.FeedReport.{FeedReport}
 use Rattle.feed_lane.specs.declared.report.FeedEnd.{FeedEnd}
 use Rattle.feed_lane.specs.declared.report.FeedEnd.TheVariants as feed_ends
 use Rattle.feed_lane.specs.Pass.{PassState, FoundAtLeast}
-use Rattle.feed_lane.specs.Lanes.{Lists, messages, IsTried, LaneFits}
+use Rattle.feed_lane.specs.Lanes.{ReportLists, messages, IsTried, LaneFits}
 use Rattle.feed_lane.specs.Steps.{goes_on}
 
 -- ---- ends
@@ -24,7 +24,7 @@ use Rattle.feed_lane.specs.Steps.{goes_on}
 pub record ReadSoFar (before now : SourceState) (tops : List Top) : Type 0 where
   pub still : now.faults ≡ before.faults
   pub good : Good reading_limits tops
-  pub read : ReadTo before now tops
+  pub read : ReadFromFront before now tops
 
 -- The source as it was before and is now, and the records that were read: where the reading halted, that the source failed or
 -- memory lacked, or that the records so far were read.
@@ -34,8 +34,8 @@ FeedEnds before now tops (feed_ends.Refused why) = RefusalStands why before now 
 FeedEnds before now tops feed_ends.Ended = ReadSoFar before now tops
 
 -- All messages of the records were handled, and so many were passed over.
-abbrev pub AllTaken : List Top → ℕ → ℕ → Type 0
-AllTaken tops handled count = (handled ≡ length (messages (flat tops))) × (count ≡ passed tops)
+abbrev pub AllHandled : List Top → ℕ → ℕ → Type 0
+AllHandled tops handled count = (handled ≡ length (messages (flat tops))) × (count ≡ passed tops)
 
 -- The message of that index is one of the last of the records, and so many records were passed over: those before the last,
 -- and some of its own.
@@ -54,12 +54,12 @@ EndsInLast tops handled count refused = (r : Refused) × Has refused r × (r.ind
 
 -- All were taken, unless memory lacked for the next message, which is one of the last record, or the intake had ended.
 abbrev pub TakesMessages : List Top → ℕ → ℕ → List Refused → FeedEnd → Type 0
-TakesMessages tops handled count refused feed_ends.Done = AllTaken tops handled count
-TakesMessages tops handled count refused (feed_ends.Refused why) = AllTaken tops handled count ⊎ ((why ≡ refusals.Memory) × IsInLast tops handled count)
+TakesMessages tops handled count refused feed_ends.Done = AllHandled tops handled count
+TakesMessages tops handled count refused (feed_ends.Refused why) = AllHandled tops handled count ⊎ ((why ≡ refusals.Memory) × IsInLast tops handled count)
 TakesMessages tops handled count refused feed_ends.Ended = EndsInLast tops handled count refused
 
 -- the lists of a report
-abbrev pub reported : FeedReport → Lists
+abbrev pub reported : FeedReport → ReportLists
 reported report = record { accepted = report.accepted.items; declared = report.declared.items; refused = report.refused.items }
 
 -- the report lists messages, or only counts them

@@ -19,8 +19,8 @@ abbrev pub no_schema : KeptSchema
 no_schema = record { id = 0; schema = None; known = false }
 
 -- with that id for a channel
-abbrev pub with_id : LaneIds → ℕ → ℕ → LaneIds
-with_id ids source id = record ids { given = set ids.given source id }
+abbrev pub with_channel_id : LaneIds → ℕ → ℕ → LaneIds
+with_channel_id ids source id = record ids { given = set ids.given source id }
 
 -- with that schema
 abbrev pub with_kept : LaneIds → KeptSchema → LaneIds

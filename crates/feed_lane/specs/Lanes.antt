@@ -22,10 +22,10 @@ use Rattle.feed_lane.specs.declared.report.DeclaredAt.{DeclaredAt}
 use Rattle.feed_lane.specs.declared.report.Refused.{Refused}
 use Rattle.feed_lane.specs.declared.report.Cause.{Cause}
 use Rattle.feed_lane.specs.declared.report.Cause.TheVariants as causes
-use Rattle.feed_lane.specs.Pass.{FullAt, Reason, for_size, for_close, for_stop, for_count, for_room, for_id, PassState, FoundAtLeast, placed_from, AreAdded}
+use Rattle.feed_lane.specs.Pass.{FullAt, Reason, for_size, for_close, for_stop, for_count, for_room, for_id, PassState, FoundAtLeast, with_places, AreAdded}
 
 -- the lists of a report
-pub record Lists : Type 0 where
+pub record ReportLists : Type 0 where
   pub accepted : List Accepted
   pub declared : List DeclaredAt
   pub refused : List Refused
@@ -60,7 +60,7 @@ SchemaShown records id None = id ≡ 0
 SchemaShown records id (Some s) = ShowsDef records id s
 
 -- the declaration has the content of the feed's channel of that id
-pub record Describes (records : List Top) (channel : ℕ) (d : ChannelDef) : Type 0 where
+pub record DeclaresContent (records : List Top) (channel : ℕ) (d : ChannelDef) : Type 0 where
   pub shown : ChannelFields
   pub known : SourceShows records channel shown
   pub topic : d.topic ≡ shown.topic
@@ -69,16 +69,16 @@ pub record Describes (records : List Top) (channel : ℕ) (d : ChannelDef) : Typ
   pub schema : SchemaShown records shown.schema d.schema
 
 -- a declaration for a message's channel: it got this id, and added these records
-pub record Declares (records : List Top) (pass : PassState) (d : DeclaredAt) : Type 0 where
+pub record DeclarationAdds (records : List Top) (pass : PassState) (d : DeclaredAt) : Type 0 where
   pub source : ℕ
   pub on : IsOn records d.index source
   pub content : ChannelDef
-  pub describes : Describes records source content
+  pub describes : DeclaresContent records source content
   pub named : Has pass.named (d.channel, content)
   pub added : List Rec
   pub are : AreAdded content d.channel added
   pub many : d.count ≡ length added
-  pub own : Each (Has pass.own) (placed_from d.first added)
+  pub own : Each (Has pass.own) (with_places d.first added)
 
 -- ---- recorded messages
 
@@ -99,7 +99,7 @@ pub record Accepts (records : List Top) (declared : List DeclaredAt) (pass : Pas
 -- ---- refused messages
 
 -- that message has more data than a message may have
-pub record IsLong (records : List Top) (index len : ℕ) : Type 0 where
+pub record HasTooMuchData (records : List Top) (index len : ℕ) : Type 0 where
   pub source : ℕ
   pub message : MessageFields
   pub top : Top
@@ -112,7 +112,7 @@ pub record IsLong (records : List Top) (index len : ℕ) : Type 0 where
 pub record IsChannelOf (records : List Top) (index : ℕ) (content : ChannelDef) : Type 0 where
   pub source : ℕ
   pub on : IsOn records index source
-  pub describes : Describes records source content
+  pub describes : DeclaresContent records source content
 
 -- the records of that message's channel are longer than those of a declaration may be
 abbrev pub IsWide : List Top → ℕ → ℕ → Type 0
@@ -123,7 +123,7 @@ abbrev pub LacksId : List Top → PassState → ℕ → DeclareRefused → Type 
 LacksId records pass index refusal = (content : ChannelDef) × IsChannelOf records index content × Has pass.lacks (content, refusal)
 
 -- The last of the handled messages was refused since the intake had ended.
-pub record EndsWith (handled : ℕ) (pass : PassState) (index at : ℕ) (end : End) : Type 0 where
+pub record LastFindsEnd (handled : ℕ) (pass : PassState) (index at : ℕ) (end : End) : Type 0 where
   pub last : index + 1 ≡ handled
   pub found : Found
   pub shown : pass.found ≡ Some found
@@ -133,9 +133,9 @@ pub record EndsWith (handled : ℕ) (pass : PassState) (index at : ℕ) (end : E
 -- what the cause of a refusal says of the message of that index, of its channel and of the pass
 abbrev pub CauseFits : List Top → ℕ → PassState → ℕ → Cause → Type 0
 CauseFits records handled pass index (causes.Full held from to) = Has pass.fulls (record { from = from; to = to; held = held }) × (pass.limit ≤ held) × (from ≤ to)
-CauseFits records handled pass index (causes.TooLarge len) = IsLong records index len ⊎ IsWide records index len
-CauseFits records handled pass index (causes.Closed at) = EndsWith handled pass index at ends.Closed
-CauseFits records handled pass index (causes.Stopped at stop) = EndsWith handled pass index at (ends.Stopped stop)
+CauseFits records handled pass index (causes.TooLarge len) = HasTooMuchData records index len ⊎ IsWide records index len
+CauseFits records handled pass index (causes.Closed at) = LastFindsEnd handled pass index at ends.Closed
+CauseFits records handled pass index (causes.Stopped at stop) = LastFindsEnd handled pass index at (ends.Stopped stop)
 CauseFits records handled pass index causes.TooManySchemas = LacksId records pass index declaring.TooManySchemas
 CauseFits records handled pass index causes.TooManyChannels = LacksId records pass index declaring.TooManyChannels
 CauseFits records handled pass index (causes.TooManyRecords count) = (record_count_limit ≤ count) × FoundAtLeast pass count
@@ -203,8 +203,8 @@ abbrev pub reasons_of : List Refused → List Reason
 reasons_of refused = flat_map (λ r. reason_in r.cause) refused
 
 -- what the pass shows of a declaration, and of a refusal for which no id was left
-abbrev pub IsNamed : List Top → DeclaredAt → ℕ × ChannelDef → Type 0
-IsNamed records d pair = (pair.0 ≡ d.channel) × IsChannelOf records d.index pair.1
+abbrev pub ShowsDeclaration : List Top → DeclaredAt → ℕ × ChannelDef → Type 0
+ShowsDeclaration records d pair = (pair.0 ≡ d.channel) × IsChannelOf records d.index pair.1
 
 abbrev pub IsLacking : List Top → ℕ × DeclareRefused → ChannelDef × DeclareRefused → Type 0
 IsLacking records lack pair = (pair.1 ≡ lack.1) × IsChannelOf records lack.0 pair.0
@@ -221,21 +221,21 @@ InTurnWith full index other first behind = (other ≤ index → behind ≤ full.
 -- ---- all lists
 
 -- the place is that of a recorded message or of a record that a declaration added
-abbrev pub IsGiven : Lists → ℕ → Type 0
+abbrev pub IsGiven : ReportLists → ℕ → Type 0
 IsGiven lists place = ((a : Accepted) × Has lists.accepted a × (a.place ≡ place))
     ⊎ ((d : DeclaredAt) × Has lists.declared d × (d.first ≤ place) × (place < d.first + d.count))
 
 -- the message was recorded or refused
-abbrev pub IsListed : Lists → ℕ → Type 0
-IsListed lists index = ((a : Accepted) × Has lists.accepted a × (a.index ≡ index))
+abbrev pub IsAccountedFor : ReportLists → ℕ → Type 0
+IsAccountedFor lists index = ((a : Accepted) × Has lists.accepted a × (a.index ≡ index))
     ⊎ ((r : Refused) × Has lists.refused r × (r.index ≡ index))
 
 -- The lists fit the records and the pass, where the first `handled` messages were recorded or refused, and declarations
 -- were made for messages below the bound.
-pub record ListsFit (records : List Top) (handled bound : ℕ) (lists : Lists) (pass : PassState) : Type 0 where
+pub record ListsFit (records : List Top) (handled bound : ℕ) (lists : ReportLists) (pass : PassState) : Type 0 where
   -- each list says of each of its members what it is
   pub accepts : Each (Accepts records lists.declared pass) lists.accepted
-  pub declares : Each (Declares records pass) lists.declared
+  pub declares : Each (DeclarationAdds records pass) lists.declared
   pub refuses : Each (λ r. CauseFits records handled pass r.index r.cause) lists.refused
   -- a channel of the feed is declared once
   pub once : (j k : ℕ) (d e : DeclaredAt) (source : ℕ) → At lists.declared j d → At lists.declared k e → IsOn records d.index source → IsOn records e.index source → j ≡ k
@@ -251,7 +251,7 @@ pub record ListsFit (records : List Top) (handled bound : ℕ) (lists : Lists) (
   pub in_turn : (j k : ℕ) (d : DeclaredAt) (a : Accepted) → At lists.declared j d → At lists.accepted k a
       → (d.index ≤ a.index → d.first + d.count ≤ a.place) × (a.index < d.index → a.place < d.first)
   -- the ids that the pass got are those of the declarations, in their order, one each
-  pub named : InStep (IsNamed records) lists.declared pass.named
+  pub named : InStep (ShowsDeclaration records) lists.declared pass.named
   -- so are the declarations that no id was left for those of the refusals for that
   pub lacks : InStep (IsLacking records) (lacks_of lists.refused) pass.lacks
   -- The refusals but for want of memory are those of the pass, in their order, one each: what it refused for another reason is
@@ -266,7 +266,7 @@ pub record ListsFit (records : List Top) (handled bound : ℕ) (lists : Lists) (
   -- each of the first messages was recorded or refused, and no other
   pub handled_some : handled ≤ length (messages records)
   pub count : handled ≡ length lists.accepted + length lists.refused
-  pub listed : (index : ℕ) → index < handled → IsListed lists index
+  pub listed : (index : ℕ) → index < handled → IsAccountedFor lists index
   pub accepted_below : Each (λ a. a.index < handled) lists.accepted
   pub refused_below : Each (λ r. r.index < handled) lists.refused
   pub declared_below : Each (λ d. d.index < bound) lists.declared
@@ -274,5 +274,5 @@ pub record ListsFit (records : List Top) (handled bound : ℕ) (lists : Lists) (
   pub apart : (j k : ℕ) (a : Accepted) (r : Refused) → At lists.accepted j a → At lists.refused k r → a.index ≡ r.index → ⊥
 
 -- the same, of a lane that has no message at hand
-abbrev pub LaneFits : List Top → ℕ → Lists → PassState → Type 0
+abbrev pub LaneFits : List Top → ℕ → ReportLists → PassState → Type 0
 LaneFits records handled lists pass = ListsFit records handled handled lists pass

@@ -57,9 +57,9 @@ pub record FoundAtLeast (pass : PassState) (n : ℕ) : Type 0 where
   pub within : n ≤ found.count
 
 -- records from a place on, each with its place
-abbrev pub placed_from : ℕ → List Rec → List (ℕ × Rec)
-placed_from place [] = []
-placed_from place (r ∷ rs) = (place, r) ∷ placed_from (place + 1) rs
+abbrev pub with_places : ℕ → List Rec → List (ℕ × Rec)
+with_places place [] = []
+with_places place (r ∷ rs) = (place, r) ∷ with_places (place + 1) rs
 
 -- ---- a call
 
@@ -102,12 +102,12 @@ with_full before found = record before { fulls = before.fulls ++ full_at found �
 abbrev pub message_record : NewMessage → Rec
 message_record m = message_of m.channel (fields_of_message m)
 
-abbrev pub with_message : PassState → Found → NewMessage → PassState
-with_message before found m = record before { own = before.own ++ (found.count, message_record m) ∷ []; found = Some found }
+abbrev pub with_published : PassState → Found → NewMessage → PassState
+with_published before found m = record before { own = before.own ++ (found.count, message_record m) ∷ []; found = Some found }
 
 -- the intake gave that id to a channel
-abbrev pub IsChannel : Found → ℕ → Type 0
-IsChannel found channel = (1 ≤ channel) × (channel ≤ found.channels)
+abbrev pub IsGivenChannel : Found → ℕ → Type 0
+IsGivenChannel found channel = (1 ≤ channel) × (channel ≤ found.channels)
 
 -- the intake has a place for a record more, and its buffer has room
 pub record HasPlace (before : PassState) (found : Found) : Type 0 where
@@ -115,30 +115,30 @@ pub record HasPlace (before : PassState) (found : Found) : Type 0 where
   pub room : found.held < before.limit
 
 -- the intake may take a message on that channel
-pub record MayTake (before : PassState) (found : Found) (channel : ℕ) : Type 0 where
+pub record MayTakeMessage (before : PassState) (found : Found) (channel : ℕ) : Type 0 where
   pub finds : Finds before found
   pub unended : found.end ≡ None
-  pub known : IsChannel found channel
+  pub known : IsGivenChannel found channel
   pub place : HasPlace before found
 
 -- the message has no more data than one may have
-abbrev pub IsShort : NewMessage → Type 0
-IsShort m = length m.payload.now ≤ data_limit
+abbrev pub FitsDataLimit : NewMessage → Type 0
+FitsDataLimit m = length m.payload.now ≤ data_limit
 
 -- A message was accepted at a place, or refused for the first reason that held of how the intake was found. A message of too
 -- much data is refused without a look at the intake.
 abbrev pub PublishedBy : PassState → PassState → NewMessage → Result ℕ PublishRefused → Type 0
-PublishedBy before after m (Ok place) = (found : Found) × IsShort m × MayTake before found m.channel × (place ≡ found.count) × (after ≡ with_message before found m)
+PublishedBy before after m (Ok place) = (found : Found) × FitsDataLimit m × MayTakeMessage before found m.channel × (place ≡ found.count) × (after ≡ with_published before found m)
 PublishedBy before after m (Err (publishing.TooLarge len)) = (len ≡ length m.payload.now) × (data_limit < len) × (after ≡ with_reason before (for_size len))
-PublishedBy before after m (Err (publishing.Closed at)) = (found : Found) × IsShort m × Finds before found × (found.end ≡ Some Closed) × (at ≡ found.count)
+PublishedBy before after m (Err (publishing.Closed at)) = (found : Found) × FitsDataLimit m × Finds before found × (found.end ≡ Some Closed) × (at ≡ found.count)
     × (after ≡ with_refused before found (for_close at))
-PublishedBy before after m (Err (publishing.Stopped at stop)) = (found : Found) × IsShort m × Finds before found × (found.end ≡ Some (Stopped stop)) × (at ≡ found.count)
+PublishedBy before after m (Err (publishing.Stopped at stop)) = (found : Found) × FitsDataLimit m × Finds before found × (found.end ≡ Some (Stopped stop)) × (at ≡ found.count)
     × (after ≡ with_refused before found (for_stop at stop))
-PublishedBy before after m (Err publishing.UnknownChannel) = (found : Found) × IsShort m × Finds before found × (found.end ≡ None)
+PublishedBy before after m (Err publishing.UnknownChannel) = (found : Found) × FitsDataLimit m × Finds before found × (found.end ≡ None)
     × ((m.channel ≡ 0) ⊎ (found.channels < m.channel)) × (after ≡ with_refused before found for_channel)
-PublishedBy before after m (Err (publishing.TooManyRecords count)) = (found : Found) × IsShort m × Finds before found × (found.end ≡ None) × IsChannel found m.channel
+PublishedBy before after m (Err (publishing.TooManyRecords count)) = (found : Found) × FitsDataLimit m × Finds before found × (found.end ≡ None) × IsGivenChannel found m.channel
     × (count ≡ found.count) × (record_count_limit ≤ count) × (after ≡ with_refused before found (for_count count))
-PublishedBy before after m (Err (publishing.Full held)) = (found : Found) × IsShort m × Finds before found × (found.end ≡ None) × IsChannel found m.channel × (found.count < record_count_limit)
+PublishedBy before after m (Err (publishing.Full held)) = (found : Found) × FitsDataLimit m × Finds before found × (found.end ≡ None) × IsGivenChannel found m.channel × (found.count < record_count_limit)
     × (held ≡ found.held) × (before.limit ≤ held) × (after ≡ with_full before found)
 
 -- ---- declaring
@@ -150,7 +150,7 @@ AreAdded d channel records = (records ≡ [])
     ⊎ ((schema : ℕ) × (s : _) × (d.schema ≡ Some s) × (records ≡ schema_of schema (fields_of_schema s) ∷ channel_of channel (fields_with d schema) ∷ [])))
 
 abbrev pub with_declared : PassState → Found → ChannelDef → ℕ → List Rec → PassState
-with_declared before found d channel records = record before { own = before.own ++ placed_from found.count records; named = before.named ++ (channel, d) ∷ []; found = Some found }
+with_declared before found d channel records = record before { own = before.own ++ with_places found.count records; named = before.named ++ (channel, d) ∷ []; found = Some found }
 
 abbrev pub with_lack : PassState → Found → ChannelDef → DeclareRefused → PassState
 with_lack before found d refusal = record before { lacks = before.lacks ++ (d, refusal) ∷ []; reasons = before.reasons ++ for_id refusal ∷ []; found = Some found }
@@ -173,7 +173,7 @@ pub record IsNextId (before : PassState) (found : Found) (channel : ℕ) (record
 
 -- a channel whose content had an id gets that and adds no record
 abbrev pub GetsId : PassState → Found → ℕ → List Rec → Type 0
-GetsId before found channel records = ((records ≡ []) × IsChannel found channel) ⊎ IsNextId before found channel records
+GetsId before found channel records = ((records ≡ []) × IsGivenChannel found channel) ⊎ IsNextId before found channel records
 
 -- A channel got an id and its records their places, or the declaration was refused for the first reason that held of how the
 -- intake was found. Records that are too long are refused without a look at the intake. No other reason than an end refuses a

@@ -6,7 +6,7 @@ use Rattle.rec_data.specs.declared.channel.ChannelDef.{ChannelDef}
 use Rattle.mcap_model.specs.Fields.{ChannelFields}
 use Rattle.mcap_model.specs.Tops.{Top}
 use Rattle.record_core.specs.Desk.{schema_size, declared_size}
-use Rattle.feed_lane.specs.Lanes.{SchemaShown, Describes}
+use Rattle.feed_lane.specs.Lanes.{SchemaShown, DeclaresContent}
 
 -- the fields of a Channel that was read, but for its ids
 abbrev pub shown_by : Channel → ChannelFields
@@ -21,5 +21,5 @@ pub record IsSchemaLength (records : List Top) (id len : ℕ) : Type 0 where
 -- the records of that channel, its Schema among them, have so many bytes
 pub record IsLength (records : List Top) (channel len : ℕ) : Type 0 where
   pub content : ChannelDef
-  pub describes : Describes records channel content
+  pub describes : DeclaresContent records channel content
   pub size : len ≡ declared_size content

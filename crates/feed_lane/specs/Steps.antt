@@ -31,7 +31,7 @@ use Rattle.feed_lane.specs.declared.lane.Over.TheVariants as overs
 use Rattle.feed_lane.specs.Pass.{FullAt, PassState, FoundAtLeast}
 use Rattle.feed_lane.specs.Kept.{LaneIds, KeptStands}
 use Rattle.feed_lane.specs.Sizes.{IsLength}
-use Rattle.feed_lane.specs.Lanes.{Lists, messages, IsOn, CauseFits, IsTried, full_in, lack_in, reason_in, IsLacking, InStep, ListsFit, LaneFits}
+use Rattle.feed_lane.specs.Lanes.{ReportLists, messages, IsOn, CauseFits, IsTried, full_in, lack_in, reason_in, IsLacking, InStep, ListsFit, LaneFits}
 
 -- ---- what a pass shows, call by call
 
@@ -67,7 +67,7 @@ goes_on (causes.TooManyRecords count) = true
 goes_on causes.Memory = true
 
 -- a channel of the feed was declared, and got this id
-pub record HasId (records : List Top) (declared : List DeclaredAt) (source id : ℕ) : Type 0 where
+pub record DeclaredWithId (records : List Top) (declared : List DeclaredAt) (source id : ℕ) : Type 0 where
   pub by : DeclaredAt
   pub listed : Has declared by
   pub on : IsOn records by.index source
@@ -77,14 +77,14 @@ pub record HasId (records : List Top) (declared : List DeclaredAt) (source id : 
 -- lengths that are too large for a declaration
 pub record IdsStand (records : List Top) (declared : List DeclaredAt) (ids : LaneIds) : Type 0 where
   pub fresh : (source : ℕ) (d : DeclaredAt) → At ids.given source 0 → Has declared d → IsOn records d.index source → ⊥
-  pub known : (source id : ℕ) → At ids.given source id → (id ≡ 0 → ⊥) → HasId records declared source id
+  pub known : (source id : ℕ) → At ids.given source id → (id ≡ 0 → ⊥) → DeclaredWithId records declared source id
   pub kept : KeptStands records ids.kept
   pub wide : (source len : ℕ) → At ids.wide source len → declaration_limit < len → IsLength records source len
 
-abbrev pub lists_of : Lane → Lists
+abbrev pub lists_of : Lane → ReportLists
 lists_of lane = record { accepted = lane.accepted.items; declared = lane.declared.items; refused = lane.refused.items }
 
-pub record ListsStand (records : List Top) (handled bound : ℕ) (ids : LaneIds) (lists : Lists) (pass : PassState) : Type 0 where
+pub record ListsStand (records : List Top) (handled bound : ℕ) (ids : LaneIds) (lists : ReportLists) (pass : PassState) : Type 0 where
   pub fits : ListsFit records handled bound lists pass
   pub ids_stand : IdsStand records lists.declared ids
   pub going : Each (λ r. goes_on r.cause ≡ true) lists.refused
@@ -113,7 +113,7 @@ abbrev pub AtHand : List Top → ℕ → List ℕ → Type 0
 AtHand records handled content = At (messages records) handled (top 5 content)
 
 -- what a refused call leaves to be listed, for that cause
-pub record IsRefusal (records : List Top) (handled : ℕ) (before after : PassState) (cause : Cause) : Type 0 where
+pub record RefusalLeaves (records : List Top) (handled : ℕ) (before after : PassState) (cause : Cause) : Type 0 where
   pub extends : Extends before after
   pub own : after.own ≡ before.own
   pub named : after.named ≡ before.named
@@ -128,36 +128,36 @@ pub record IsRefusal (records : List Top) (handled : ℕ) (before after : PassSt
   pub is_open : goes_on cause ≡ true → IsOpen before → IsOpen after
 
 -- the lane stood before the call, with declarations up to the message at hand
-pub record IsDue (lane : Lane) (records : List Top) (handled : ℕ) (after : PassState) (cause : Cause) : Type 0 where
+pub record RefusalIsDue (lane : Lane) (records : List Top) (handled : ℕ) (after : PassState) (cause : Cause) : Type 0 where
   pub before : PassState
   pub stands : ListsStand records handled (handled + 1) lane.ids (lists_of lane) before
-  pub refusal : IsRefusal records handled before after cause
+  pub refusal : RefusalLeaves records handled before after cause
   pub some : handled < length (messages records)
   pub tried : IsTried records lane.declared.items (record { index = handled; cause = cause })
 
 -- what the channel of the message at hand came to: an id, or the message is refused
 abbrev pub ChannelFound : Lane → List Top → ℕ → ℕ → PassState → Result ℕ Cause → Type 0
-ChannelFound lane records handled source pass (Ok id) = HasId records lane.declared.items source id × ListsStand records handled (handled + 1) lane.ids (lists_of lane) pass
-ChannelFound lane records handled source pass (Err cause) = IsDue lane records handled pass cause
+ChannelFound lane records handled source pass (Ok id) = DeclaredWithId records lane.declared.items source id × ListsStand records handled (handled + 1) lane.ids (lists_of lane) pass
+ChannelFound lane records handled source pass (Err cause) = RefusalIsDue lane records handled pass cause
 
 -- the last message that was handled was refused for an end of the intake, and ends the list
 abbrev pub LastEnds : ℕ → List Refused → Type 0
 LastEnds handled refused = (r : Refused) × Has refused r × (r.index + 1 ≡ handled) × (goes_on r.cause ≡ false)
 
 -- what the lists tell of a lane that is over
-pub record ListsTell (records : List Top) (lists : Lists) (pass : PassState) : Type 0 where
+pub record ListsTell (records : List Top) (lists : ReportLists) (pass : PassState) : Type 0 where
   pub firsts : Each (λ d. FoundAtLeast pass d.first) lists.declared
   pub tried : Each (IsTried records lists.declared) lists.refused
 
 -- the intake hadn't ended for the lane
-pub record IsUnended (lists : Lists) (pass : PassState) : Type 0 where
+pub record IntakeUnended (lists : ReportLists) (pass : PassState) : Type 0 where
   pub going : Each (λ r. goes_on r.cause ≡ true) lists.refused
   pub is_open : IsOpen pass
 
 -- a lane that is over, for want of room or since the intake had ended
 abbrev pub LaneOver : Lane → List Top → ℕ → PassState → Over → Type 0
 LaneOver lane records handled pass overs.Memory = LaneFits records handled (lists_of lane) pass × (handled < length (messages records))
-    × ListsTell records (lists_of lane) pass × IsUnended (lists_of lane) pass
+    × ListsTell records (lists_of lane) pass × IntakeUnended (lists_of lane) pass
 LaneOver lane records handled pass overs.Ended = LaneFits records (handled + 1) (lists_of lane) pass × LastEnds (handled + 1) lane.refused.items
     × ListsTell records (lists_of lane) pass
 
@@ -216,14 +216,14 @@ KeepsAs before now = (now.accepted.kept ≡ before.accepted.kept) × (now.refuse
 -- ---- the records of a feed
 
 -- the messages of the records that aren't handled yet are those of these
-pub record Waits (records : List Top) (handled : ℕ) (more : List Top) : Type 0 where
+pub record MessagesWait (records : List Top) (handled : ℕ) (more : List Top) : Type 0 where
   pub done : List Top
   pub split : messages records ≡ done ++ messages more
   pub many : length done ≡ handled
 
 -- what a record comes to, before which so many messages were handled and behind which these still wait
 abbrev pub RecordHandled : Lane → List Top → ℕ → List Top → PassState → Result Unit Over → Type 0
-RecordHandled lane records before more pass (Ok it) = (handled : ℕ) × (before ≤ handled) × LaneStands lane records handled pass × Waits records handled more
+RecordHandled lane records before more pass (Ok it) = (handled : ℕ) × (before ≤ handled) × LaneStands lane records handled pass × MessagesWait records handled more
 RecordHandled lane records before more pass (Err over) = (handled : ℕ) × (before ≤ handled) × LaneOver lane records handled pass over
 
 -- how many of the records are passed over
@@ -231,12 +231,12 @@ abbrev pub passed_among : List Top → ℕ
 passed_among records = length (filter is_passed_over records)
 
 -- so many were counted, where the count doesn't pass the end of its type
-abbrev pub Counts : ℕ → ℕ → ℕ → Type 0
-Counts before now n = before + n < 2 ^ 64 → now ≡ before + n
+abbrev pub CountsUp : ℕ → ℕ → ℕ → Type 0
+CountsUp before now n = before + n < 2 ^ 64 → now ≡ before + n
 
 -- so it is of a record that was taken; where the lane is over within it, at most so many were counted
 abbrev pub Counted : ℕ → ℕ → ℕ → Result Unit Over → Type 0
-Counted before now n result = (before ≤ now) × (now ≤ before + n) × OnOk result (Counts before now n)
+Counted before now n result = (before ≤ now) × (now ≤ before + n) × OnOk result (CountsUp before now n)
 
 -- ---- ends of a feed
 

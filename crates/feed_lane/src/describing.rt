@@ -8,7 +8,7 @@ ghost use Rattle.mcap_model.specs.Declarations.{TablesOf};
 ghost use Rattle.mcap_model.specs.History.{channel_of};
 ghost use Rattle.record_core.specs.Sights.{SchemaFits, DefFits};
 ghost use Rattle.record_core.specs.Desk.{schema_size};
-ghost use Rattle.feed_lane.specs.Lanes.{definition_of, SchemaShown, Describes};
+ghost use Rattle.feed_lane.specs.Lanes.{definition_of, SchemaShown, DeclaresContent};
 ghost use Rattle.feed_lane.specs.Kept.{KeptStands};
 ghost use Rattle.feed_lane.specs.Sizes.{shown_by, IsSchemaLength, IsLength};
 
@@ -73,7 +73,7 @@ fn schema_of(
 
 /// The channel of that id with its schema, its metadata in order. The channel of a message is always there.
 pub fn definition(alloc: Global, tables: &Tables, source: u16) -> Result<ChannelDef, Memory>
-    ensures describes { IfOk result (λ d. (records : List Top) → TablesOf records tables.now → Describes records source d) }
+    ensures describes { IfOk result (λ d. (records : List Top) → TablesOf records tables.now → DeclaresContent records source d) }
     ensures fits { IfOk result DefFits }
 {
     match definition_over(alloc, tables, source, no_schema()) {
@@ -129,7 +129,7 @@ pub(crate) fn definition_over(
     kept: KeptSchema,
 ) -> Result<Described, Memory>
     requires { SchemaFits kept.schema }
-    ensures describes { IfOk result (λ d. (records : List Top) → TablesOf records tables.now → KeptStands records kept → Describes records source d.channel) }
+    ensures describes { IfOk result (λ d. (records : List Top) → TablesOf records tables.now → KeptStands records kept → DeclaresContent records source d.channel) }
     ensures shows { IfOk result (λ d. (records : List Top) → TablesOf records tables.now → KeptStands records kept → SchemaShown records d.schema_id d.channel.schema) }
     ensures known { IfOk result (λ d. d.known ≡ true → (kept.known ≡ true) × (d.channel.schema ≡ kept.schema)) }
     ensures fits { IfOk result (λ d. DefFits d.channel) }

@@ -3,7 +3,7 @@ ghost use Rattle.std.specs.Prelude.{◌≡◌, ◌⊎◌, ◌<◌, ℕ, [], IfOk
 ghost use Rattle.mcap_wire.specs.Limits.{declaration_limit};
 ghost use Rattle.mcap_model.specs.Places.{At};
 ghost use Rattle.record_core.specs.Sights.{SchemaFits};
-ghost use Rattle.feed_lane.specs.Kept.{no_schema, with_id, with_kept};
+ghost use Rattle.feed_lane.specs.Kept.{no_schema, with_channel_id, with_kept};
 
 use mcap_wire::Memory;
 use rec_data::SchemaDef;
@@ -82,7 +82,7 @@ impl Ids {
     }
 
     pub(crate) fn set(&mut self, source: u16, id: u16)
-        ensures { self.new ≡ with_id self.old source id }
+        ensures { self.new ≡ with_channel_id self.old source id }
     {
         self.given[source as usize] = id;
     }

@@ -7,10 +7,10 @@ ghost use Rattle.mcap_model.specs.Fields.{IsMessage};
 ghost use Rattle.mcap_model.specs.Declarations.{TablesOf};
 ghost use Rattle.feed_lane.specs.Pass.{PassState, no_calls, DeclaredInto};
 ghost use Rattle.feed_lane.specs.Kept.{no_schema, IsKnown, KnownBehind};
-ghost use Rattle.feed_lane.specs.Lanes.{messages, IsOn, Describes};
+ghost use Rattle.feed_lane.specs.Lanes.{messages, IsOn, DeclaresContent};
 ghost use Rattle.record_core.specs.Sights.{DefFits};
 ghost use Rattle.feed_lane.specs.Sizes.{IsLength};
-ghost use Rattle.feed_lane.specs.Steps.{lists_of, IdsStand, LaneStands, ListsStand, Roomy, KeepsLists, KeepsAs, AreKnown, AtHand, IsDue, HasId, ThenShows, ChannelFound, MessageTaken, goes_on as goes_on_behind, publish_cause as cause_of_publishing, declare_cause as cause_of_declaring, full_cause as cause_of_full, fields_of};
+ghost use Rattle.feed_lane.specs.Steps.{lists_of, IdsStand, LaneStands, ListsStand, Roomy, KeepsLists, KeepsAs, AreKnown, AtHand, RefusalIsDue, DeclaredWithId, ThenShows, ChannelFound, MessageTaken, goes_on as goes_on_behind, publish_cause as cause_of_publishing, declare_cause as cause_of_declaring, full_cause as cause_of_full, fields_of};
 
 use crate::describing::{definition_over, excess};
 use crate::ids::Ids;
@@ -190,7 +190,7 @@ impl Lane {
     // Lists the message at hand as refused. That the intake has ended ends the lane.
     fn refuse(&mut self, cause: Cause) -> Result<(), Over>
         requires { length self.old.refused.items + 1 ≤ self.old.refused.capacity }
-        ensures taken { (records : List Top) (handled : ℕ) (pass : PassState) → IsDue self.old records handled pass cause
+        ensures taken { (records : List Top) (handled : ℕ) (pass : PassState) → RefusalIsDue self.old records handled pass cause
             → MessageTaken self.new records handled pass result }
         ensures ids { self.new.ids ≡ self.old.ids }
         ensures passed { self.new.passed ≡ self.old.passed }
@@ -210,7 +210,7 @@ impl Lane {
         requires refused { length self.old.refused.items + 1 ≤ self.old.refused.capacity }
         ensures taken { (begun : P) (before : PassState) → P.since begun pass.old before → ThenShows (P.since begun pass.new) before (λ after.
             (records : List Top) (handled source : ℕ) (t : Top) → ListsStand records handled (handled + 1) self.old.ids (lists_of self.old) before
-            → HasId records self.old.declared.items source id → At (messages records) handled t → IsMessage t source (fields_of m.now)
+            → DeclaredWithId records self.old.declared.items source id → At (messages records) handled t → IsMessage t source (fields_of m.now)
             → MessageTaken self.new records handled after result) }
         ensures knows { IsKnown (P.knows pass.old) self.old.ids.kept → IsKnown (P.knows pass.new) self.new.ids.kept }
         ensures passed { self.new.passed ≡ self.old.passed }
@@ -308,7 +308,7 @@ impl Lane {
         requires known { known ≡ true → P.knows pass.old channel.now.schema }
         ensures knows { KnownBehind known result → P.knows pass.new channel.now.schema }
         ensures found { (begun : P) (before : PassState) → P.since begun pass.old before → ThenShows (P.since begun pass.new) before (λ after.
-            (records : List Top) (handled : ℕ) → LaneStands self.old records handled before → Describes records source channel.now
+            (records : List Top) (handled : ℕ) → LaneStands self.old records handled before → DeclaresContent records source channel.now
             → IsOn records handled source → At self.old.ids.given source 0 → ChannelFound self.new records handled source after result) }
         ensures passed { self.new.passed ≡ self.old.passed }
         ensures accepted { self.new.accepted ≡ self.old.accepted }

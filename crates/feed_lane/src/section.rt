@@ -4,7 +4,7 @@ ghost use Rattle.mcap_model.specs.Tops.{Top};
 ghost use Rattle.mcap_model.specs.Made.{top};
 ghost use Rattle.feed_lane.specs.Pass.{PassState};
 ghost use Rattle.feed_lane.specs.Kept.{IsKnown};
-ghost use Rattle.feed_lane.specs.Steps.{LaneStands, AreKnown, ThenShows, Waits, RecordHandled, passed_among, Counted, KeepsAs};
+ghost use Rattle.feed_lane.specs.Steps.{LaneStands, AreKnown, ThenShows, MessagesWait, RecordHandled, passed_among, Counted, KeepsAs};
 
 use crate::lane::{Lane, Over};
 use crate::pass::Pass;
@@ -26,7 +26,7 @@ impl Lane {
         ensures knows { IsKnown (P.knows pass.new) self.new.ids.kept }
         ensures taken { (begun : P) (before : PassState) → P.since begun pass.old before → ThenShows (P.since begun pass.new) before (λ after.
             (records more : List Top) (handled : ℕ) → LaneStands self.old records handled before → AreKnown records tables.now
-            → Waits records handled (top op content.now ∷ more) → RecordHandled self.new records handled more after result) }
+            → MessagesWait records handled (top op content.now ∷ more) → RecordHandled self.new records handled more after result) }
         ensures passed { Counted self.old.passed self.new.passed (passed_among (top op content.now ∷ [])) result }
         ensures kept { KeepsAs self.old self.new }
     {

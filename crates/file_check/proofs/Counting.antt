@@ -19,7 +19,7 @@ use Rattle.mcap_model.proofs.OneMore.{zip_push, channel_kept, channel_either}
 use Rattle.index_check.specs.Ids.{AddsOnce}
 use Rattle.file_check.specs.declared.record_counts.RecordCounts.{RecordCounts}
 use Rattle.file_check.specs.MessageCounts.{IsOneMore}
-use Rattle.file_check.specs.RecordCounts.{CountsOf, Hears}
+use Rattle.file_check.specs.RecordCounts.{CountsOf, CountsMessage}
 
 -- ---- lists
 
@@ -128,7 +128,7 @@ abbrev pub with_counts : RecordCounts → List ℕ → RecordCounts
 with_counts c by_channel = record { messages = c.messages; any = c.any; least = c.least; greatest = c.greatest; by_channel = by_channel; schemas = c.schemas; channels = c.channels }
 
 pub counted_message : (records : List Top) (t : Top) (old new : RecordCounts) (by_channel : List ℕ) (channel : ℕ) (m : MessageFields) → CountsOf records old → IsMessage t channel m → length records + 1 < 2 ^ 64
-    → IsOneMore old.by_channel channel by_channel → Hears (with_counts old by_channel) m.log_time new → CountsOf (records ++ t ∷ []) new
+    → IsOneMore old.by_channel channel by_channel → CountsMessage (with_counts old by_channel) m.log_time new → CountsOf (records ++ t ∷ []) new
 counted_message records t old new by_channel channel m was is few more hears = record {
   messages = omega (arith, hears.messages, was.messages, count_same 5 records t five, messages_few, few);
   times = times_with records t (record { any = old.any; least = old.least; greatest = old.greatest }) (record { any = new.any; least = new.least; greatest = new.greatest }) channel m m.log_time was.times is refl

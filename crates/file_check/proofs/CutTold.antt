@@ -17,10 +17,10 @@ use Rattle.index_check.specs.declared.section.Section.{Section}
 use Rattle.file_check.specs.declared.flaws.FailedRule.{FailedRule}
 use Rattle.mcap_model.specs.declared.refusals.ReadingRefused.{ReadingRefused}
 use Rattle.mcap_model.specs.declared.refusals.ReadingRefused.TheVariants as refusals
-use Rattle.file_check.specs.Reading.{IndexIsWrong, Reads}
+use Rattle.file_check.specs.Reading.{IndexIsWrong, ReadsSection}
 use Rattle.file_check.specs.Halting.{failed_at, lacks_magic}
-use Rattle.file_check.specs.Checking.{IsFault, front_of}
-use Rattle.file_check.specs.CutFiles.{told_of, NamesCut}
+use Rattle.file_check.specs.Checking.{IsFault, checked_front}
+use Rattle.file_check.specs.CutFiles.{rule_told, NamesCut}
 use Rattle.file_check.proofs.Refusing.{halted_at}
 
 all_taken : (file : List ℕ) (len : ℕ) → length file ≡ len → take len file ≡ file
@@ -28,28 +28,28 @@ all_taken file len size = take_all len file (omega (arith, size))
 
 -- the reading of all bytes halted so
 pub halted_all : (old : StoreState) (now : SourceState) (told : Option (List ℕ)) (file : List ℕ) (len : ℕ) (tops : List Top) (halt : Halt) → old.bytes ≡ told → told ≡ Some file → length file ≡ len
-    → HaltsSo (front_of old len) now tops halt → Halts reading_limits file tops halt
+    → HaltsSo (checked_front old len) now tops halt → Halts reading_limits file tops halt
 halted_all old now told file len tops halt same is size so =
     subst (λ (l : List ℕ). Halts reading_limits l tops halt) (all_taken file len size) (halted_at old now told file len tops halt same is so)
 
-pub halt_told : (file : List ℕ) (len : ℕ) (tops : List Top) (halt : Halt) (f : FailedRule) → length file ≡ len → Halts reading_limits file tops halt → f ≡ told_of len halt → NamesCut file (Ok (verdicts.Flawed f.rule f.offset))
+pub halt_told : (file : List ℕ) (len : ℕ) (tops : List Top) (halt : Halt) (f : FailedRule) → length file ≡ len → Halts reading_limits file tops halt → f ≡ rule_told len halt → NamesCut file (Ok (verdicts.Flawed f.rule f.offset))
 halt_told file len tops halt f size halts is =
-    let same : f ≡ told_of (length file) halt = is ∙ ap (λ (n : ℕ). told_of n halt) (sym size) in
+    let same : f ≡ rule_told (length file) halt = is ∙ ap (λ (n : ℕ). rule_told n halt) (sym size) in
     inl (record { tops = tops; halt = halt; halts = halts; rule_is = ap (λ (g : FailedRule). g.rule) same; offset_is = ap (λ (g : FailedRule). g.offset) same })
 
 -- where the reading halts for no rule the last magic is missing
-pub magic_told : (file : List ℕ) (len : ℕ) (tops : List Top) (halt : Halt) → length file ≡ len → Halts reading_limits file tops halt → told_of len halt ≡ lacks_magic len → NamesCut file (Ok (verdicts.Flawed 2 (len - 8)))
+pub magic_told : (file : List ℕ) (len : ℕ) (tops : List Top) (halt : Halt) → length file ≡ len → Halts reading_limits file tops halt → rule_told len halt ≡ lacks_magic len → NamesCut file (Ok (verdicts.Flawed 2 (len - 8)))
 magic_told file len tops halt size halts is = halt_told file len tops halt (lacks_magic len) size halts (sym is)
 
 pub index_is_told : (old : StoreState) (now : SourceState) (told : Option (List ℕ)) (file : List ℕ) (len offset : ℕ) (tops : List Top) → old.bytes ≡ told → told ≡ Some file → length file ≡ len
-    → IndexIsWrong (front_of old len) now tops offset → NamesCut file (Ok (verdicts.Flawed 9 offset))
+    → IndexIsWrong (checked_front old len) now tops offset → NamesCut file (Ok (verdicts.Flawed 9 offset))
 index_is_told old now told file len offset tops same is size wrong =
     let are = wrong.are_read in
     let left = are.read (take len file) (ap (λ (t : Option (List ℕ)). front_left t 0 len) (same ∙ is)) in
     inr (record { rule_is = refl; tops = tops; rest = left.0; stand = subst (λ (l : List ℕ). Tops l tops left.0) (all_taken file len size) left.2; good = are.good; fails = wrong.fails })
 
 -- a whole data section
-pub end_told : (old : StoreState) (now : SourceState) (file : List ℕ) (len : ℕ) (section : Section) → old.bytes ≡ Some file → length file ≡ len → Reads (front_of old len) now (Ok section) → NamesCut file (Ok (verdicts.Flawed 2 (len - 8)))
+pub end_told : (old : StoreState) (now : SourceState) (file : List ℕ) (len : ℕ) (section : Section) → old.bytes ≡ Some file → length file ≡ len → ReadsSection (checked_front old len) now (Ok section) → NamesCut file (Ok (verdicts.Flawed 2 (len - 8)))
 end_told old now file len section told size (tops, is) =
     let are = is.are_read in
     let left = are.read (take len file) (ap (λ (t : Option (List ℕ)). front_left t 0 len) told) in

@@ -21,7 +21,7 @@ use Rattle.index_check.specs.declared.tally.IdCounts.{IdCounts}
 use Rattle.index_check.specs.Spots.{NamedBy}
 use Rattle.index_check.specs.Chunks.{IndexesChunk}
 use Rattle.index_check.specs.Extras.{IndexesAttachment, IndexesMetadata}
-use Rattle.index_check.specs.Tally.{IdsAre, CountsAre, TallyOf}
+use Rattle.index_check.specs.Tally.{IdsAre, ChannelsCounted, TallyOf}
 use Rattle.file_check.specs.MessageCounts.{ListsCounts}
 use Rattle.file_check.proofs.Counting.{filter_no, count_other}
 use Rattle.file_check.proofs.Flattening.{opened_other}
@@ -107,7 +107,7 @@ on_has channels channel has none =
     let within = at_within (filter (λ c. eqb c channel) channels) there.0 channel there.1 in
     omega (arith, within, none)
 
-pub counts_are : (by_channel channels : List ℕ) (list : List (ℕ × ℕ)) → ((channel : ℕ) → slice_index by_channel channel ≡ on_channel channels channel) → ListsCounts by_channel list → CountsAre channels list
+pub counts_are : (by_channel channels : List ℕ) (list : List (ℕ × ℕ)) → ((channel : ℕ) → slice_index by_channel channel ≡ on_channel channels channel) → ListsCounts by_channel list → ChannelsCounted channels list
 counts_are by_channel channels list same lists = record {
   right = λ channel count has.
       let listed = lists.right channel count has in
@@ -129,7 +129,7 @@ ids_of P tops section ids counts same are low high = record {
 
 pub tallied : (tops section : List Top) (t : Tally) (channels_of schemas channels : List ℕ) → IsSection tops section → Good reading_limits tops
     → t.messages ≡ count_of 5 (flat tops) → t.attachments ≡ count_of 9 tops → t.metadata ≡ count_of 12 tops → t.chunks ≡ count_of 6 tops → TimesOf (flat tops) (record { any = t.any; least = t.least; greatest = t.greatest })
-    → AreChannels (flat tops) channels_of → CountsAre channels_of t.counts.items → AreIds (HasSchema (flat tops)) schemas → AreIds (HasChannel (flat tops)) channels
+    → AreChannels (flat tops) channels_of → ChannelsCounted channels_of t.counts.items → AreIds (HasSchema (flat tops)) schemas → AreIds (HasChannel (flat tops)) channels
     → t.schemas.in_section ≡ length schemas → t.schemas.in_file ≡ length schemas → t.channels.in_section ≡ length channels → t.channels.in_file ≡ length channels → TallyOf tops section t
 tallied tops section t channels_of schemas channels is good messages attachments metadata chunks times are_channels counts are_schemas are_ids schemas_low schemas_high channels_low channels_high = record {
   is = inl is;

@@ -4,7 +4,7 @@ use Rattle.std.specs.Prelude.{nat_lt}
 use Rattle.std.proofs.lemmas.Bool.{or_parts, ltb-false, ne_eqb}
 use Rattle.std.proofs.lemmas.List.{length-append}
 use Rattle.mcap_model.specs.Places.{Each}
-use Rattle.mcap_model.specs.Tops.{Top, top_bytes, spelled, offset_behind, records_in, chunk_records, is_chunk, inner_tops, opened, is_flat_kind, flattened, flat}
+use Rattle.mcap_model.specs.Tops.{Top, top_bytes, spelled, offset_behind, records_in, chunk_records, is_chunk, inner_tops, unchunked, is_flat_kind, flattened, flat}
 use Rattle.mcap_model.specs.Fields.{ChunkFields, IsChunk}
 use Rattle.mcap_model.specs.Rules.{V6}
 use Rattle.mcap_model.specs.Kept.{reading_limits, Fits}
@@ -16,7 +16,7 @@ use Rattle.mcap_model.proofs.FewRecords.{records_short, chunk_short}
 
 -- ---- what a record holds
 
-pub opened_other : (t : Top) → (t.op ≡ 6 → ⊥) → opened t ≡ t ∷ []
+pub opened_other : (t : Top) → (t.op ≡ 6 → ⊥) → unchunked t ≡ t ∷ []
 opened_other t other = ap (λ (b : Bool). cond b (inner_tops t) (t ∷ [])) (ne_eqb t.op 6 other)
 
 -- each record of a chunk keeps the rule on layouts
@@ -31,7 +31,7 @@ inner_meets tops t six fits =
 
 -- ---- they are fewer than the bytes
 
-pub opened_short : (t : Top) → length (opened t) ≤ length (top_bytes t)
+pub opened_short : (t : Top) → length (unchunked t) ≤ length (top_bytes t)
 opened_short t = by (is_chunk t)
   where
     by : (b : Bool) → length (cond b (inner_tops t) (t ∷ [])) ≤ length (top_bytes t)
@@ -41,7 +41,7 @@ opened_short t = by (is_chunk t)
 flat_short : (tops : List Top) → length (flat tops) ≤ length (spelled tops)
 flat_short [] = omega arith
 flat_short (t ∷ ts) =
-    let few = few_filtered is_flat_kind (opened t) in
+    let few = few_filtered is_flat_kind (unchunked t) in
     let one = opened_short t in
     let rest = flat_short ts in
     omega (arith, few, one, rest, length-append (flattened t) (flat ts), length-append (top_bytes t) (spelled ts))
@@ -56,5 +56,5 @@ fits_end tops t fits =
     let near : at + 9 + len ≤ 1099511627776 = ltb-false 1099511627776 (at + 9 + len) parts.1 in
     omega (arith, near, length-top t)
 
-pub flat_few : (tops : List Top) (t : Top) → Fits reading_limits tops t → length (flat tops) + length (opened t) < 1099511627776
+pub flat_few : (tops : List Top) (t : Top) → Fits reading_limits tops t → length (flat tops) + length (unchunked t) < 1099511627776
 flat_few tops t fits = omega (arith, fits_end tops t fits, flat_short tops, opened_short t)

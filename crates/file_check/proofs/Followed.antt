@@ -17,7 +17,7 @@ use Rattle.mcap_model.proofs.Places.{at_none, at_within, at_kept, at_last, at_mo
 use Rattle.mcap_model.proofs.Lists.{each_cons, each_joined, take_while_front}
 use Rattle.mcap_model.proofs.Unpacking.{chunks_are_opened}
 use Rattle.record_walk.specs.declared.heads.MessageHead.{MessageHead}
-use Rattle.index_check.specs.Behind.{IsOpen}
+use Rattle.index_check.specs.Behind.{IsChunkOpen}
 use Rattle.index_check.specs.Chunks.{EndsWithChunk}
 use Rattle.index_check.specs.Messages.{HoldsMessages}
 use Rattle.index_check.proofs.Followers.{as_index, behind_open}
@@ -122,7 +122,7 @@ keeps_apart tops t keeps other none = keeps_more tops t keeps (λ e. absurd (oth
     (λ n u at six not followed. absurd (none (record { others = take n tops; chunk = u; earlier = drop (suc n) tops; joined = cut_drop tops n u at; kind = six; indexes = unfollowed tops n not })))
 
 -- another record behind the last chunk and its Message Indexes
-pub keeps_closed : (tops : List Top) (t : Top) (messages : List MessageHead) (channels : List ℕ) (o : IsOpen tops messages channels) → Keeps V9 tops → (t.op ≡ 7 → ⊥) → IsIndexed (tops ++ t ∷ []) (length o.others) o.chunk → Keeps V9 (tops ++ t ∷ [])
+pub keeps_closed : (tops : List Top) (t : Top) (messages : List MessageHead) (channels : List ℕ) (o : IsChunkOpen tops messages channels) → Keeps V9 tops → (t.op ≡ 7 → ⊥) → IsIndexed (tops ++ t ∷ []) (length o.others) o.chunk → Keeps V9 (tops ++ t ∷ [])
 keeps_closed tops t messages channels o keeps other indexed = keeps_more tops t keeps (λ e. absurd (other e)) (λ n u at six not followed.
     let own = o.kind in
     let cut = cut_drop tops n u at in
@@ -133,7 +133,7 @@ keeps_closed tops t messages channels o keeps other indexed = keeps_more tops t 
 
 -- ---- V9 fails
 
-pub fails_closed : (tops more : List Top) (t : Top) (messages : List MessageHead) (channels : List ℕ) (o : IsOpen tops messages channels) → (t.op ≡ 7 → ⊥) → (IsIndexed (tops ++ t ∷ more) (length o.others) o.chunk → ⊥) → IndexFails (tops ++ t ∷ more) (offset_behind o.others)
+pub fails_closed : (tops more : List Top) (t : Top) (messages : List MessageHead) (channels : List ℕ) (o : IsChunkOpen tops messages channels) → (t.op ≡ 7 → ⊥) → (IsIndexed (tops ++ t ∷ more) (length o.others) o.chunk → ⊥) → IndexFails (tops ++ t ∷ more) (offset_behind o.others)
 fails_closed tops more t messages channels o other lacks = record {
   place = length o.others;
   top = o.chunk;
@@ -218,7 +218,7 @@ ends_other tops t six seven e =
     let same = last_apart (λ (u : Top). u.op ≡ 7) tops e.others t e.chunk [] e.earlier e.joined seven (λ is. omega (arith, is, kind)) (λ n u at. absurd (at_none n u at)) e.indexes in
     six (ap (λ (u : Top). u.op) same.0 ∙ kind)
 
-pub ends_open : (tops : List Top) (messages : List MessageHead) (channels : List ℕ) → IsOpen tops messages channels → EndsWithChunk tops
+pub ends_open : (tops : List Top) (messages : List MessageHead) (channels : List ℕ) → IsChunkOpen tops messages channels → EndsWithChunk tops
 ends_open tops messages channels o = record { others = o.others; chunk = o.chunk; earlier = o.earlier; joined = o.joined; kind = o.kind; indexes = o.indexes }
 
 -- where the last record is a chunk, its Messages are held
@@ -234,7 +234,7 @@ open_last tops t last of six = by last.is_open refl
         subst (λ (u : Top). HoldsMessages (inner_tops u) last.messages) (sym same.0) o.holds
     by false closed = absurd (of.none closed (record { others = tops; chunk = t; earlier = []; joined = refl; kind = six; indexes = λ n u at. absurd (at_none n u at) }))
 
-pub open_chunk : (tops : List Top) (t : Top) (f : ChunkFields) (messages : List MessageHead) (channels : List ℕ) → IsChunk t f → HoldsMessages (records_in f.records) messages → channels ≡ [] → (o : IsOpen (tops ++ t ∷ []) messages channels) × (o.others ≡ tops)
+pub open_chunk : (tops : List Top) (t : Top) (f : ChunkFields) (messages : List MessageHead) (channels : List ℕ) → IsChunk t f → HoldsMessages (records_in f.records) messages → channels ≡ [] → (o : IsChunkOpen (tops ++ t ∷ []) messages channels) × (o.others ≡ tops)
 open_chunk tops t f messages channels is holds none = (
   record {
     others = tops;
@@ -250,8 +250,8 @@ open_chunk tops t f messages channels is holds none = (
   refl,
 )
 
-pub open_index : (tops : List Top) (messages : List MessageHead) (channels more content : List ℕ) (channel : ℕ) (entries : List (ℕ × ℕ)) → (o : IsOpen tops messages channels) → ShowsMessageIndex content channel entries → more ≡ channels ++ channel ∷ []
-    → (n : IsOpen (tops ++ top 7 content ∷ []) messages more) × (n.others ≡ o.others)
+pub open_index : (tops : List Top) (messages : List MessageHead) (channels more content : List ℕ) (channel : ℕ) (entries : List (ℕ × ℕ)) → (o : IsChunkOpen tops messages channels) → ShowsMessageIndex content channel entries → more ≡ channels ++ channel ∷ []
+    → (n : IsChunkOpen (tops ++ top 7 content ∷ []) messages more) × (n.others ≡ o.others)
 open_index tops messages channels more content channel entries o shows same = (
   record {
     others = o.others;

@@ -14,14 +14,14 @@ use Rattle.index_check.specs.declared.section.Section.{Section}
 use Rattle.file_check.specs.declared.reading.SectionRefused.{SectionRefused}
 use Rattle.file_check.specs.declared.reading.SectionRefused.TheVariants as sections
 use Rattle.mcap_model.specs.declared.refusals.ReadingRefused.{ReadingRefused}
-use Rattle.file_check.specs.Reading.{Reads}
-use Rattle.file_check.specs.Checking.{front_of, SectionCause, SectionAsks, CheckCause, RefusedCause}
+use Rattle.file_check.specs.Reading.{ReadsSection}
+use Rattle.file_check.specs.Checking.{checked_front, SectionCause, SectionAsks, CheckCause, RefusedCause}
 
 -- where the reading had no failure the store had none
 still : (old new : StoreState) (next end failures : ℕ) → WasRead old new next end failures → failures ≡ 0 → new.faults ≡ old.faults
 still old new next end failures was none = let whole = was.whole none in whole.0
 
-pub front_cause : (old new : StoreState) (now : SourceState) (next end : ℕ) (result : Result Section SectionRefused) → WasRead old new next end now.faults → Reads (front_of old end) now result → SectionCause old.faults new.faults result
+pub front_cause : (old new : StoreState) (now : SourceState) (next end : ℕ) (result : Result Section SectionRefused) → WasRead old new next end now.faults → ReadsSection (checked_front old end) now result → SectionCause old.faults new.faults result
 front_cause old new now next end (Ok section) was (tops, is) = let read = is.are_read in still old new next end now.faults was read.still
 front_cause old new now next end (Err (sections.Scan (scans.Fault faults))) was (tops, stands) =
     let rises = stands.rises in
@@ -34,7 +34,7 @@ front_cause old new now next end (Err (sections.Scan scans.Memory)) was (tops, s
 front_cause old new now next end (Err (sections.Index offset)) was (tops, wrong) = let read = wrong.are_read in still old new next end now.faults was read.still
 
 pub front_asks : (old new : StoreState) (now : SourceState) (next end : ℕ) (result : Result Section SectionRefused) → WasRead old new next end now.faults → now.left ≡ front_left new.bytes next end
-    → Reads (front_of old end) now result → SectionAsks old end new.asked result
+    → ReadsSection (checked_front old end) now result → SectionAsks old end new.asked result
 front_asks old new now next end (Err why) was left reads = asks_front old new next end now.faults was
 front_asks old new now next end (Ok section) was left (tops, is) = λ file told long.
     let read = is.are_read in

@@ -4,7 +4,7 @@ use Rattle.std.proofs.lemmas.Bool.{eqb-true}
 use Rattle.std.proofs.lemmas.List.{append-nil, append_cancel_left, length-append}
 use Rattle.std.proofs.lemmas.List.Elements.{filter-append}
 use Rattle.mcap_model.specs.Places.{At, Each}
-use Rattle.mcap_model.specs.Tops.{Top, Placed, top_bytes, spelled, offset_behind, is_chunk, inner_tops, opened, is_flat_kind, flattened, flat, placed_inside, walked_one, walked_from, walked}
+use Rattle.mcap_model.specs.Tops.{Top, Placed, top_bytes, spelled, offset_behind, is_chunk, inner_tops, unchunked, is_flat_kind, flattened, flat, placed_inside, walked_one, walked_from, walked}
 use Rattle.mcap_model.specs.Made.{top}
 use Rattle.mcap_model.specs.Kept.{reading_limits, Fits, Good}
 use Rattle.mcap_model.specs.Scan.{tops_of}
@@ -222,7 +222,7 @@ good_few [] good = omega arith
 good_few (t ∷ ts) good =
     let (front, last, split) = last_of t ts in
     let fits = each_at (Fits reading_limits) front last [] (subst (Good reading_limits) split good) in
-    let few = few_filtered is_flat_kind (opened last) in
+    let few = few_filtered is_flat_kind (unchunked last) in
     omega (arith, flat_few front last fits, few, ap length (ap flat split ∙ flat_more front last), length-append (flat front) (flattened last))
 
 -- they are few

@@ -11,19 +11,19 @@ use Rattle.mcap_model.proofs.Flaws.{left_size, whole_once}
 use Rattle.index_check.specs.declared.section.Section.{Section}
 use Rattle.mcap_model.specs.declared.refusals.ReadingRefused.{ReadingRefused}
 use Rattle.mcap_model.specs.declared.refusals.ReadingRefused.TheVariants as refusals
-use Rattle.summary_check.specs.Files.{file_of, IsRefused}
+use Rattle.summary_check.specs.Files.{spelled_file, FailsThere}
 use Rattle.summary_check.specs.Judging.{IsJudged}
 use Rattle.summary_check.specs.Sectioned.{IsSectioned}
-use Rattle.file_check.specs.Checking.{Counted, EndsAtMagic, FrontIs, Judges, told_by, Checked}
+use Rattle.file_check.specs.Checking.{CountsSection, EndsAtMagic, IsSectionRead, JudgesBehind, told_by, Checked}
 use Rattle.file_check.proofs.Halted.{left_there, stand_whole}
 use Rattle.file_check.proofs.Refusing.{inner_size, inner_whole}
 
-module _ (file : List ℕ) (end : ℕ) (section : Section) (ended : EndsAtMagic file end) (front : FrontIs file end section) where
+module _ (file : List ℕ) (end : ℕ) (section : Section) (ended : EndsAtMagic file end) (front : IsSectionRead file end section) where
   pub sectioned : IsSectioned front.tops section
   sectioned = record { kept = front.kept; good = front.good; v9 = front.v9; ended = front.ended }
 
   -- the file is its data section, what stands behind that, and the magic
-  pub parts : file ≡ file_of front.tops front.rest
+  pub parts : file ≡ spelled_file front.tops front.rest
   parts =
       let whole = stand_whole (take end file) front.tops front.rest front.stand in
       inner_whole file end ended ∙ whole.split
@@ -53,12 +53,12 @@ module _ (file : List ℕ) (end : ℕ) (section : Section) (ended : EndsAtMagic 
       omega (arith, left_size (take end file) front.tops front.rest front.stand, inner_size file end ended, behind)
 
 pub judges : (section : Section) (bytes : List ℕ) (judged : Result Bool ReadingRefused) → IfOk judged (λ indexed. (tops : List Top) → IsSectioned tops section → IsJudged tops bytes indexed)
-    → IfErr judged (λ why. (tops : List Top) → IsSectioned tops section → IsRefused (file_of tops bytes) why) → (tops : List Top) → IsSectioned tops section → Judges tops bytes judged
+    → IfErr judged (λ why. (tops : List Top) → IsSectioned tops section → FailsThere (spelled_file tops bytes) why) → (tops : List Top) → IsSectioned tops section → JudgesBehind tops bytes judged
 judges section bytes (Ok indexed) ok err = ok
 judges section bytes (Err why) ok err = err
 
 -- the numbers of a data section are those of the file
-counted_more : (tops more : List Top) (c : Counts) → Counted tops c → Counted (tops ++ more) c
+counted_more : (tops more : List Top) (c : Counts) → CountsSection tops c → CountsSection (tops ++ more) c
 counted_more tops more c counted =
     let is = counted.is in record {
       section = counted.section;
@@ -83,19 +83,19 @@ never_full file tops valid none (others, full) =
     let other = full.valid in
     none (subst (FullyIndexed file) (whole_once file others tops other.v4 valid.v4) full)
 
-told : (tops : List Top) (rest : List ℕ) (judged : Result Bool ReadingRefused) (c : Counts) → Counted tops c → Judges tops rest judged → Checked (file_of tops rest) (told_by judged c)
+told : (tops : List Top) (rest : List ℕ) (judged : Result Bool ReadingRefused) (c : Counts) → CountsSection tops c → JudgesBehind tops rest judged → Checked (spelled_file tops rest) (told_by judged c)
 told tops rest (Ok true) c counted is = (tops ++ is.behind, let full = is.full in full.0 refl, counted_more tops is.behind c counted)
 told tops rest (Ok false) c counted is =
     let full = is.full in
-    (tops ++ is.behind, is.valid, never_full (file_of tops rest) (tops ++ is.behind) is.valid (λ f. both_ways false refl (full.1 f)), counted_more tops is.behind c counted)
+    (tops ++ is.behind, is.valid, never_full (spelled_file tops rest) (tops ++ is.behind) is.valid (λ f. both_ways false refl (full.1 f)), counted_more tops is.behind c counted)
 told tops rest (Err (refusals.Fault faults)) c counted is = absurd is
 told tops rest (Err (refusals.Grammar offset rule)) c counted is = is
 told tops rest (Err (refusals.Compressed offset name)) c counted is = absurd is
 told tops rest (Err (refusals.Limit offset)) c counted is = inr is
 told tops rest (Err refusals.Memory) c counted is = tt
 
-pub told_file : (file : List ℕ) (end : ℕ) (section : Section) (ended : EndsAtMagic file end) (front : FrontIs file end section) (bytes : List ℕ) (judged : Result Bool ReadingRefused) (c : Counts)
-    → bytes ≡ take (end - section.behind) (drop section.behind file) → ((tops : List Top) → IsSectioned tops section → Judges tops bytes judged) → Counted front.tops c → Checked file (told_by judged c)
+pub told_file : (file : List ℕ) (end : ℕ) (section : Section) (ended : EndsAtMagic file end) (front : IsSectionRead file end section) (bytes : List ℕ) (judged : Result Bool ReadingRefused) (c : Counts)
+    → bytes ≡ take (end - section.behind) (drop section.behind file) → ((tops : List Top) → IsSectioned tops section → JudgesBehind tops bytes judged) → CountsSection front.tops c → Checked file (told_by judged c)
 told_file file end section ended front bytes judged c is judges counted =
-    let so = subst (λ (l : List ℕ). Judges front.tops l judged) (rest_is file end section ended front bytes is) (judges front.tops (sectioned file end section ended front)) in
+    let so = subst (λ (l : List ℕ). JudgesBehind front.tops l judged) (rest_is file end section ended front bytes is) (judges front.tops (sectioned file end section ended front)) in
     subst (λ (l : List ℕ). Checked l (told_by judged c)) (sym (parts file end section ended front)) (told front.tops front.rest judged c counted so)

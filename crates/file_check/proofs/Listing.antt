@@ -5,13 +5,13 @@ use Rattle.std.proofs.lemmas.Bool.{cases_lt}
 use Rattle.std.proofs.lemmas.List.{get_or_past}
 use Rattle.mcap_model.specs.Places.{Has}
 use Rattle.mcap_model.proofs.Places.{at_none, at_kept, at_last, at_more}
-use Rattle.index_check.specs.Tally.{HasKey}
+use Rattle.index_check.specs.Tally.{HasChannelCount}
 use Rattle.file_check.specs.MessageCounts.{ListsCounts}
 
 -- the channels below that one are listed
 pub record ListsSoFar (counts : List ℕ) (i : ℕ) (list : List (ℕ × ℕ)) : Type 0 where
   pub right : (channel count : ℕ) → Has list (channel, count) → (count ≡ slice_index counts channel) × (count ≢ 0)
-  pub all : (channel : ℕ) → channel < i → slice_index counts channel ≢ 0 → HasKey list channel
+  pub all : (channel : ℕ) → channel < i → slice_index counts channel ≢ 0 → HasChannelCount list channel
 
 abbrev pub pair : ℕ → ℕ → ℕ × ℕ
 pair a b = (a, b)

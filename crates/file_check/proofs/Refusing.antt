@@ -13,12 +13,12 @@ use Rattle.mcap_model.specs.Valid.{IsPlain, WherePlain, FailsAmong, Flaw, flaw_2
 use Rattle.mcap_scan.specs.Scanning.{HaltsSo}
 use Rattle.file_check.specs.LastChunk.{IndexFails}
 use Rattle.index_check.specs.declared.section.Section.{Section}
-use Rattle.file_check.specs.Reading.{IndexIsWrong, Reads}
+use Rattle.file_check.specs.Reading.{IndexIsWrong, ReadsSection}
 use Rattle.file_check.specs.declared.flaws.FailedRule.{FailedRule}
 use Rattle.file_check.specs.Halting.{told_flaw, told_cut, HasLengthAt}
 use Rattle.mcap_model.specs.declared.refusals.ReadingRefused.{ReadingRefused}
 use Rattle.mcap_model.specs.declared.refusals.ReadingRefused.TheVariants as refusals
-use Rattle.file_check.specs.Checking.{HaltsBefore, IsUnchecked, IsFault, front_of, TellsFlaw, TellsCut, IsUnended, EndsAtMagic, FrontIs}
+use Rattle.file_check.specs.Checking.{HaltsBefore, IsUnchecked, IsFault, checked_front, TellsFlaw, TellsCut, IsUnended, EndsAtMagic, IsSectionRead}
 use Rattle.mcap_model.proofs.Places.{at_none}
 use Rattle.file_check.proofs.CutFlaws.{cuts_are_flaws}
 use Rattle.file_check.proofs.Halted.{good_short, stand_whole, halts_are_flaws}
@@ -38,7 +38,7 @@ inner_whole file end ended =
 -- ---- halts
 
 pub halted_at : (old : StoreState) (now : SourceState) (told : Option (List ℕ)) (file : List ℕ) (end : ℕ) (tops : List Top) (halt : Halt) → old.bytes ≡ told → told ≡ Some file
-    → HaltsSo (front_of old end) now tops halt → Halts reading_limits (take end file) tops halt
+    → HaltsSo (checked_front old end) now tops halt → Halts reading_limits (take end file) tops halt
 halted_at old now told file end tops halt same is so = so.halts (take end file) (ap (λ (t : Option (List ℕ)). front_left t 0 end) (same ∙ is))
 
 pub fault_unchecked : (file : List ℕ) (why : ReadingRefused) → IsFault why → IsUnchecked file why
@@ -110,7 +110,7 @@ index_cut file offset tops rest none good stand fails =
     })
 
 pub index_read : (old : StoreState) (now : SourceState) (told : Option (List ℕ)) (file : List ℕ) (end offset : ℕ) (tops : List Top) → old.bytes ≡ told → told ≡ Some file → EndsAtMagic file end
-    → IndexIsWrong (front_of old end) now tops offset → Flaw file 9 offset
+    → IndexIsWrong (checked_front old end) now tops offset → Flaw file 9 offset
 index_read old now told file end offset tops same is ended wrong =
     let are = wrong.are_read in
     let left = are.read (take end file) (ap (λ (t : Option (List ℕ)). front_left t 0 end) (same ∙ is)) in
@@ -125,7 +125,7 @@ all_of_it : (file : List ℕ) (len : ℕ) → IsUnended file len → take len fi
 all_of_it file len ended = take_all len file (omega (arith, ended.size))
 
 pub index_read_cut : (old : StoreState) (now : SourceState) (told : Option (List ℕ)) (file : List ℕ) (len offset : ℕ) (tops : List Top) → old.bytes ≡ told → told ≡ Some file → IsUnended file len
-    → IndexIsWrong (front_of old len) now tops offset → Flaw file 9 offset
+    → IndexIsWrong (checked_front old len) now tops offset → Flaw file 9 offset
 index_read_cut old now told file len offset tops same is ended wrong =
     let are = wrong.are_read in
     let left = are.read (take len file) (ap (λ (t : Option (List ℕ)). front_left t 0 len) (same ∙ is)) in
@@ -146,7 +146,7 @@ lacks_last file len ended = unended file len (sym ended.size) ended.none
 
 -- ---- what was read
 
-pub front_is : (old : StoreState) (now : SourceState) (file : List ℕ) (end : ℕ) (section : Section) → old.bytes ≡ Some file → Reads (front_of old end) now (Ok section) → FrontIs file end section
+pub front_is : (old : StoreState) (now : SourceState) (file : List ℕ) (end : ℕ) (section : Section) → old.bytes ≡ Some file → ReadsSection (checked_front old end) now (Ok section) → IsSectionRead file end section
 front_is old now file end section told (tops, is) =
     let are = is.are_read in
     let left = are.read (take end file) (ap (λ (t : Option (List ℕ)). front_left t 0 end) told) in

@@ -19,19 +19,19 @@ use Rattle.index_check.specs.declared.section.Section.{Section}
 use Rattle.index_check.specs.Section.{SectionOf}
 use Rattle.file_check.specs.declared.reading.SectionRefused.{SectionRefused}
 use Rattle.file_check.specs.declared.reading.SectionRefused.TheVariants as sections
-use Rattle.file_check.specs.Reading.{Reads}
+use Rattle.file_check.specs.Reading.{ReadsSection}
 use Rattle.summary_check.specs.Judging.{IsJudged}
-use Rattle.summary_check.specs.Files.{file_of, PassesLimit, IsRefused as IsRefusedBehind}
+use Rattle.summary_check.specs.Files.{spelled_file, PassesLimit, FailsThere as IsRefusedBehind}
 use Rattle.file_check.specs.Halting.{told_flaw, told_cut, HasLengthAt}
 
 -- the numbers of the data section
-abbrev pub Counted : List Top → Counts → Type 0
-Counted tops c = CountsAre tops c.messages c.channels c.schemas c.chunks c.attachments c.metadata
+abbrev pub CountsSection : List Top → Counts → Type 0
+CountsSection tops c = CountsAre tops c.messages c.channels c.schemas c.chunks c.attachments c.metadata
 
 -- what a verdict says of a file
 abbrev pub IsSo : List ℕ → Verdict → Type 0
-IsSo file (verdicts.Indexed counts) = (tops : List Top) × FullyIndexed file tops × Counted tops counts
-IsSo file (verdicts.Plain counts) = (tops : List Top) × Valid file tops × (IsFullyIndexed file → ⊥) × Counted tops counts
+IsSo file (verdicts.Indexed counts) = (tops : List Top) × FullyIndexed file tops × CountsSection tops counts
+IsSo file (verdicts.Plain counts) = (tops : List Top) × Valid file tops × (IsFullyIndexed file → ⊥) × CountsSection tops counts
 IsSo file (verdicts.Flawed rule offset) = Flaw file rule offset
 
 -- a reading of the records in front of the last magic halts so
@@ -39,15 +39,15 @@ abbrev pub HaltsBefore : List ℕ → Halt → Type 0
 HaltsBefore file halt = (inner : List ℕ) × (tops : List Top) × (file ≡ inner ++ magic) × Halts reading_limits inner tops halt
 
 -- a record in front of the last magic passes a limit of reading there, or one behind the data section that on its content
-abbrev pub MeetsLimit : List ℕ → ℕ → Type 0
-MeetsLimit file offset = HaltsBefore file (beyond offset) ⊎ PassesLimit file offset
+abbrev pub MeetsReadingLimit : List ℕ → ℕ → Type 0
+MeetsReadingLimit file offset = HaltsBefore file (beyond offset) ⊎ PassesLimit file offset
 
 -- why a file isn't checked; what breaks a rule is a verdict
 abbrev pub IsUnchecked : List ℕ → ReadingRefused → Type 0
 IsUnchecked file (refusals.Fault faults) = Unit {0}
 IsUnchecked file (refusals.Grammar offset rule) = ⊥
 IsUnchecked file (refusals.Compressed offset name) = HaltsBefore file (compressed offset name)
-IsUnchecked file (refusals.Limit offset) = MeetsLimit file offset
+IsUnchecked file (refusals.Limit offset) = MeetsReadingLimit file offset
 IsUnchecked file refusals.Memory = Unit {0}
 
 abbrev pub Checked : List ℕ → Result Verdict ReadingRefused → Type 0
@@ -78,8 +78,8 @@ IsFault (refusals.Limit offset) = ⊥
 IsFault refusals.Memory = ⊥
 
 -- a source over the front of a store, which counts its own failures
-abbrev pub front_of : StoreState → ℕ → SourceState
-front_of store end = record { left = front_left store.bytes 0 end; faults = 0 }
+abbrev pub checked_front : StoreState → ℕ → SourceState
+checked_front store end = record { left = front_left store.bytes 0 end; faults = 0 }
 
 -- where the bytes up to the end have the head of a record at that offset, a length stands in it
 abbrev pub HeadStands : Option (List ℕ) → ℕ → ℕ → Type 0
@@ -104,14 +104,14 @@ abbrev pub AsksOnce : StoreState → StoreState → Type 0
 AsksOnce old new = (file : List ℕ) → old.bytes ≡ Some file → new.asked ≤ old.asked + (length file + margin)
 
 -- of the bytes up to the end each once, and a head
-abbrev pub AsksFront : StoreState → ℕ → StoreState → Type 0
-AsksFront old end new = (file : List ℕ) → old.bytes ≡ Some file → end ≤ length file → new.asked ≤ old.asked + (end + 9)
+abbrev pub AsksUpTo : StoreState → ℕ → StoreState → Type 0
+AsksUpTo old end new = (file : List ℕ) → old.bytes ≡ Some file → end ≤ length file → new.asked ≤ old.asked + (end + 9)
 
 -- ---- the data section
 
 -- the data section of a store was read in front of that end
 abbrev pub SectionReads : StoreState → ℕ → Result Section SectionRefused → Type 0
-SectionReads old end result = (now : SourceState) × Reads (front_of old end) now result
+SectionReads old end result = (now : SourceState) × ReadsSection (checked_front old end) now result
 
 -- the store failed where the reading did
 abbrev pub SectionCause : ℕ → ℕ → Result Section SectionRefused → Type 0
@@ -135,8 +135,8 @@ pub record EndsAtMagic (file : List ℕ) (end : ℕ) : Type 0 where
   pub fits : length file < 2 ^ 64
 
 -- what is told, by a store of these bytes, of a data section that was refused
-abbrev pub TellsRefused : Option (List ℕ) → ℕ → SectionRefused → Result Verdict ReadingRefused → Type 0
-TellsRefused told end why result = (old : StoreState) (now : SourceState) → old.bytes ≡ told → Reads (front_of old end) now (Err why)
+abbrev pub TellsSectionRefused : Option (List ℕ) → ℕ → SectionRefused → Result Verdict ReadingRefused → Type 0
+TellsSectionRefused told end why result = (old : StoreState) (now : SourceState) → old.bytes ≡ told → ReadsSection (checked_front old end) now (Err why)
     → (file : List ℕ) → told ≡ Some file → EndsAtMagic file end → Checked file result
 
 -- and its cause: where the reading had failed, the count of the store is told
@@ -156,7 +156,7 @@ pub record IsUnended (file : List ℕ) (len : ℕ) : Type 0 where
 
 -- what is told of it where its data section was refused
 abbrev pub TellsCutSection : Option (List ℕ) → ℕ → SectionRefused → Result Verdict ReadingRefused → Type 0
-TellsCutSection told len why result = (old : StoreState) (now : SourceState) → old.bytes ≡ told → Reads (front_of old len) now (Err why)
+TellsCutSection told len why result = (old : StoreState) (now : SourceState) → old.bytes ≡ told → ReadsSection (checked_front old len) now (Err why)
     → (file : List ℕ) → told ≡ Some file → IsUnended file len → Checked file result
 
 abbrev pub TellsUnended : Option (List ℕ) → ℕ → Result Verdict ReadingRefused → Type 0
@@ -165,7 +165,7 @@ TellsUnended told len result = (file : List ℕ) → told ≡ Some file → IsUn
 -- ---- behind the data section
 
 -- the data section of a file, whose last magic stands at that end, was read, and this was kept of it
-pub record FrontIs (file : List ℕ) (end : ℕ) (section : Section) : Type 0 where
+pub record IsSectionRead (file : List ℕ) (end : ℕ) (section : Section) : Type 0 where
   pub tops : List Top
   pub rest : List ℕ
   pub stand : Tops (take end file) tops rest
@@ -176,7 +176,7 @@ pub record FrontIs (file : List ℕ) (end : ℕ) (section : Section) : Type 0 wh
 
 -- what is told, by a store of these bytes, of a file whose data section was kept so
 abbrev pub TellsJudged : Option (List ℕ) → ℕ → Section → Result Verdict ReadingRefused → Type 0
-TellsJudged told end section result = (file : List ℕ) → told ≡ Some file → EndsAtMagic file end → FrontIs file end section → Checked file result
+TellsJudged told end section result = (file : List ℕ) → told ≡ Some file → EndsAtMagic file end → IsSectionRead file end section → Checked file result
 
 -- of a file whose last magic stands at that end
 abbrev pub TellsFile : Option (List ℕ) → ℕ → Result Verdict ReadingRefused → Type 0
@@ -192,6 +192,6 @@ told_by (Err (refusals.Compressed offset name)) counts = Err (refusals.Compresse
 told_by (Err (refusals.Limit offset)) counts = Err (refusals.Limit offset)
 told_by (Err refusals.Memory) counts = Err refusals.Memory
 
-abbrev pub Judges : List Top → List ℕ → Result Bool ReadingRefused → Type 0
-Judges tops rest (Ok indexed) = IsJudged tops rest indexed
-Judges tops rest (Err why) = IsRefusedBehind (file_of tops rest) why
+abbrev pub JudgesBehind : List Top → List ℕ → Result Bool ReadingRefused → Type 0
+JudgesBehind tops rest (Ok indexed) = IsJudged tops rest indexed
+JudgesBehind tops rest (Err why) = IsRefusedBehind (spelled_file tops rest) why

@@ -13,9 +13,9 @@ use Rattle.mcap_model.specs.declared.refusals.ReadingRefused.{ReadingRefused}
 use Rattle.mcap_model.specs.declared.refusals.ReadingRefused.TheVariants as refusals
 use Rattle.file_check.specs.declared.reading.SectionRefused.{SectionRefused}
 use Rattle.file_check.specs.LastChunk.{IndexFails}
-use Rattle.file_check.specs.Reading.{Reads}
+use Rattle.file_check.specs.Reading.{ReadsSection}
 use Rattle.file_check.specs.Halting.{lacks_magic, told_cut}
-use Rattle.file_check.specs.Checking.{IsFault, front_of}
+use Rattle.file_check.specs.Checking.{IsFault, checked_front}
 
 -- ---- the first magic
 
@@ -32,19 +32,19 @@ TellsUnbegun told result = (file : List ℕ) → told ≡ Some file → (V1 file
 
 -- The rule that is told of a file of that length, whose reading halts so. Where the data section is whole, and where the
 -- reading halts for no rule, the last magic is missing.
-abbrev pub told_of : ℕ → Halt → FailedRule
-told_of len (at_end offset) = lacks_magic len
-told_of len (grammar offset rule) = told_cut len offset rule
-told_of len (compressed offset name) = lacks_magic len
-told_of len (beyond offset) = lacks_magic len
+abbrev pub rule_told : ℕ → Halt → FailedRule
+rule_told len (at_end offset) = lacks_magic len
+rule_told len (grammar offset rule) = told_cut len offset rule
+rule_told len (compressed offset name) = lacks_magic len
+rule_told len (beyond offset) = lacks_magic len
 
 -- the reading of the file halts, and this is told of it
 pub record HaltIsTold (file : List ℕ) (rule offset : ℕ) : Type 0 where
   pub tops : List Top
   pub halt : Halt
   pub halts : Halts reading_limits file tops halt
-  pub rule_is : rule ≡ (told_of (length file) halt).rule
-  pub offset_is : offset ≡ (told_of (length file) halt).offset
+  pub rule_is : rule ≡ (rule_told (length file) halt).rule
+  pub offset_is : offset ≡ (rule_told (length file) halt).offset
 
 -- in front of that one of the good records breaks V9 there
 pub record IndexIsTold (file : List ℕ) (rule offset : ℕ) : Type 0 where
@@ -74,7 +74,7 @@ TellsCutFile told result = (file : List ℕ) → told ≡ Some file → V1 file 
 
 -- so it is told by a store of these bytes, of that length, whose data section was refused
 abbrev pub TellsCutRefusal : Option (List ℕ) → ℕ → SectionRefused → Result Verdict ReadingRefused → Type 0
-TellsCutRefusal told len why result = (old : StoreState) (now : SourceState) → old.bytes ≡ told → Reads (front_of old len) now (Err why)
+TellsCutRefusal told len why result = (old : StoreState) (now : SourceState) → old.bytes ≡ told → ReadsSection (checked_front old len) now (Err why)
     → (file : List ℕ) → told ≡ Some file → length file ≡ len → NamesCut file result
 
 -- of such a store, whatever became of its data section

@@ -39,7 +39,7 @@ RecordGathered given tops g (Ok (Some offset)) = IndexFails tops offset
 RecordGathered given tops g (Err memory) = Unit {0}
 
 -- this is known at the Data End of these records
-pub record IsDataEnd (tops : List Top) (end : DataEnd) : Type 0 where
+pub record KnownAtDataEnd (tops : List Top) (end : DataEnd) : Type 0 where
   pub tables : TablesOf (flat tops) end.tables
   pub tally : (section : List Top) → IsSection tops section → TallyOf tops section end.tally
   pub behind : end.behind ≡ offset_behind tops

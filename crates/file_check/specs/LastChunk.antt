@@ -5,18 +5,18 @@ use Rattle.mcap_model.specs.Places.{At}
 use Rattle.mcap_model.specs.Tops.{Top, offset_behind}
 use Rattle.mcap_model.specs.Whole.{offset_of, V9}
 use Rattle.mcap_model.specs.Valid.{Keeps}
-use Rattle.index_check.specs.Behind.{IsOpen}
+use Rattle.index_check.specs.Behind.{IsChunkOpen}
 use Rattle.index_check.specs.Chunks.{EndsWithChunk}
 use Rattle.file_check.specs.declared.last_chunk.LastChunk.{LastChunk}
 
 -- the records end with the chunk that is kept and its Message Indexes
-pub record IsKept (tops : List Top) (last : LastChunk) : Type 0 where
-  pub is : IsOpen tops last.messages last.channels
+pub record KeepsLastChunk (tops : List Top) (last : LastChunk) : Type 0 where
+  pub is : IsChunkOpen tops last.messages last.channels
   pub there : last.offset ≡ offset_behind is.others
 
 -- so do they, or with no chunk
 pub record LastOf (tops : List Top) (last : LastChunk) : Type 0 where
-  pub kept : last.is_open ≡ true → IsKept tops last
+  pub kept : last.is_open ≡ true → KeepsLastChunk tops last
   pub none : last.is_open ≡ false → EndsWithChunk tops → ⊥
 
 -- one of the records breaks V9 at that offset

@@ -11,7 +11,7 @@ use Rattle.mcap_model.specs.File.{file_of}
 use Rattle.mcap_model.specs.Whole.{StandsAt, IsWhole}
 use Rattle.mcap_model.specs.Valid.{IsValid}
 use Rattle.mcap_model.specs.Laws.{CanBeWritten}
-use Rattle.file_check.specs.Checking.{HaltsBefore, MeetsLimit}
+use Rattle.file_check.specs.Checking.{HaltsBefore, MeetsReadingLimit}
 
 -- a record of the file stands at that offset whose content, or whose end, is past a limit of reading
 pub record IsPastLimits (tops : List Top) (offset : ℕ) : Type 0 where
@@ -21,7 +21,7 @@ pub record IsPastLimits (tops : List Top) (offset : ℕ) : Type 0 where
 
 -- in a file of whole records a limit is met only at such a record
 abbrev pub LimitsAreReal : Type 0
-LimitsAreReal = (file : List ℕ) (tops : List Top) (offset : ℕ) → IsWhole file tops → MeetsLimit file offset → IsPastLimits tops offset
+LimitsAreReal = (file : List ℕ) (tops : List Top) (offset : ℕ) → IsWhole file tops → MeetsReadingLimit file offset → IsPastLimits tops offset
 
 -- neither a content of the file nor the file itself is longer than what is read
 pub record IsShort (file : List ℕ) : Type 0 where
@@ -30,12 +30,12 @@ pub record IsShort (file : List ℕ) : Type 0 where
 
 -- a short file of whole records meets no limit
 abbrev pub ShortFilesMeetNoLimit : Type 0
-ShortFilesMeetNoLimit = (file : List ℕ) (tops : List Top) (offset : ℕ) → IsWhole file tops → IsShort file → MeetsLimit file offset → ⊥
+ShortFilesMeetNoLimit = (file : List ℕ) (tops : List Top) (offset : ℕ) → IsWhole file tops → IsShort file → MeetsReadingLimit file offset → ⊥
 
 -- nor does a short one that is written
 abbrev pub WrittenFilesMeetNoLimit : Type 0
 WrittenFilesMeetNoLimit = (options : FileOptions) (extras : List Top) (history : List Rec) (offset : ℕ) → CanBeWritten options extras history
-    → IsShort (file_of options extras history) → MeetsLimit (file_of options extras history) offset → ⊥
+    → IsShort (file_of options extras history) → MeetsReadingLimit (file_of options extras history) offset → ⊥
 
 -- no reading of a valid file halts for a compression
 abbrev pub CompressionsExcludeValidity : Type 0

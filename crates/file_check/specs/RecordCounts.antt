@@ -17,7 +17,7 @@ pub record CountsOf (records : List Top) (c : RecordCounts) : Type 0 where
   pub channels : AreIds (HasChannel records) c.channels
 
 -- a Message of that log time was counted
-pub record Hears (old : RecordCounts) (time : ℕ) (new : RecordCounts) : Type 0 where
+pub record CountsMessage (old : RecordCounts) (time : ℕ) (new : RecordCounts) : Type 0 where
   pub messages : new.messages ≡ min (old.messages + 1) (2 ^ 64 - 1)
   pub any : new.any ≡ true
   pub first_least : old.any ≡ false → new.least ≡ time

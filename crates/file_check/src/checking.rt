@@ -5,7 +5,7 @@ ghost use Rattle.file_check.specs.declared.reading.SectionRefused.TheVariants as
 ghost use Rattle.mcap_model.specs.Tops.{Top};
 ghost use Rattle.index_check.specs.Section.{SectionOf};
 ghost use Rattle.summary_check.specs.Files.{IsOfSummary};
-ghost use Rattle.file_check.specs.Checking.{Counted, CheckCause, SectionReads, SectionCause, SectionAsks, AsksFront, TellsRefused, RefusedCause, TellsJudged, TellsFile, IsUnchecked, told_by};
+ghost use Rattle.file_check.specs.Checking.{CountsSection, CheckCause, SectionReads, SectionCause, SectionAsks, AsksUpTo, TellsSectionRefused, RefusedCause, TellsJudged, TellsFile, IsUnchecked, told_by};
 
 use crate::ends::tell_flaw;
 use crate::reading::{SectionRefused, read_section};
@@ -40,7 +40,7 @@ fn tell_scan<T: Store>(
 ) -> Result<Verdict, ReadingRefused>
     requires known { end ≤ (T.state store.old).known }
     requires long { 8 ≤ end }
-    ensures tells { TellsRefused (T.state store.old).bytes end (sections.Scan why) result }
+    ensures tells { TellsSectionRefused (T.state store.old).bytes end (sections.Scan why) result }
     ensures cause { RefusedCause (T.state store.old).faults (T.state store.new).faults (sections.Scan why) result }
     ensures asks { (T.state store.new).asked ≤ (T.state store.old).asked + 9 }
     ensures keeps { StoreStays (T.state store.old) (T.state store.new) }
@@ -76,7 +76,7 @@ fn tell_section<T: Store>(
 ) -> Result<Verdict, ReadingRefused>
     requires known { end ≤ (T.state store.old).known }
     requires long { 8 ≤ end }
-    ensures tells { TellsRefused (T.state store.old).bytes end why result }
+    ensures tells { TellsSectionRefused (T.state store.old).bytes end why result }
     ensures cause { RefusedCause (T.state store.old).faults (T.state store.new).faults why result }
     ensures asks { (T.state store.new).asked ≤ (T.state store.old).asked + 9 }
     ensures keeps { StoreStays (T.state store.old) (T.state store.new) }
@@ -89,7 +89,7 @@ fn tell_section<T: Store>(
 
 // The numbers of a data section.
 fn counts_of(section: &Section) -> Counts
-    ensures { (tops : List Top) → SectionOf tops section.now → Counted tops result }
+    ensures { (tops : List Top) → SectionOf tops section.now → CountsSection tops result }
 {
     Counts {
         messages: section.tally.messages,
@@ -181,7 +181,7 @@ pub(crate) fn check_records<T: Store>(
     requires fits { end + 8 < 2 ^ 64 }
     ensures tells { TellsFile (T.state store.old).bytes end result }
     ensures cause { CheckCause (T.state store.old).faults (T.state store.new).faults result }
-    ensures asks { AsksFront (T.state store.old) end (T.state store.new) }
+    ensures asks { AsksUpTo (T.state store.old) end (T.state store.new) }
     ensures keeps { StoreStays (T.state store.old) (T.state store.new) }
 {
     match read_front(alloc, store, end) {

@@ -8,7 +8,7 @@ ghost use Rattle.mcap_model.specs.Made.{top};
 ghost use Rattle.record_walk.specs.Walking.{placed_at};
 ghost use Rattle.index_check.specs.Section.{SectionOf};
 ghost use Rattle.index_check.specs.Tally.{TallyOf};
-ghost use Rattle.file_check.specs.Gathering.{GatheredOf, GatheredTo, StandBefore, RecordGathered, IsDataEnd};
+ghost use Rattle.file_check.specs.Gathering.{GatheredOf, GatheredTo, StandBefore, RecordGathered, KnownAtDataEnd};
 
 use crate::indexed_records::IndexedRecords;
 use crate::record_counts::RecordCounts;
@@ -102,7 +102,7 @@ impl Gathering {
 
     /// What is kept of the whole section, where the Data End was taken and this is known there.
     pub(crate) fn finish(self, end: DataEnd) -> Section
-        ensures { (tops : List Top) → GatheredOf tops self → Good reading_limits tops → HasDataEnd tops → IsDataEnd tops end → SectionOf tops result }
+        ensures { (tops : List Top) → GatheredOf tops self → Good reading_limits tops → HasDataEnd tops → KnownAtDataEnd tops end → SectionOf tops result }
     {
         let DataEnd {
             tables,

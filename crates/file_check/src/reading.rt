@@ -2,7 +2,7 @@
 ghost use Rattle.std.specs.Prelude.{◌≡◌, []};
 ghost use Rattle.record_walk.specs.Walking.{FlatStands};
 ghost use Rattle.file_check.specs.Gathering.{GatheredTo};
-ghost use Rattle.file_check.specs.Reading.{lacks_memory, Reads, Takes, ReadsOn};
+ghost use Rattle.file_check.specs.Reading.{memory_refusal, ReadsSection, TakesSection, ReadsCounted};
 
 use crate::gathering::{DataEnd, Gathering};
 use index_check::Section;
@@ -22,7 +22,7 @@ pub(crate) enum SectionRefused {
 
 // Memory lacked.
 fn lacked() -> SectionRefused
-    ensures { result ≡ lacks_memory }
+    ensures { result ≡ memory_refusal }
 {
     SectionRefused::Scan {
         why: ReadingRefused::Memory,
@@ -39,7 +39,7 @@ fn take_records<S: Source>(
 ) -> Result<Option<u64>, SectionRefused>
     requires stands { FlatStands reader.old (S.state source.old) (S.state source.old) [] [] }
     requires empty { GatheredTo [] gathering.old }
-    ensures takes { Takes (S.state source.old) (S.state source.new) reader.new gathering.new result }
+    ensures takes { TakesSection (S.state source.old) (S.state source.new) reader.new gathering.new result }
     ensures stays { S.stays source.old source.new }
 {
     'records: loop {
@@ -64,7 +64,7 @@ fn read_records<S: Source>(
     gathering: &mut Gathering,
 ) -> Result<DataEnd, SectionRefused>
     requires { GatheredTo [] gathering.old }
-    ensures reads { ReadsOn (S.state source.old) (S.state source.new) gathering.new result }
+    ensures reads { ReadsCounted (S.state source.old) (S.state source.new) gathering.new result }
     ensures stays { S.stays source.old source.new }
 {
     let mut reader = match FlatReader::new(alloc) {
@@ -98,7 +98,7 @@ pub(crate) fn read_section<S: Source>(
     alloc: Global,
     source: &mut S,
 ) -> Result<Section, SectionRefused>
-    ensures reads { Reads (S.state source.old) (S.state source.new) result }
+    ensures reads { ReadsSection (S.state source.old) (S.state source.new) result }
     ensures stays { S.stays source.old source.new }
 {
     let mut gathering = Gathering::new(alloc);

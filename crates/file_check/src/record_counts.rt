@@ -3,7 +3,7 @@ ghost use Rattle.std.specs.Prelude.{◌≡◌, ◌+◌, ◌^◌, ◌<◌, ◌∷
 ghost use Rattle.mcap_model.specs.Tops.{Top, is_flat_kind};
 ghost use Rattle.mcap_model.specs.Rules.{V6};
 ghost use Rattle.mcap_model.specs.Made.{top};
-ghost use Rattle.file_check.specs.RecordCounts.{CountsOf, Hears};
+ghost use Rattle.file_check.specs.RecordCounts.{CountsOf, CountsMessage};
 
 use crate::message_counts::MessageCounts;
 use index_check::Ids;
@@ -41,7 +41,7 @@ impl RecordCounts {
 
     // Counts a Message of that log time.
     fn hear(&mut self, time: u64)
-        ensures { Hears self.old time self.new }
+        ensures { CountsMessage self.old time self.new }
     {
         self.messages = self.messages.saturating_add(1);
         if self.any {

@@ -3,7 +3,7 @@ ghost use Rattle.std.specs.Prelude.{◌≡◌, ◌≤◌, ◌<◌, ◌+◌, ◌-
 ghost use Rattle.mcap_io.specs.Stores.{StoreStays};
 ghost use Rattle.file_check.specs.declared.reading.SectionRefused.TheVariants as sections;
 ghost use Rattle.mcap_model.specs.declared.checked.Verdict.TheVariants as verdicts;
-ghost use Rattle.file_check.specs.Checking.{CheckCause, AsksFront, RefusedCause, TellsCutSection, TellsUnended};
+ghost use Rattle.file_check.specs.Checking.{CheckCause, AsksUpTo, RefusedCause, TellsCutSection, TellsUnended};
 ghost use Rattle.file_check.specs.CutFiles.{TellsCutRefusal, TellsCutStore};
 
 use crate::checking::read_front;
@@ -97,7 +97,7 @@ pub(crate) fn check_unended<T: Store>(
     ensures tells { TellsUnended (T.state store.old).bytes len result }
     ensures cut { TellsCutStore (T.state store.old).bytes len result }
     ensures cause { CheckCause (T.state store.old).faults (T.state store.new).faults result }
-    ensures asks { AsksFront (T.state store.old) len (T.state store.new) }
+    ensures asks { AsksUpTo (T.state store.old) len (T.state store.new) }
     ensures keeps { StoreStays (T.state store.old) (T.state store.new) }
 {
     match read_front(alloc, store, len) {

@@ -15,17 +15,17 @@ use Rattle.command_base.specs.declared.file_reading.Reading.TheVariants as readi
 use Rattle.command_base.specs.Texts.{halt_status}
 use Rattle.command_base.specs.Ran.{Scene}
 use Rattle.command_base.specs.OneFile.{failing, refusal_ending, ending_status}
-use Rattle.command_base.specs.Readings.{IsSourceRead, Reads}
+use Rattle.command_base.specs.Readings.{IsSourceRead, ReadsFile}
 use Rattle.command_base.proofs.ReadNames.{source_shows, reads_not_two}
 use Rattle.command_base.proofs.Refusals.{refusal_is}
-use Rattle.file_commands.specs.Cat.{Selection, IsRefused, ComesTo, cat_ending, Cats}
+use Rattle.file_commands.specs.Cat.{Selection, IsUnprinted, ComesTo, cat_ending, Cats}
 
 -- the status of a printing is not that of bad words
 pub not_two : (asked : Selection) (file : List ℕ) (old new : Scene) (answer : ℕ) → Cats asked file old new answer → answer ≡ 2 → ⊥
 not_two asked file old new answer all two = reads_not_two (λ (t : List ℕ). t) (refusal_ending file) (refusal_is file) (IsSourceRead (ComesTo asked) file) kinds.Source file old new answer all.reads two
 
 -- what is said of a refused replay
-pub refused_so : (before now : SourceState) (why : ReadingRefused) → (tops : List Top) × RefusalStands why before now tops → IsRefused before now why
+pub refused_so : (before now : SourceState) (why : ReadingRefused) → (tops : List Top) × RefusalStands why before now tops → IsUnprinted before now why
 refused_so before now (refusals.Fault faults) stands = stands
 refused_so before now (refusals.Grammar offset rule) stands = stands
 refused_so before now (refusals.Compressed offset name) stands = stands
@@ -73,7 +73,7 @@ module _ (asked : Selection) (file bytes : List ℕ) (tops : List Top) (halt : H
   halted_so source now (Err refusals.Memory) here comes other = inr refl
 
 -- all that the program promises of a printing
-pub printed : (asked : Selection) (file : List ℕ) (old new : Scene) (answer : ℕ) → Reads (IsSourceRead (ComesTo asked) file) kinds.Source file (cat_ending file) old new answer → Cats asked file old new answer
+pub printed : (asked : Selection) (file : List ℕ) (old new : Scene) (answer : ℕ) → ReadsFile (IsSourceRead (ComesTo asked) file) kinds.Source file (cat_ending file) old new answer → Cats asked file old new answer
 printed asked file old new answer reads = record {
   reads = reads;
   decided = λ told bytes tops halt here there halts quiet.

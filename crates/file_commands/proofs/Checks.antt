@@ -17,7 +17,7 @@ use Rattle.command_base.specs.declared.file_reading.Reading.TheVariants as readi
 use Rattle.command_base.specs.Printing.{Tells, TellsAll, Takes}
 use Rattle.command_base.specs.Ran.{Scene}
 use Rattle.command_base.specs.OneFile.{failing, refusal_ending, ending_status}
-use Rattle.command_base.specs.Readings.{StoreUse, IsStoreRead, Reads}
+use Rattle.command_base.specs.Readings.{StoreUse, IsStoreRead, ReadsFile}
 use Rattle.command_base.proofs.ReadNames.{store_shows, read_is, reads_not_two}
 use Rattle.command_base.proofs.Refusals.{refusal_is}
 use Rattle.file_commands.specs.Check.{HasAnswer, counts_line, flaw_line, verdict_line, check_ending, verdict_status, reading_status, final_status, Decides, FileChecks}
@@ -106,7 +106,7 @@ none_complained (suc n) own e = sym (final_same (suc n) own (λ none. omega (ari
 -- ---- the command
 
 -- all that the program promises of a check
-pub checked : (file : List ℕ) (old new : Scene) (complained answer : ℕ) (reads : Reads (IsStoreRead HasAnswer file) kinds.Store file (check_ending file) old new complained) → answer ≡ final_status complained (reading_status reads.reading) → FileChecks file old new answer
+pub checked : (file : List ℕ) (old new : Scene) (complained answer : ℕ) (reads : ReadsFile (IsStoreRead HasAnswer file) kinds.Store file (check_ending file) old new complained) → answer ≡ final_status complained (reading_status reads.reading) → FileChecks file old new answer
 checked file old new complained answer reads final =
     let own = reading_status reads.reading in
     record {

@@ -15,14 +15,14 @@ use Rattle.command_base.specs.declared.file_reading.Reading.{Reading}
 use Rattle.command_base.specs.declared.file_reading.Reading.TheVariants as readings
 use Rattle.command_base.specs.Ran.{Scene}
 use Rattle.command_base.specs.OneFile.{failing}
-use Rattle.command_base.specs.Readings.{StoreUse, IsStoreRead, Reads}
+use Rattle.command_base.specs.Readings.{StoreUse, IsStoreRead, ReadsFile}
 use Rattle.command_base.proofs.ReadNames.{store_shows, reads_not_two}
 use Rattle.file_commands.specs.Cat.{Selection}
-use Rattle.file_commands.specs.Indexed.{ComesTo, led_ending, led_is, replay_ending, ShowsLed, ShowsScan, IndexedCats}
+use Rattle.file_commands.specs.Indexed.{IndexedComesTo, led_ending, led_is, replay_ending, ShowsLed, ShowsScan, IndexedCats}
 
 -- the status is not that of bad words
 pub indexed_not_two : (asked : Selection) (file : List ℕ) (old new : Scene) (answer : ℕ) → IndexedCats asked file old new answer → answer ≡ 2 → ⊥
-indexed_not_two asked file old new answer all two = reads_not_two (λ (t : List ℕ). t) (led_ending file) (led_is file) (IsStoreRead (ComesTo asked) file) kinds.Store file old new answer all.reads two
+indexed_not_two asked file old new answer all two = reads_not_two (λ (t : List ℕ). t) (led_ending file) (led_is file) (IsStoreRead (IndexedComesTo asked) file) kinds.Store file old new answer all.reads two
 
 -- ---- the bytes decide
 
@@ -35,14 +35,14 @@ module _ (asked : Selection) (file bytes : List ℕ) where
   unopened_so open_refusals.Failed other = other refl
   unopened_so open_refusals.Memory other = tt
 
-  shows_so : (store : StoreState) (now : StoreUse) (came : Result (List ℕ) IndexedRefused) → store.bytes ≡ Some bytes → ComesTo asked store now came → Decided (readings.Opened came)
+  shows_so : (store : StoreState) (now : StoreUse) (came : Result (List ℕ) IndexedRefused) → store.bytes ≡ Some bytes → IndexedComesTo asked store now came → Decided (readings.Opened came)
   shows_so store now (Ok text) here comes other =
       let led = comes.1.plays bytes here in
       (led.shown, led.replay, comes.2 led.shown led.shows)
   shows_so store now (Err why) here comes other = comes.plays bytes here
 
 module _ (asked : Selection) (bytes : List ℕ) (tops : List Top) (end : ℕ) (messages : List Seen) (full : IsFullyIndexed bytes) (halts : Halts reading_limits bytes tops (at_end end)) (scan : Scan tops messages) where
-  scan_so : (store : StoreState) (now : StoreUse) (came : Result (List ℕ) IndexedRefused) → store.bytes ≡ Some bytes → ComesTo asked store now came → ShowsScan asked messages (readings.Opened came)
+  scan_so : (store : StoreState) (now : StoreUse) (came : Result (List ℕ) IndexedRefused) → store.bytes ≡ Some bytes → IndexedComesTo asked store now came → ShowsScan asked messages (readings.Opened came)
   scan_so store now (Ok text) here comes =
       let played = comes.1.scanned bytes tops end messages here full halts scan in
       (played.0, played.1, comes.2 played.0 played.2)
@@ -56,12 +56,12 @@ module _ (asked : Selection) (bytes : List ℕ) (tops : List Top) (end : ℕ) (m
 -- ---- the command
 
 -- all that the program promises of a printing by the indexes
-pub printed : (asked : Selection) (file : List ℕ) (old new : Scene) (answer : ℕ) → Reads (IsStoreRead (ComesTo asked) file) kinds.Store file (replay_ending file) old new answer → IndexedCats asked file old new answer
+pub printed : (asked : Selection) (file : List ℕ) (old new : Scene) (answer : ℕ) → ReadsFile (IsStoreRead (IndexedComesTo asked) file) kinds.Store file (replay_ending file) old new answer → IndexedCats asked file old new answer
 printed asked file old new answer reads = record {
   reads = reads;
   decided = λ told bytes here there quiet.
       let (unnamed, unfailing, is) = reads.ran.calm quiet in
-      store_shows (Decided asked file bytes) file bytes old.world told here there (unopened_so asked file bytes) (ComesTo asked) (shows_so asked file bytes) reads.entries reads.reading reads.read unfailing;
+      store_shows (Decided asked file bytes) file bytes old.world told here there (unopened_so asked file bytes) (IndexedComesTo asked) (shows_so asked file bytes) reads.entries reads.reading reads.read unfailing;
   scanned = λ told bytes tops end messages here there full halts scan.
-      store_shows (ShowsScan asked messages) file bytes old.world told here there (λ why. tt) (ComesTo asked) (scan_so asked bytes tops end messages full halts scan) reads.entries reads.reading reads.read;
+      store_shows (ShowsScan asked messages) file bytes old.world told here there (λ why. tt) (IndexedComesTo asked) (scan_so asked bytes tops end messages full halts scan) reads.entries reads.reading reads.read;
 }

@@ -20,7 +20,7 @@ use Rattle.mcap_model.proofs.Places.{at_none, at_within, at_one, at_read, at_kep
 use Rattle.mcap_model.proofs.Lists.{pairs_from}
 use Rattle.mcap_model.proofs.Flat.{at_mapped}
 use Rattle.mcap_model.proofs.NamedTopics.{unmapped}
-use Rattle.file_commands.specs.Told.{IsNamed, AreNames}
+use Rattle.file_commands.specs.Told.{IsCompressionNamed, AreNames}
 
 abbrev pub Key : Type 0
 Key = Bor (List ℕ)
@@ -94,7 +94,7 @@ keys_rise ks sorted j k a b less at_j at_k =
     ∙ ap (λ (l : List ℕ). slice_cmp nat_cmp (get_or ks j x).now l) (sym two ∙ ap name_of (sym same_y))
     ∙ below
 
-named_wider : (indexes : List Top) (t : Top) (name : List ℕ) → IsNamed indexes name → IsNamed (indexes ++ t ∷ []) name
+named_wider : (indexes : List Top) (t : Top) (name : List ℕ) → IsCompressionNamed indexes name → IsCompressionNamed (indexes ++ t ∷ []) name
 named_wider indexes t name is = record { place = is.place; top = is.top; shown = is.shown; at = at_kept indexes (t ∷ []) is.place is.top is.at; is = is.is; same = is.same }
 
 -- one Chunk Index more
@@ -104,7 +104,7 @@ names_more indexes t f ks k shows named sorted was = record {
   rises = pairs_from (λ a b. slice_cmp nat_cmp a b ≡ Less) (map name_of (insert_key key_cmp ks k)) (keys_rise (insert_key key_cmp ks k) sorted);
   are = λ n name at.
       let (x, there, same) = unmapped name_of (insert_key key_cmp ks k) n name at in
-      subst (IsNamed (indexes ++ t ∷ [])) same (elim (inserted_back ks k n x there) [
+      subst (IsCompressionNamed (indexes ++ t ∷ [])) same (elim (inserted_back ks k n x there) [
         | inl (m, old) ↦ named_wider indexes t x.now (was.are m x.now (at_mapped name_of ks m x old))
         | inr last ↦ record { place = length indexes; top = t; shown = f; at = at_last indexes t []; is = shows; same = named ∙ ap name_of (sym last) }
       ]);

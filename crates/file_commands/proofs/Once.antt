@@ -20,7 +20,7 @@ use Rattle.mcap_model.proofs.Maps.{schema_once, shows_once}
 use Rattle.mcap_model.proofs.NamedTopics.{unmapped}
 use Rattle.mcap_model.proofs.Once.{statistics_once}
 use Rattle.summary_read.specs.Parts.{Parts}
-use Rattle.file_commands.specs.Firsts.{IsFirst, AreFirsts}
+use Rattle.file_commands.specs.Firsts.{IsFirstOfId, AreFirsts}
 use Rattle.file_commands.specs.Json.{Info}
 use Rattle.file_commands.specs.Told.{AreNames, IsTold, info_line}
 use Rattle.file_commands.specs.Laws.{OneText}
@@ -61,7 +61,7 @@ module _ {X : Type 0} (R : X → X → Type 0) (apart : (x y : X) → R x y → 
 -- ---- the first records
 
 module _ {F : Type 0} (Is : Top → ℕ → F → Type 0) (once : (t : Top) (id other : ℕ) (f g : F) → Is t id f → Is t other g → (id ≡ other) × (f ≡ g)) (tops : List Top) where
-  first_once : (id : ℕ) (f g : F) → IsFirst Is tops id f → IsFirst Is tops id g → f ≡ g
+  first_once : (id : ℕ) (f g : F) → IsFirstOfId Is tops id f → IsFirstOfId Is tops id g → f ≡ g
   first_once id f g one other = elim (cases_order one.place other.place) [
     | inl same ↦
         let top : one.top ≡ other.top = at_one tops other.place one.top other.top (subst (λ (n : ℕ). At tops n one.top) same one.at) other.at in
@@ -75,7 +75,7 @@ module _ {F : Type 0} (Is : Top → ℕ → F → Type 0) (once : (t : Top) (id 
       let first = one.are n c at in
       let (m, there) = other.all first.place c.0 first.top c.1 first.at first.is in
       let (d, in_ys, same) = unmapped (λ e. e.0) ys m c.0 there in
-      let shown : d.1 ≡ c.1 = first_once c.0 d.1 c.1 (subst (λ (id : ℕ). IsFirst Is tops id d.1) same (other.are m d in_ys)) first in
+      let shown : d.1 ≡ c.1 = first_once c.0 d.1 c.1 (subst (λ (id : ℕ). IsFirstOfId Is tops id d.1) same (other.are m d in_ys)) first in
       let pair : d ≡ c = λ i. (same i, shown i) in
       (m, subst (At ys m) pair in_ys)
 

@@ -8,22 +8,22 @@ use Rattle.mcap_model.proofs.Lists.{pairs_from}
 use Rattle.mcap_model.proofs.Flat.{at_mapped}
 use Rattle.mcap_model.proofs.NamedTopics.{zip_front, zip_back, zip_more}
 use Rattle.file_commands.specs.Firsts.{AreFirsts, ArePlaces}
-use Rattle.file_commands.specs.Writing.{ShownAt, AreIds}
+use Rattle.file_commands.specs.Writing.{ShownAt, ShowIds}
 
 module _ {F : Type 0} (Is : Top → ℕ → F → Type 0) (tops : List Top) where
-  pub ids_more : (ids : List ℕ) (i : ℕ) (t : Top) (id : ℕ) (f : F) → At tops i t → Is t id f → AreIds Is (take i tops) ids → AreIds Is (take (i + 1) tops) (ids ++ id ∷ [])
+  pub ids_more : (ids : List ℕ) (i : ℕ) (t : Top) (id : ℕ) (f : F) → At tops i t → Is t id f → ShowIds Is (take i tops) ids → ShowIds Is (take (i + 1) tops) (ids ++ id ∷ [])
   ids_more ids i t id f at is was =
       let within = at_within tops i t at in
       let there : t ≡ get_or tops i t = sym (at_one tops i (get_or tops i t) t (at_read tops i t within) at) in
       zip_more (λ u n. (g : F) × Is u n g) tops ids i t id within there was (f, is)
 
-  pub places_within : (ids places : List ℕ) → AreIds Is tops ids → ArePlaces ids places → Each (λ p. p < length tops) places
+  pub places_within : (ids places : List ℕ) → ShowIds Is tops ids → ArePlaces ids places → Each (λ p. p < length tops) places
   places_within ids places are first k p at =
       let (id, stands) = first.are k p at in
       let there = zip_back (λ u n. (g : F) × Is u n g) tops ids p id are stands.at in
       at_within tops p there.0 there.1
 
-  module _ (once : (t : Top) (id other : ℕ) (f g : F) → Is t id f → Is t other g → (id ≡ other) × (f ≡ g)) (ids places : List ℕ) (shown : List (ℕ × F)) (are : AreIds Is tops ids) (first : ArePlaces ids places)
+  module _ (once : (t : Top) (id other : ℕ) (f g : F) → Is t id f → Is t other g → (id ≡ other) × (f ≡ g)) (ids places : List ℕ) (shown : List (ℕ × F)) (are : ShowIds Is tops ids) (first : ArePlaces ids places)
       (zip : AllZip (ShownAt Is tops) places shown) where
     id_at : (n id : ℕ) (t : Top) (f : F) → At tops n t → Is t id f → At ids n id
     id_at n id t f at is =

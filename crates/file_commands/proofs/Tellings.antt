@@ -14,10 +14,10 @@ use Rattle.command_base.specs.declared.file_reading.Reading.TheVariants as readi
 use Rattle.command_base.specs.Printing.{TellsAll}
 use Rattle.command_base.specs.Ran.{Scene}
 use Rattle.command_base.specs.OneFile.{failing, indexed_ending}
-use Rattle.command_base.specs.Readings.{StoreUse, IsStoreRead, Reads}
+use Rattle.command_base.specs.Readings.{StoreUse, IsStoreRead, ReadsFile}
 use Rattle.command_base.proofs.ReadNames.{store_shows, read_is, reads_not_two}
 use Rattle.command_base.proofs.Refusals.{indexed_is}
-use Rattle.file_commands.specs.Info.{IsUntold, IsUntoldOf, InfoComesTo, info_ending, DescribesBytes, Describes}
+use Rattle.file_commands.specs.Info.{LacksStatistics, IsUntoldOf, InfoComesTo, info_ending, DescribesBytes, Describes}
 
 -- the status is not that of bad words
 pub not_two : (file : List ℕ) (old new : Scene) (answer : ℕ) → Describes file old new answer → answer ≡ 2 → ⊥
@@ -26,7 +26,7 @@ not_two file old new answer all two = reads_not_two (λ (t : List ℕ). t) (inde
 -- ---- the bytes decide
 
 module _ (file bytes : List ℕ) where
-  untold_so : (store : StoreState) (now : StoreUse) (why : NotIndexed) → store.bytes ≡ Some bytes → IsUntold store now why → IsUntoldOf bytes why
+  untold_so : (store : StoreState) (now : StoreUse) (why : NotIndexed) → store.bytes ≡ Some bytes → LacksStatistics store now why → IsUntoldOf bytes why
   untold_so store now lacks.NoSummary here is = is.0 bytes here
   untold_so store now lacks.NoStatistics here is = (is.0, (is.1.loads bytes here).0, is.2)
   untold_so store now (lacks.ChunkCount stated found) here is = is
@@ -53,7 +53,7 @@ module _ (file bytes : List ℕ) where
 -- ---- the command
 
 -- all that the program promises of a telling
-pub describes : (file : List ℕ) (old new : Scene) (answer : ℕ) → Reads (IsStoreRead InfoComesTo file) kinds.Store file (info_ending file) old new answer → Describes file old new answer
+pub describes : (file : List ℕ) (old new : Scene) (answer : ℕ) → ReadsFile (IsStoreRead InfoComesTo file) kinds.Store file (info_ending file) old new answer → Describes file old new answer
 describes file old new answer reads = record {
   reads = reads;
   decided = λ told bytes here there quiet.

@@ -15,7 +15,7 @@ use Rattle.command_base.specs.declared.file_reading.Reading.{Reading}
 use Rattle.command_base.specs.Texts.{halt_status}
 use Rattle.command_base.specs.Ran.{Scene, counts_in, AnyRose}
 use Rattle.command_base.specs.OneFile.{Ending, failing, refusal_ending}
-use Rattle.command_base.specs.Readings.{ending_of, IsSourceRead, Reads}
+use Rattle.command_base.specs.Readings.{ending_of, IsSourceRead, ReadsFile}
 use Rattle.command_base.proofs.Refusals.{refusal_fails, rises_some}
 
 -- which messages are asked for: of these log times, and of that topic, if any
@@ -42,23 +42,23 @@ pub record IsPrinted (asked : Selection) (before now : SourceState) (text : List
 
 -- The reading halted so, behind some records; or the source failed; or memory lacked, behind records that are good or for the
 -- lines once all was read.
-abbrev pub IsRefused : SourceState → SourceState → ReadingRefused → Type 0
-IsRefused before now (refusals.Fault faults) = (tops : List Top) × FaultStands faults before now tops
-IsRefused before now (refusals.Grammar n rule) = (tops : List Top) × HaltsSo before now tops (breaks n rule)
-IsRefused before now (refusals.Compressed n name) = (tops : List Top) × HaltsSo before now tops (names n name)
-IsRefused before now (refusals.Limit n) = (tops : List Top) × HaltsSo before now tops (beyond n)
-IsRefused before now refusals.Memory = ((tops : List Top) × MemoryStands before now tops) ⊎ ((tops : List Top) × (end : ℕ) × HaltsSo before now tops (at_end end))
+abbrev pub IsUnprinted : SourceState → SourceState → ReadingRefused → Type 0
+IsUnprinted before now (refusals.Fault faults) = (tops : List Top) × FaultStands faults before now tops
+IsUnprinted before now (refusals.Grammar n rule) = (tops : List Top) × HaltsSo before now tops (breaks n rule)
+IsUnprinted before now (refusals.Compressed n name) = (tops : List Top) × HaltsSo before now tops (names n name)
+IsUnprinted before now (refusals.Limit n) = (tops : List Top) × HaltsSo before now tops (beyond n)
+IsUnprinted before now refusals.Memory = ((tops : List Top) × MemoryStands before now tops) ⊎ ((tops : List Top) × (end : ℕ) × HaltsSo before now tops (at_end end))
 
 -- what the reading of a source came to
 abbrev pub ComesTo : Selection → SourceState → SourceState → Result (List ℕ) ReadingRefused → Type 0
 ComesTo asked before now (Ok text) = IsPrinted asked before now text
-ComesTo asked before now (Err why) = IsRefused before now why
+ComesTo asked before now (Err why) = IsUnprinted before now why
 
 -- one that failed has a source that failed
 pub cat_fails : (asked : Selection) (before now : SourceState) (file : List ℕ) (why : ReadingRefused) → ComesTo asked before now (Err why) → before.faults ≡ 0 → refusal_ending file why ≡ failing → now.faults ≡ 0 → ⊥
 cat_fails asked before now file why comes unused e none =
     let fault = refusal_fails file why e in
-    let stands = subst (IsRefused before now) fault.1 comes in
+    let stands = subst (IsUnprinted before now) fault.1 comes in
     rises_some before.faults now.faults stands.1.rises unused none
 
 -- how that ended
@@ -70,7 +70,7 @@ cat_ending file reading = ending_of (λ text. text) (refusal_ending file) readin
 -- what `cat` does without `--indexed`
 pub record Cats (asked : Selection) (file : List ℕ) (old new : Scene) (status : ℕ) : Type 0 where
   -- the file is read as a source; standard output takes the lines of the messages, and standard error the troubles
-  pub reads : Reads (IsSourceRead (ComesTo asked) file) kinds.Source file (cat_ending file) old new status
+  pub reads : ReadsFile (IsSourceRead (ComesTo asked) file) kinds.Source file (cat_ending file) old new status
   -- where the world tells, the bytes under the name decide the status, unless a count rises or memory lacks
   pub decided : (told : Told) (bytes : List ℕ) (tops : List Top) (halt : Halt) → old.world.told ≡ Some told → told.names file ≡ Some bytes → Halts reading_limits bytes tops halt
       → (AnyRose (counts_in old) (counts_in new) → ⊥) → (status ≡ halt_status halt) ⊎ (status ≡ 5)

@@ -11,14 +11,14 @@ use Rattle.mcap_model.specs.declared.checked.Verdict.TheVariants as verdicts
 use Rattle.mcap_model.specs.declared.refusals.ReadingRefused.{ReadingRefused}
 use Rattle.mcap_model.specs.declared.refusals.ReadingRefused.TheVariants as refusals
 use Rattle.mcap_model.specs.Kept.{compressed as names}
-use Rattle.file_check.specs.Checking.{IsSo, HaltsBefore, MeetsLimit, Checks, CheckCause, margin}
+use Rattle.file_check.specs.Checking.{IsSo, HaltsBefore, MeetsReadingLimit, Checks, CheckCause, margin}
 use Rattle.file_check.specs.CutFiles.{TellsUnbegun, TellsCutFile}
 use Rattle.command_base.specs.declared.file_reading.Reading.{Reading}
 use Rattle.command_base.specs.declared.file_reading.Reading.TheVariants as readings
 use Rattle.command_base.specs.Printing.{TellsAll}
 use Rattle.command_base.specs.Ran.{Scene, counts_in, AnyRose}
 use Rattle.command_base.specs.OneFile.{Ending, failing, refusal_ending, AskedRose}
-use Rattle.command_base.specs.Readings.{ending_of, StoreUse, IsStoreRead, Reads}
+use Rattle.command_base.specs.Readings.{ending_of, StoreUse, IsStoreRead, ReadsFile}
 use Rattle.command_base.proofs.Refusals.{refusal_fails, rises_some}
 
 -- ---- the file
@@ -42,14 +42,14 @@ check_fails store now file why answer unused e none =
 -- ---- the line
 
 -- a number behind its name
-unfoldable pub number_text : List ℕ → ℕ → List ℕ
-number_text name n = name ++ decimal n
+unfoldable pub named_number : List ℕ → ℕ → List ℕ
+named_number name n = name ++ decimal n
 
 -- ok KIND messages=A channels=B schemas=C chunks=D attachments=E metadata=F
 unfoldable pub counts_line : List ℕ → Numbers → List ℕ
-counts_line kind n = kind ++ (number_text (codes " messages=") n.messages ++ (number_text (codes " channels=") n.channels
-    ++ (number_text (codes " schemas=") n.schemas ++ (number_text (codes " chunks=") n.chunks
-    ++ (number_text (codes " attachments=") n.attachments ++ (number_text (codes " metadata=") n.metadata ++ codes "\n"))))))
+counts_line kind n = kind ++ (named_number (codes " messages=") n.messages ++ (named_number (codes " channels=") n.channels
+    ++ (named_number (codes " schemas=") n.schemas ++ (named_number (codes " chunks=") n.chunks
+    ++ (named_number (codes " attachments=") n.attachments ++ (named_number (codes " metadata=") n.metadata ++ codes "\n"))))))
 
 -- flaw Vk at N
 unfoldable pub flaw_line : ℕ → ℕ → List ℕ
@@ -89,7 +89,7 @@ Decides bytes (readings.Opened (Ok verdict)) status = IsSo bytes verdict × (sta
 Decides bytes (readings.Opened (Err (refusals.Fault faults))) status = ⊥
 Decides bytes (readings.Opened (Err (refusals.Grammar n rule))) status = ⊥
 Decides bytes (readings.Opened (Err (refusals.Compressed n name))) status = HaltsBefore bytes (names n name) × (status ≡ 1)
-Decides bytes (readings.Opened (Err (refusals.Limit n))) status = MeetsLimit bytes n × (status ≡ 4)
+Decides bytes (readings.Opened (Err (refusals.Limit n))) status = MeetsReadingLimit bytes n × (status ≡ 4)
 Decides bytes (readings.Opened (Err refusals.Memory)) status = status ≡ 5
 
 -- ---- the command
@@ -99,7 +99,7 @@ pub record FileChecks (file : List ℕ) (old new : Scene) (status : ℕ) : Type 
   -- the file is read as a store; standard output takes the line of the verdict, and standard error the troubles, which ask for
   -- this status
   pub complained : ℕ
-  pub reads : Reads (IsStoreRead HasAnswer file) kinds.Store file (check_ending file) old new complained
+  pub reads : ReadsFile (IsStoreRead HasAnswer file) kinds.Store file (check_ending file) old new complained
   pub status_is : status ≡ final_status complained (reading_status reads.reading)
   -- a count that rose is answered, also one that stands at the end of its type; and 3 is the answer only to such a count
   pub rose : AskedRose (counts_in old) (counts_in new) → (status ≡ 3) ⊎ (status ≡ 5)

@@ -18,14 +18,14 @@ use Rattle.mcap_model.specs.declared.refusals.ReadingRefused.TheVariants as refu
 use Rattle.mcap_model.specs.declared.refusals.IndexedRefused.{IndexedRefused}
 use Rattle.mcap_model.specs.declared.refusals.IndexedRefused.TheVariants as by_index
 use Rattle.indexed_replay.specs.Holding.{TellsRoom}
-use Rattle.indexed_replay.specs.Replaying.{IsReason, Plays, TellsChunks, TellsNoSummary, PlaysScan, ReplayCause}
+use Rattle.indexed_replay.specs.Replaying.{IsReason, PlaysIndexed, TellsChunks, TellsNoSummary, PlaysScan, ReplayCause}
 use Rattle.indexed_replay.specs.Played.{AsksIndexed, AsksUnloaded, AsksBound}
 use Rattle.command_base.specs.declared.file_reading.Reading.{Reading}
 use Rattle.command_base.specs.declared.file_reading.Reading.TheVariants as readings
 use Rattle.command_base.specs.Texts.{not_indexed, flaw}
 use Rattle.command_base.specs.Ran.{Scene, counts_in, AnyRose}
 use Rattle.command_base.specs.OneFile.{Ending, halted, failing, refusal_ending}
-use Rattle.command_base.specs.Readings.{IsRefusal, ending_of, StoreUse, IsStoreRead, Reads}
+use Rattle.command_base.specs.Readings.{IsRefusal, ending_of, StoreUse, IsStoreRead, ReadsFile}
 use Rattle.command_base.proofs.Refusals.{refusal_is, rises_some}
 use Rattle.file_commands.specs.Cat.{Selection}
 
@@ -38,7 +38,7 @@ now_of store now = record { bytes = store.bytes; known = store.known; faults = n
 -- what a replay of a store by its indexes comes to
 pub record Replays (asked : Selection) (store now : StoreState) (answer : Result Replayed IndexedRefused) : Type 0 where
   -- just the messages to which the indexes lead, or a reason that holds of the bytes
-  pub plays : Plays store.bytes asked.range asked.topic answer
+  pub plays : PlaysIndexed store.bytes asked.range asked.topic answer
   pub counted : TellsChunks store.bytes answer
   pub unsummed : TellsNoSummary store.bytes answer
   -- of a fully indexed file those of its scan
@@ -54,13 +54,13 @@ pub record Replays (asked : Selection) (store now : StoreState) (answer : Result
   pub cause : ReplayCause store.faults now.faults answer
 
 -- the lines of the messages that were replayed
-abbrev pub AreLines : Replayed → List ℕ → Type 0
-AreLines played text = (messages : List Seen) → Shows played messages → text ≡ cat_text messages
+abbrev pub AreReplayedLines : Replayed → List ℕ → Type 0
+AreReplayedLines played text = (messages : List Seen) → Shows played messages → text ≡ cat_text messages
 
 -- what the reading of a store came to
-abbrev pub ComesTo : Selection → StoreState → StoreUse → Result (List ℕ) IndexedRefused → Type 0
-ComesTo asked store now (Ok text) = (played : Replayed) × Replays asked store (now_of store now) (Ok played) × AreLines played text
-ComesTo asked store now (Err why) = Replays asked store (now_of store now) (Err why)
+abbrev pub IndexedComesTo : Selection → StoreState → StoreUse → Result (List ℕ) IndexedRefused → Type 0
+IndexedComesTo asked store now (Ok text) = (played : Replayed) × Replays asked store (now_of store now) (Ok played) × AreReplayedLines played text
+IndexedComesTo asked store now (Err why) = Replays asked store (now_of store now) (Err why)
 
 -- ---- how that ended
 
@@ -97,7 +97,7 @@ led_fault file (by_index.Refused (refusals.Compressed n name)) e = absurd cc
 led_fault file (by_index.Refused (refusals.Limit n)) e = absurd cc
 led_fault file (by_index.Refused refusals.Memory) e = absurd cc
 
-pub led_fails : (asked : Selection) (store : StoreState) (now : StoreUse) (file : List ℕ) (why : IndexedRefused) → ComesTo asked store now (Err why) → store.faults ≡ 0 → led_ending file why ≡ failing → now.faults ≡ 0 → ⊥
+pub led_fails : (asked : Selection) (store : StoreState) (now : StoreUse) (file : List ℕ) (why : IndexedRefused) → IndexedComesTo asked store now (Err why) → store.faults ≡ 0 → led_ending file why ≡ failing → now.faults ≡ 0 → ⊥
 led_fails asked store now file why comes unused e none =
     let fault = led_fault file why e in
     let cause = subst (λ (w : IndexedRefused). ReplayCause {P = Replayed} store.faults now.faults (Err w)) fault.1 comes.cause in
@@ -131,7 +131,7 @@ ShowsScan asked messages (readings.Opened (Err why)) = IsNoFlaw why
 -- what `cat --indexed` does
 pub record IndexedCats (asked : Selection) (file : List ℕ) (old new : Scene) (status : ℕ) : Type 0 where
   -- the file is read as a store; standard output takes the lines of the messages, and standard error the troubles
-  pub reads : Reads (IsStoreRead (ComesTo asked) file) kinds.Store file (replay_ending file) old new status
+  pub reads : ReadsFile (IsStoreRead (IndexedComesTo asked) file) kinds.Store file (replay_ending file) old new status
   -- where the world tells, the bytes under the name decide what it came to, unless a count rises
   pub decided : (told : Told) (bytes : List ℕ) → old.world.told ≡ Some told → told.names file ≡ Some bytes
       → (AnyRose (counts_in old) (counts_in new) → ⊥) → ShowsLed asked bytes reads.reading

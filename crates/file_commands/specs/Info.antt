@@ -12,13 +12,13 @@ use Rattle.mcap_model.specs.declared.refusals.NotIndexed.TheVariants as lacks
 use Rattle.mcap_model.specs.declared.refusals.IndexedRefused.{IndexedRefused}
 use Rattle.mcap_model.specs.declared.refusals.IndexedRefused.TheVariants as by_index
 use Rattle.summary_read.specs.Parts.{Parts, IsLoaded}
-use Rattle.summary_read.specs.Loading.{IsRefused, Loads, LoadCause, AskedFor}
+use Rattle.summary_read.specs.Loading.{IsLoadRefused, Loads, LoadCause, AskedFor}
 use Rattle.command_base.specs.declared.file_reading.Reading.{Reading}
 use Rattle.command_base.specs.declared.file_reading.Reading.TheVariants as readings
 use Rattle.command_base.specs.Printing.{TellsAll}
 use Rattle.command_base.specs.Ran.{Scene, counts_in, AnyRose}
 use Rattle.command_base.specs.OneFile.{Ending, failing, indexed_ending}
-use Rattle.command_base.specs.Readings.{ending_of, StoreUse, IsStoreRead, Reads}
+use Rattle.command_base.specs.Readings.{ending_of, StoreUse, IsStoreRead, ReadsFile}
 use Rattle.command_base.proofs.Refusals.{indexed_fails, rises_some}
 use Rattle.file_commands.specs.Told.{InfoText}
 
@@ -30,41 +30,41 @@ pub record HasLoaded (store : StoreState) (now : StoreUse) (parts : Parts) : Typ
   pub still : now.faults ≡ store.faults
 
 -- it wasn't, for that reason
-abbrev pub IsUnloaded : StoreState → StoreUse → IndexedRefused → Type 0
-IsUnloaded store now why = Loads store.bytes (Err why) × LoadCause {P = Parts} store.faults now.faults (Err why)
+abbrev pub LoadIsRefused : StoreState → StoreUse → IndexedRefused → Type 0
+LoadIsRefused store now why = Loads store.bytes (Err why) × LoadCause {P = Parts} store.faults now.faults (Err why)
 
 -- there is no summary, or it was loaded and has no Statistics
-abbrev pub IsUntold : StoreState → StoreUse → NotIndexed → Type 0
-IsUntold store now lacks.NoSummary = IsUnloaded store now (by_index.NotIndexed lacks.NoSummary)
-IsUntold store now lacks.NoStatistics = (parts : Parts) × HasLoaded store now parts × (parts.statistics ≡ None)
-IsUntold store now (lacks.ChunkCount stated found) = ⊥
-IsUntold store now (lacks.NoMessageIndex chunk) = ⊥
-IsUntold store now (lacks.NoChannel id) = ⊥
+abbrev pub LacksStatistics : StoreState → StoreUse → NotIndexed → Type 0
+LacksStatistics store now lacks.NoSummary = LoadIsRefused store now (by_index.NotIndexed lacks.NoSummary)
+LacksStatistics store now lacks.NoStatistics = (parts : Parts) × HasLoaded store now parts × (parts.statistics ≡ None)
+LacksStatistics store now (lacks.ChunkCount stated found) = ⊥
+LacksStatistics store now (lacks.NoMessageIndex chunk) = ⊥
+LacksStatistics store now (lacks.NoChannel id) = ⊥
 
 -- there is no summary to be loaded; or memory lacked for that, or for the line of one that was
-abbrev pub IsUnread : StoreState → StoreUse → ReadingRefused → Type 0
-IsUnread store now (refusals.Fault faults) = IsUnloaded store now (by_index.Refused (refusals.Fault faults))
-IsUnread store now (refusals.Grammar offset rule) = IsUnloaded store now (by_index.Refused (refusals.Grammar offset rule))
-IsUnread store now (refusals.Compressed offset name) = ⊥
-IsUnread store now (refusals.Limit offset) = IsUnloaded store now (by_index.Refused (refusals.Limit offset))
-IsUnread store now refusals.Memory = IsUnloaded store now (by_index.Refused refusals.Memory) ⊎ ((parts : Parts) × HasLoaded store now parts)
+abbrev pub IsSummaryUnread : StoreState → StoreUse → ReadingRefused → Type 0
+IsSummaryUnread store now (refusals.Fault faults) = LoadIsRefused store now (by_index.Refused (refusals.Fault faults))
+IsSummaryUnread store now (refusals.Grammar offset rule) = LoadIsRefused store now (by_index.Refused (refusals.Grammar offset rule))
+IsSummaryUnread store now (refusals.Compressed offset name) = ⊥
+IsSummaryUnread store now (refusals.Limit offset) = LoadIsRefused store now (by_index.Refused (refusals.Limit offset))
+IsSummaryUnread store now refusals.Memory = LoadIsRefused store now (by_index.Refused refusals.Memory) ⊎ ((parts : Parts) × HasLoaded store now parts)
 
 -- what was found of it
-abbrev pub Finds : StoreState → StoreUse → Result (List ℕ) IndexedRefused → Type 0
-Finds store now (Ok text) = (parts : Parts) × HasLoaded store now parts × InfoText parts text
-Finds store now (Err (by_index.NotIndexed why)) = IsUntold store now why
-Finds store now (Err (by_index.Refused why)) = IsUnread store now why
+abbrev pub FindsInfo : StoreState → StoreUse → Result (List ℕ) IndexedRefused → Type 0
+FindsInfo store now (Ok text) = (parts : Parts) × HasLoaded store now parts × InfoText parts text
+FindsInfo store now (Err (by_index.NotIndexed why)) = LacksStatistics store now why
+FindsInfo store now (Err (by_index.Refused why)) = IsSummaryUnread store now why
 
 -- what the telling of a store came to: only the ends of the file and its summary were asked for
 pub record InfoComesTo (store : StoreState) (now : StoreUse) (came : Result (List ℕ) IndexedRefused) : Type 0 where
-  pub finds : Finds store now came
+  pub finds : FindsInfo store now came
   pub asks : (file : List ℕ) → store.bytes ≡ Some file → AskedFor file store.asked now.asked
 
 -- one that failed has a store that failed
 pub info_fails : (store : StoreState) (now : StoreUse) (file : List ℕ) (why : IndexedRefused) → InfoComesTo store now (Err why) → store.faults ≡ 0 → indexed_ending file why ≡ failing → now.faults ≡ 0 → ⊥
 info_fails store now file why comes unused e none =
     let fault = indexed_fails file why e in
-    let finds = subst (λ (w : IndexedRefused). Finds store now (Err w)) fault.1 comes.finds in
+    let finds = subst (λ (w : IndexedRefused). FindsInfo store now (Err w)) fault.1 comes.finds in
     rises_some store.faults now.faults finds.1.0 unused none
 
 -- how that ended
@@ -73,7 +73,7 @@ info_ending file reading = ending_of (λ text. text) (indexed_ending file) readi
 
 -- Where nothing failed, what isn't told of them is so by these bytes.
 abbrev pub IsUntoldOf : List ℕ → NotIndexed → Type 0
-IsUntoldOf bytes lacks.NoSummary = IsRefused bytes (by_index.NotIndexed lacks.NoSummary)
+IsUntoldOf bytes lacks.NoSummary = IsLoadRefused bytes (by_index.NotIndexed lacks.NoSummary)
 IsUntoldOf bytes lacks.NoStatistics = (parts : Parts) × IsLoaded bytes parts × (parts.statistics ≡ None)
 IsUntoldOf bytes (lacks.ChunkCount stated found) = ⊥
 IsUntoldOf bytes (lacks.NoMessageIndex chunk) = ⊥
@@ -81,9 +81,9 @@ IsUntoldOf bytes (lacks.NoChannel id) = ⊥
 
 abbrev pub IsUnreadOf : List ℕ → ReadingRefused → Type 0
 IsUnreadOf bytes (refusals.Fault faults) = ⊥
-IsUnreadOf bytes (refusals.Grammar offset rule) = IsRefused bytes (by_index.Refused (refusals.Grammar offset rule))
+IsUnreadOf bytes (refusals.Grammar offset rule) = IsLoadRefused bytes (by_index.Refused (refusals.Grammar offset rule))
 IsUnreadOf bytes (refusals.Compressed offset name) = ⊥
-IsUnreadOf bytes (refusals.Limit offset) = IsRefused bytes (by_index.Refused (refusals.Limit offset))
+IsUnreadOf bytes (refusals.Limit offset) = IsLoadRefused bytes (by_index.Refused (refusals.Limit offset))
 IsUnreadOf bytes refusals.Memory = Unit {0}
 
 -- And so is the line.
@@ -99,7 +99,7 @@ DescribesBytes bytes (readings.Opened (Err (by_index.Refused why))) = IsUnreadOf
 -- what `info` does
 pub record Describes (file : List ℕ) (old new : Scene) (status : ℕ) : Type 0 where
   -- the file is read as a store; standard output takes the line, and standard error the troubles
-  pub reads : Reads (IsStoreRead InfoComesTo file) kinds.Store file (info_ending file) old new status
+  pub reads : ReadsFile (IsStoreRead InfoComesTo file) kinds.Store file (info_ending file) old new status
   -- where the world tells, the bytes under the name decide what it came to, unless a count rises
   pub decided : (told : Told) (bytes : List ℕ) → old.world.told ≡ Some told → told.names file ≡ Some bytes
       → (AnyRose (counts_in old) (counts_in new) → ⊥) → DescribesBytes bytes reads.reading

@@ -20,7 +20,7 @@ use Rattle.file_commands.specs.Firsts.{AreFirsts}
 use Rattle.file_commands.specs.Json.{Info, info_value}
 
 -- one of these Chunk Indexes names that compression
-pub record IsNamed (indexes : List Top) (name : List ℕ) : Type 0 where
+pub record IsCompressionNamed (indexes : List Top) (name : List ℕ) : Type 0 where
   pub place : ℕ
   pub top : Top
   pub shown : ChunkIndexFields
@@ -31,8 +31,8 @@ pub record IsNamed (indexes : List Top) (name : List ℕ) : Type 0 where
 -- the compressions that these Chunk Indexes name, each once, in the ascending order of their bytes
 pub record AreNames (indexes : List Top) (names : List (List ℕ)) : Type 0 where
   pub rises : AllPairs (λ a b. slice_cmp nat_cmp a b ≡ Less) names
-  pub are : Each (IsNamed indexes) names
-  pub all : (name : List ℕ) → IsNamed indexes name → Has names name
+  pub are : Each (IsCompressionNamed indexes) names
+  pub all : (name : List ℕ) → IsCompressionNamed indexes name → Has names name
 
 -- this is told of the parts of a file
 pub record IsTold (p : Parts) (i : Info) : Type 0 where

@@ -13,7 +13,7 @@ use Rattle.file_commands.specs.Json.{Info}
 use Rattle.file_commands.specs.Told.{AreNames, info_line}
 
 -- these tokens were added
-pub record Adds (old new : Written) (ts : List Token) : Type 0 where
+pub record AddsTokens (old new : Written) (ts : List Token) : Type 0 where
   pub before : new.before ≡ old.before
   pub tokens : new.tokens ≡ old.tokens ++ ts
 
@@ -22,8 +22,8 @@ abbrev pub ShownAt : {F : Type 0} → (Top → ℕ → F → Type 0) → List To
 ShownAt Is tops place c = (t : Top) × At tops place t × Is t c.0 c.1
 
 -- the records show these ids
-abbrev pub AreIds : {F : Type 0} → (Top → ℕ → F → Type 0) → List Top → List ℕ → Type 0
-AreIds {F} Is tops ids = AllZip (λ t id. (f : F) × Is t id f) tops ids
+abbrev pub ShowIds : {F : Type 0} → (Top → ℕ → F → Type 0) → List Top → List ℕ → Type 0
+ShowIds {F} Is tops ids = AllZip (λ t id. (f : F) × Is t id f) tops ids
 
 -- what is told of these parts and of these Statistics
 pub record ShowsParts (p : Parts) (statistics : StatisticsFields) (i : Info) : Type 0 where
@@ -34,5 +34,5 @@ pub record ShowsParts (p : Parts) (statistics : StatisticsFields) (i : Info) : T
   pub compressions : AreNames p.chunk_indexes i.compressions
 
 -- the text tells it
-abbrev pub Spells : Parts → StatisticsFields → List ℕ → Type 0
-Spells p statistics text = (i : Info) × ShowsParts p statistics i × (text ≡ info_line i)
+abbrev pub SpellsInfo : Parts → StatisticsFields → List ℕ → Type 0
+SpellsInfo p statistics text = (i : Info) × ShowsParts p statistics i × (text ≡ info_line i)

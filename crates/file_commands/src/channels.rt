@@ -9,7 +9,7 @@ ghost use Rattle.mcap_model.specs.Places.{Each};
 ghost use Rattle.file_commands.specs.Counts.{IsCountTable};
 ghost use Rattle.file_commands.specs.Firsts.{AreFirsts};
 ghost use Rattle.file_commands.specs.Json.{channel_value, channels_value};
-ghost use Rattle.file_commands.specs.Writing.{Adds, AreIds, ShownAt};
+ghost use Rattle.file_commands.specs.Writing.{AddsTokens, ShowIds, ShownAt};
 
 use crate::counts::{count_table, told};
 use crate::firsts::first_places;
@@ -24,7 +24,7 @@ use summary_read::Loaded;
 
 // The ids of the Channels, in their order.
 fn channel_ids(alloc: Global, loaded: &Loaded) -> Result<Vec<u16>, Memory>
-    ensures { IfOk result (λ ids. AreIds IsChannel loaded.now.channels ids.items) }
+    ensures { IfOk result (λ ids. ShowIds IsChannel loaded.now.channels ids.items) }
 {
     let mut ids = Vec::new(alloc);
     'channels: for i in 0..loaded.channels() {
@@ -38,7 +38,7 @@ fn channel_ids(alloc: Global, loaded: &Loaded) -> Result<Vec<u16>, Memory>
 
 // Writes a Channel with the count of its messages.
 fn put_channel(out: &mut Writer, channel: &Channel<'_>, table: &[u64]) -> Result<(), Memory>
-    ensures { OnOk result ((counts : List (ℕ × ℕ)) → IsCountTable counts table.now → Adds out.old out.new (json_tokens (channel_value counts (channel.now.id, channel_fields channel.now)))) }
+    ensures { OnOk result ((counts : List (ℕ × ℕ)) → IsCountTable counts table.now → AddsTokens out.old out.new (json_tokens (channel_value counts (channel.now.id, channel_fields channel.now)))) }
 {
     open_object(out)?;
     put_count(out, "count", told(table, channel.id))?;
@@ -59,7 +59,7 @@ fn put_places(
 ) -> Result<(), Memory>
     requires { Each (λ p. p < length loaded.now.channels) places.now }
     ensures { OnOk result ((shown : List (ℕ × ChannelFields)) × AllZip (ShownAt IsChannel loaded.now.channels) places.now shown
-        × ((counts : List (ℕ × ℕ)) → IsCountTable counts table.now → Adds out.old out.new (json_tokens (channels_value counts shown)))) }
+        × ((counts : List (ℕ × ℕ)) → IsCountTable counts table.now → AddsTokens out.old out.new (json_tokens (channels_value counts shown)))) }
 {
     open_array(out)?;
     'places: for i in 0..places.len() {
@@ -81,7 +81,7 @@ pub(crate) fn put_channels(
     counts: &CountsRef<'_>,
 ) -> Result<(), Memory>
     ensures { OnOk result ((shown : List (ℕ × ChannelFields)) × AreFirsts IsChannel loaded.now.channels shown
-        × Adds out.old out.new (json_tokens (channels_value counts.now shown))) }
+        × AddsTokens out.old out.new (json_tokens (channels_value counts.now shown))) }
 {
     let ids = channel_ids(alloc, loaded)?;
     let places = first_places(alloc, &ids)?;

@@ -5,7 +5,7 @@ ghost use Rattle.command_base.specs.Texts.{complained};
 ghost use Rattle.command_base.specs.Ran.{scene};
 ghost use Rattle.command_base.specs.OneFile.{troubles_in, is_lack};
 ghost use Rattle.file_commands.specs.Cat.{selection};
-ghost use Rattle.file_commands.specs.Indexed.{ComesTo, broken_ending, led_ending, led_is, led_fails, IndexedCats};
+ghost use Rattle.file_commands.specs.Indexed.{IndexedComesTo, broken_ending, led_ending, led_is, led_fails, IndexedCats};
 
 use command_base::{Complaint, FileReading, StoreReading, answer_store, reading_complaint};
 use indexed_replay::replay_kept;
@@ -91,7 +91,7 @@ impl FileReading for Following<'_> {
 }
 
 impl StoreReading for Following<'_> {
-    ghost comes = { λ s before now came. ComesTo (selection s.range (asked_topic s.topic)) before now came };
+    ghost comes = { λ s before now came. IndexedComesTo (selection s.range (asked_topic s.topic)) before now came };
 
     // Takes all the memory that the lines of the messages want.
     fn read_store<T: Store>(&self, store: &mut T) -> Result<Printer, IndexedRefused> {

@@ -4,7 +4,7 @@ ghost use Rattle.json.specs.Tree.{json_tokens};
 ghost use Rattle.rec_index.specs.Parsed.{statistics_fields};
 ghost use Rattle.file_commands.specs.Json.{Info, info_value};
 ghost use Rattle.file_commands.specs.Told.{Informs};
-ghost use Rattle.file_commands.specs.Writing.{Adds, ShowsParts, Spells};
+ghost use Rattle.file_commands.specs.Writing.{AddsTokens, ShowsParts, SpellsInfo};
 
 use crate::channels::put_channels;
 use crate::members::{close_object, open_object, put_name, put_number, put_text};
@@ -24,7 +24,7 @@ fn put_info(
     loaded: &Loaded,
     statistics: &Statistics<'_>,
 ) -> Result<(), Memory>
-    ensures { OnOk result ((i : Info) × ShowsParts loaded.now (statistics_fields statistics.now) i × Adds out.old out.new (json_tokens (info_value i))) }
+    ensures { OnOk result ((i : Info) × ShowsParts loaded.now (statistics_fields statistics.now) i × AddsTokens out.old out.new (json_tokens (info_value i))) }
 {
     let header = loaded.header();
     open_object(out)?;
@@ -48,7 +48,7 @@ fn put_info(
 
 // The line that tells of a file with these Statistics.
 fn line_of(alloc: Global, loaded: &Loaded, statistics: &Statistics<'_>) -> Result<Bytes, Memory>
-    ensures { IfOk result (λ text. Spells loaded.now (statistics_fields statistics.now) text) }
+    ensures { IfOk result (λ text. SpellsInfo loaded.now (statistics_fields statistics.now) text) }
 {
     let mut out = Writer::new(Vec::new(alloc));
     match put_info(alloc, &mut out, loaded, statistics) {

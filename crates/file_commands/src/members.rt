@@ -3,13 +3,13 @@ ghost use Rattle.std.specs.Prelude.{◌∷◌, [], decimal, None, OnOk};
 ghost use Rattle.json.specs.Token.{begin_object, end_object, begin_array, end_array, key, number, string};
 ghost use Rattle.json.specs.Tree.{json_tokens};
 ghost use Rattle.file_commands.specs.Json.{count_value};
-ghost use Rattle.file_commands.specs.Writing.{Adds};
+ghost use Rattle.file_commands.specs.Writing.{AddsTokens};
 
 use json::Writer;
 use mcap_wire::Memory;
 
 pub(crate) fn open_object(out: &mut Writer) -> Result<(), Memory>
-    ensures { OnOk result (Adds out.old out.new (begin_object ∷ [])) }
+    ensures { OnOk result (AddsTokens out.old out.new (begin_object ∷ [])) }
 {
     match out.begin_object() {
         Ok(()) => return Ok(()),
@@ -18,7 +18,7 @@ pub(crate) fn open_object(out: &mut Writer) -> Result<(), Memory>
 }
 
 pub(crate) fn close_object(out: &mut Writer) -> Result<(), Memory>
-    ensures { OnOk result (Adds out.old out.new (end_object ∷ [])) }
+    ensures { OnOk result (AddsTokens out.old out.new (end_object ∷ [])) }
 {
     match out.end_object() {
         Ok(()) => return Ok(()),
@@ -27,7 +27,7 @@ pub(crate) fn close_object(out: &mut Writer) -> Result<(), Memory>
 }
 
 pub(crate) fn open_array(out: &mut Writer) -> Result<(), Memory>
-    ensures { OnOk result (Adds out.old out.new (begin_array ∷ [])) }
+    ensures { OnOk result (AddsTokens out.old out.new (begin_array ∷ [])) }
 {
     match out.begin_array() {
         Ok(()) => return Ok(()),
@@ -36,7 +36,7 @@ pub(crate) fn open_array(out: &mut Writer) -> Result<(), Memory>
 }
 
 pub(crate) fn close_array(out: &mut Writer) -> Result<(), Memory>
-    ensures { OnOk result (Adds out.old out.new (end_array ∷ [])) }
+    ensures { OnOk result (AddsTokens out.old out.new (end_array ∷ [])) }
 {
     match out.end_array() {
         Ok(()) => return Ok(()),
@@ -46,7 +46,7 @@ pub(crate) fn close_array(out: &mut Writer) -> Result<(), Memory>
 
 // Writes a name, before an array.
 pub(crate) fn put_name(out: &mut Writer, name: &str) -> Result<(), Memory>
-    ensures { OnOk result (Adds out.old out.new (key name.now ∷ [])) }
+    ensures { OnOk result (AddsTokens out.old out.new (key name.now ∷ [])) }
 {
     match out.key(name) {
         Ok(()) => return Ok(()),
@@ -56,7 +56,7 @@ pub(crate) fn put_name(out: &mut Writer, name: &str) -> Result<(), Memory>
 
 // Writes a name and a number.
 pub(crate) fn put_number(out: &mut Writer, name: &str, n: u64) -> Result<(), Memory>
-    ensures { OnOk result (Adds out.old out.new (key name.now ∷ number (decimal n) ∷ [])) }
+    ensures { OnOk result (AddsTokens out.old out.new (key name.now ∷ number (decimal n) ∷ [])) }
 {
     match out.key(name) {
         Ok(()) => {}
@@ -70,7 +70,7 @@ pub(crate) fn put_number(out: &mut Writer, name: &str, n: u64) -> Result<(), Mem
 
 // Writes a name and a text.
 pub(crate) fn put_text(out: &mut Writer, name: &str, text: &str) -> Result<(), Memory>
-    ensures { OnOk result (Adds out.old out.new (key name.now ∷ string text.now ∷ [])) }
+    ensures { OnOk result (AddsTokens out.old out.new (key name.now ∷ string text.now ∷ [])) }
 {
     match out.key(name) {
         Ok(()) => {}
@@ -84,7 +84,7 @@ pub(crate) fn put_text(out: &mut Writer, name: &str, text: &str) -> Result<(), M
 
 // Writes a name and a number, or null where it isn't known.
 pub(crate) fn put_count(out: &mut Writer, name: &str, n: Option<u64>) -> Result<(), Memory>
-    ensures { OnOk result (Adds out.old out.new (key name.now ∷ json_tokens (count_value n))) }
+    ensures { OnOk result (AddsTokens out.old out.new (key name.now ∷ json_tokens (count_value n))) }
 {
     let n = match n {
         Some(n) => n,
@@ -95,7 +95,7 @@ pub(crate) fn put_count(out: &mut Writer, name: &str, n: Option<u64>) -> Result<
 
 // Writes a name and null.
 fn put_null(out: &mut Writer, name: &str) -> Result<(), Memory>
-    ensures { OnOk result (Adds out.old out.new (key name.now ∷ json_tokens (count_value None))) }
+    ensures { OnOk result (AddsTokens out.old out.new (key name.now ∷ json_tokens (count_value None))) }
 {
     match out.key(name) {
         Ok(()) => {}

@@ -5,7 +5,7 @@ ghost use Rattle.json.specs.Token.{string};
 ghost use Rattle.json.specs.Tree.{json_tokens};
 ghost use Rattle.file_commands.specs.Json.{names_value};
 ghost use Rattle.file_commands.specs.Told.{AreNames};
-ghost use Rattle.file_commands.specs.Writing.{Adds};
+ghost use Rattle.file_commands.specs.Writing.{AddsTokens};
 
 use crate::members::{close_array, open_array};
 use json::Writer;
@@ -29,7 +29,7 @@ fn names_of<'a>(alloc: Global, loaded: &'a Loaded) -> Result<BTreeSet<&'a str>, 
 }
 
 fn put_string(out: &mut Writer, text: &str) -> Result<(), Memory>
-    ensures { OnOk result (Adds out.old out.new (string text.now ∷ [])) }
+    ensures { OnOk result (AddsTokens out.old out.new (string text.now ∷ [])) }
 {
     match out.string(text) {
         Ok(()) => return Ok(()),
@@ -39,7 +39,7 @@ fn put_string(out: &mut Writer, text: &str) -> Result<(), Memory>
 
 // Writes texts in their order as an array.
 fn put_all(out: &mut Writer, names: &BTreeSet<&str>) -> Result<(), Memory>
-    ensures { OnOk result (Adds out.old out.new (json_tokens (names_value (map (λ n. n.now) (keys names.now))))) }
+    ensures { OnOk result (AddsTokens out.old out.new (json_tokens (names_value (map (λ n. n.now) (keys names.now))))) }
 {
     open_array(out)?;
     'names: for name in names {
@@ -54,7 +54,7 @@ fn put_all(out: &mut Writer, names: &BTreeSet<&str>) -> Result<(), Memory>
 
 /// Writes the compressions that the Chunk Indexes name, each once, in the ascending order of their bytes.
 pub(crate) fn put_names(alloc: Global, out: &mut Writer, loaded: &Loaded) -> Result<(), Memory>
-    ensures { OnOk result ((names : List (List ℕ)) × AreNames loaded.now.chunk_indexes names × Adds out.old out.new (json_tokens (names_value names))) }
+    ensures { OnOk result ((names : List (List ℕ)) × AreNames loaded.now.chunk_indexes names × AddsTokens out.old out.new (json_tokens (names_value names))) }
 {
     let names = names_of(alloc, loaded)?;
     put_all(out, &names)?;

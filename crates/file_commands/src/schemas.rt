@@ -8,7 +8,7 @@ ghost use Rattle.mcap_model.specs.Fields.{IsSchema};
 ghost use Rattle.mcap_model.specs.Places.{Each};
 ghost use Rattle.file_commands.specs.Firsts.{AreFirsts};
 ghost use Rattle.file_commands.specs.Json.{schema_value, schemas_value};
-ghost use Rattle.file_commands.specs.Writing.{Adds, AreIds, ShownAt};
+ghost use Rattle.file_commands.specs.Writing.{AddsTokens, ShowIds, ShownAt};
 
 use crate::firsts::first_places;
 use crate::members::{close_array, close_object, open_array, open_object, put_number, put_text};
@@ -20,7 +20,7 @@ use summary_read::Loaded;
 
 // The ids of the Schemas, in their order.
 fn schema_ids(alloc: Global, loaded: &Loaded) -> Result<Vec<u16>, Memory>
-    ensures { IfOk result (λ ids. AreIds IsSchema loaded.now.schemas ids.items) }
+    ensures { IfOk result (λ ids. ShowIds IsSchema loaded.now.schemas ids.items) }
 {
     let mut ids = Vec::new(alloc);
     'schemas: for i in 0..loaded.schemas() {
@@ -33,7 +33,7 @@ fn schema_ids(alloc: Global, loaded: &Loaded) -> Result<Vec<u16>, Memory>
 }
 
 fn put_schema(out: &mut Writer, schema: &Schema<'_>) -> Result<(), Memory>
-    ensures { OnOk result (Adds out.old out.new (json_tokens (schema_value (schema.now.id, schema_fields schema.now)))) }
+    ensures { OnOk result (AddsTokens out.old out.new (json_tokens (schema_value (schema.now.id, schema_fields schema.now)))) }
 {
     open_object(out)?;
     put_text(out, "encoding", schema.encoding)?;
@@ -47,7 +47,7 @@ fn put_schema(out: &mut Writer, schema: &Schema<'_>) -> Result<(), Memory>
 fn put_places(out: &mut Writer, loaded: &Loaded, places: &[usize]) -> Result<(), Memory>
     requires { Each (λ p. p < length loaded.now.schemas) places.now }
     ensures { OnOk result ((shown : List (ℕ × SchemaFields)) × AllZip (ShownAt IsSchema loaded.now.schemas) places.now shown
-        × Adds out.old out.new (json_tokens (schemas_value shown))) }
+        × AddsTokens out.old out.new (json_tokens (schemas_value shown))) }
 {
     open_array(out)?;
     'places: for i in 0..places.len() {
@@ -64,7 +64,7 @@ fn put_places(out: &mut Writer, loaded: &Loaded, places: &[usize]) -> Result<(),
 /// Writes the first Schema of each id, in the ascending order of the ids.
 pub(crate) fn put_schemas(alloc: Global, out: &mut Writer, loaded: &Loaded) -> Result<(), Memory>
     ensures { OnOk result ((shown : List (ℕ × SchemaFields)) × AreFirsts IsSchema loaded.now.schemas shown
-        × Adds out.old out.new (json_tokens (schemas_value shown))) }
+        × AddsTokens out.old out.new (json_tokens (schemas_value shown))) }
 {
     let ids = schema_ids(alloc, loaded)?;
     let places = first_places(alloc, &ids)?;

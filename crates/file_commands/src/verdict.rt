@@ -1,15 +1,15 @@
 //! The line of a verdict on a file.
 ghost use Rattle.std.specs.Prelude.{◌≡◌, ◌+◌, ◌≤◌, ◌++◌, length};
-ghost use Rattle.file_commands.specs.Check.{number_text, counts_line, flaw_line, verdict_line};
+ghost use Rattle.file_commands.specs.Check.{named_number, counts_line, flaw_line, verdict_line};
 
 use command_base::{LINE_ROOM, Line};
 use mcap_model::{Counts, Verdict};
 
 // Puts a number behind its name, behind the line.
-#[tactic(auto, unfolding(crate::specs::Check::number_text))]
+#[tactic(auto, unfolding(crate::specs::Check::named_number))]
 fn push_named(line: &mut Line, name: &str, number: u64)
     requires { length line.old + length name.now + 20 ≤ LINE_ROOM }
-    ensures text { line.new ≡ line.old ++ number_text name.now number }
+    ensures text { line.new ≡ line.old ++ named_number name.now number }
     ensures len { length line.new ≤ length line.old + length name.now + 20 }
 {
     line.push_text(name);

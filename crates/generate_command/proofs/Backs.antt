@@ -9,7 +9,7 @@ use Rattle.command_base.specs.declared.file_reading.Reading.{Reading}
 use Rattle.command_base.specs.declared.file_reading.Reading.TheVariants as readings
 use Rattle.command_base.specs.OneFile.{failing}
 use Rattle.command_base.specs.Readings.{IsSourceRead, NameEnds}
-use Rattle.generate_command.specs.Back.{Back, ComesTo, back_ending, NameReadBack}
+use Rattle.generate_command.specs.Back.{Back, SumsComeTo, back_ending, NameReadBack}
 
 -- whether a reading failed doesn't go by its text
 fails_so : (feeds others : ℕ) (file : List ℕ) (reading : Reading Sums ReadingRefused) → back_ending others file reading ≡ failing → back_ending feeds file reading ≡ failing
@@ -18,5 +18,5 @@ fails_so feeds others file (readings.Unopened open_refusals.Memory) e = absurd c
 fails_so feeds others file (readings.Opened (Ok sums)) e = absurd cc
 fails_so feeds others file (readings.Opened (Err why)) e = e
 
-pub read_back : (feeds : ℕ) (file : List ℕ) (old new : WorldState) (back : Back) → NameEnds kinds.Source file old new (λ entries. IsSourceRead ComesTo file old entries back.reading) (back_ending feeds file back.reading) back.failed → NameReadBack file old new back
+pub read_back : (feeds : ℕ) (file : List ℕ) (old new : WorldState) (back : Back) → NameEnds kinds.Source file old new (λ entries. IsSourceRead SumsComeTo file old entries back.reading) (back_ending feeds file back.reading) back.failed → NameReadBack file old new back
 read_back feeds file old new back ends = record { entries = ends.entries; reading = ends.reading; name = ends.name; sure = λ others e. ends.sure (fails_so feeds others file back.reading e) }

@@ -4,11 +4,11 @@ use Rattle.std.proofs.lemmas.Bool.{both_ways}
 use Rattle.mcap_io.specs.Outside.{Rose}
 use Rattle.recorder.specs.declared.options.RecordOptions.{RecordOptions}
 use Rattle.recorder.specs.declared.report.Report.{Report}
-use Rattle.command_base.specs.Texts.{Trouble, bad_words, fault, output_fault, grammar, compressed, limit, output_limit, not_indexed, flaw, no_memory, is_asked, status_of}
+use Rattle.command_base.specs.Texts.{Trouble, bad_words, fault, output_fault, grammar, compressed, limit, output_limit, not_indexed, flaw, no_memory, status_is_asked, status_of}
 use Rattle.command_base.specs.Ran.{Scene, counts_in, WorldRose, when}
 use Rattle.generate_command.specs.Back.{Back}
 use Rattle.generate_command.specs.declared.making.Numbers.{Numbers}
-use Rattle.generate_command.specs.Generating.{limit_passed, halts_after, LackIsTold, Generates}
+use Rattle.generate_command.specs.Generating.{limit_passed, halts_after, GenerationLackTold, Generates}
 use Rattle.generate_command.proofs.Statuses.{picked}
 
 -- ---- a trouble asks for a status
@@ -41,16 +41,16 @@ asked_1 false false false false is = omega (arith, is)
 -- so with the status 0 there is none
 none_due : (due : List Trouble) → status_of due ≡ 0 → due ≡ []
 none_due [] is = refl
-none_due (bad_words ∷ ts) is = absurd (asked_2 (is_asked ts 5) (is_asked ts 3) (is_asked ts 4) (is_asked ts 1) is)
-none_due (fault name ∷ ts) is = absurd (asked_3 (is_asked ts 2) (is_asked ts 5) (is_asked ts 4) (is_asked ts 1) is)
-none_due (output_fault ∷ ts) is = absurd (asked_3 (is_asked ts 2) (is_asked ts 5) (is_asked ts 4) (is_asked ts 1) is)
-none_due (grammar name n ∷ ts) is = absurd (asked_1 (is_asked ts 2) (is_asked ts 5) (is_asked ts 3) (is_asked ts 4) is)
-none_due (compressed name compression n ∷ ts) is = absurd (asked_1 (is_asked ts 2) (is_asked ts 5) (is_asked ts 3) (is_asked ts 4) is)
-none_due (limit name n ∷ ts) is = absurd (asked_4 (is_asked ts 2) (is_asked ts 5) (is_asked ts 3) (is_asked ts 1) is)
-none_due (output_limit name ∷ ts) is = absurd (asked_4 (is_asked ts 2) (is_asked ts 5) (is_asked ts 3) (is_asked ts 1) is)
-none_due (not_indexed name why ∷ ts) is = absurd (asked_1 (is_asked ts 2) (is_asked ts 5) (is_asked ts 3) (is_asked ts 4) is)
-none_due (flaw name rule n ∷ ts) is = absurd (asked_1 (is_asked ts 2) (is_asked ts 5) (is_asked ts 3) (is_asked ts 4) is)
-none_due (no_memory ∷ ts) is = absurd (asked_5 (is_asked ts 2) (is_asked ts 3) (is_asked ts 4) (is_asked ts 1) is)
+none_due (bad_words ∷ ts) is = absurd (asked_2 (status_is_asked ts 5) (status_is_asked ts 3) (status_is_asked ts 4) (status_is_asked ts 1) is)
+none_due (fault name ∷ ts) is = absurd (asked_3 (status_is_asked ts 2) (status_is_asked ts 5) (status_is_asked ts 4) (status_is_asked ts 1) is)
+none_due (output_fault ∷ ts) is = absurd (asked_3 (status_is_asked ts 2) (status_is_asked ts 5) (status_is_asked ts 4) (status_is_asked ts 1) is)
+none_due (grammar name n ∷ ts) is = absurd (asked_1 (status_is_asked ts 2) (status_is_asked ts 5) (status_is_asked ts 3) (status_is_asked ts 4) is)
+none_due (compressed name compression n ∷ ts) is = absurd (asked_1 (status_is_asked ts 2) (status_is_asked ts 5) (status_is_asked ts 3) (status_is_asked ts 4) is)
+none_due (limit name n ∷ ts) is = absurd (asked_4 (status_is_asked ts 2) (status_is_asked ts 5) (status_is_asked ts 3) (status_is_asked ts 1) is)
+none_due (output_limit name ∷ ts) is = absurd (asked_4 (status_is_asked ts 2) (status_is_asked ts 5) (status_is_asked ts 3) (status_is_asked ts 1) is)
+none_due (not_indexed name why ∷ ts) is = absurd (asked_1 (status_is_asked ts 2) (status_is_asked ts 5) (status_is_asked ts 3) (status_is_asked ts 4) is)
+none_due (flaw name rule n ∷ ts) is = absurd (asked_1 (status_is_asked ts 2) (status_is_asked ts 5) (status_is_asked ts 3) (status_is_asked ts 4) is)
+none_due (no_memory ∷ ts) is = absurd (asked_5 (status_is_asked ts 2) (status_is_asked ts 3) (status_is_asked ts 4) (status_is_asked ts 1) is)
 
 -- ---- its parts
 
@@ -74,7 +74,7 @@ pub record IsQuiet (feeds : ℕ) (out : List ℕ) (old new : Scene) (report : Op
   pub world : WorldRose old.world new.world → ⊥
   pub printing : Rose old.out.faults new.out.faults → ⊥
   pub within : limit_passed report ≡ false
-  pub enough : LackIsTold (counts_in old) (counts_in new) feeds out report back false
+  pub enough : GenerationLackTold (counts_in old) (counts_in new) feeds out report back false
   pub halts : halts_after feeds out back ≡ []
 
 pub quiet : (options : RecordOptions) (numbers : Numbers) (out : List ℕ) (old new : Scene) (report : Option Report) (status : ℕ) → (it : Generates options numbers out old new report status) → status ≡ 0
@@ -95,6 +95,6 @@ quiet options numbers out old new report status it zero_is =
       world = λ rose. both_ways it.blamed unblamed (it.blame.1 rose);
       printing = λ rose. both_ways it.printing printed (it.print_blame.1 rose);
       within = unlimited;
-      enough = subst (LackIsTold (counts_in old) (counts_in new) numbers.feeds out report it.back) enough it.lacks;
+      enough = subst (GenerationLackTold (counts_in old) (counts_in new) numbers.feeds out report it.back) enough it.lacks;
       halts = first_none halts (when it.blamed (fault out) ++ limits) none;
     }

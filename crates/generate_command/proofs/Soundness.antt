@@ -18,8 +18,8 @@ use Rattle.mcap_io.specs.declared.outside.OpenRefused.TheVariants as open_refusa
 use Rattle.generate_command.specs.declared.making.Written.{Written}
 use Rattle.command_base.specs.Readings.{IsSourceRead}
 use Rattle.command_base.proofs.ReadNames.{source_shows}
-use Rattle.generate_command.specs.Back.{Back, ComesTo, back_ending, NameReadBack}
-use Rattle.generate_command.specs.Making.{Stored, IsWriting}
+use Rattle.generate_command.specs.Back.{Back, SumsComeTo, back_ending, NameReadBack}
+use Rattle.generate_command.specs.Making.{RecordedInto, IsWriting}
 use Rattle.generate_command.specs.Generating.{ReadsBack}
 use Rattle.generate_command.proofs.Silent.{IsQuiet}
 
@@ -47,7 +47,7 @@ neither false false is = (refl, refl)
 pub record IsStored (options : RecordOptions) (sources : List SourceState) (out : List ℕ) (old middle : WorldState) (entries : List Opening) (w : Written) : Type 0 where
   pub keeping : Keeping
   pub entries_are : entries ≡ kept kinds.Live out keeping ∷ []
-  pub stored : Stored options sources out old middle keeping w
+  pub stored : RecordedInto options sources out old middle keeping w
 
 given_not : (out : List ℕ) (keeping : Keeping) → kept kinds.Live out keeping ≡ refused kinds.Live out → ⊥
 given_not out keeping same = both_ways true (ap (λ (e : Opening). e.given) same) refl
@@ -100,12 +100,12 @@ same_came : (a b : Result Sums ReadingRefused) → readings.Opened a ≡ reading
 same_came a b e = cc
 
 -- where the name told these bytes, these are what was summed
-pub summed_of : (out file : List ℕ) (world : WorldState) (told : Told) (entries : List Opening) (reading : Reading Sums ReadingRefused) (sums : Sums) → world.told ≡ Some told → told.names out ≡ Some file → IsSourceRead ComesTo out world entries reading → reading ≡ readings.Opened (Ok sums)
+pub summed_of : (out file : List ℕ) (world : WorldState) (told : Told) (entries : List Opening) (reading : Reading Sums ReadingRefused) (sums : Sums) → world.told ≡ Some told → told.names out ≡ Some file → IsSourceRead SumsComeTo out world entries reading → reading ≡ readings.Opened (Ok sums)
     → (before : SourceState) × (now : SourceState) × (before.left ≡ Some file) × SumsAll before now sums
 summed_of out file world told entries reading sums here there is same =
     source_shows (λ (r : Reading Sums ReadingRefused). r ≡ readings.Opened (Ok sums) → (before : SourceState) × (now : SourceState) × (before.left ≡ Some file) × SumsAll before now sums)
-    out file world told here there (λ why e. absurd cc) ComesTo
-    (λ source now came left comes e. (source, now, left, subst (ComesTo source now) (same_came came (Ok sums) e) comes)) entries reading is same
+    out file world told here there (λ why e. absurd cc) SumsComeTo
+    (λ source now came left comes e. (source, now, left, subst (SumsComeTo source now) (same_came came (Ok sums) e) comes)) entries reading is same
 
 -- ---- what was printed
 

@@ -3,7 +3,7 @@ use Rattle.std.proofs.Common.{◌≡◌, ℕ, ◌^◌, ◌<◌, true, false, Lis
 use Rattle.std.specs.Option.{option_map}
 use Rattle.std.specs.List.{All}
 use Rattle.std.proofs.lemmas.List.{append-nil}
-use Rattle.mcap_io.specs.Outside.{RisesOnce, HasCause, Opens, OpenCause, CountsStand, added, Keeping, Told, Names, OthersSame, Opening, opened, with_opening, went_well, LiveState, SourceState, WorldState, TellsNothingYet, KeepsLive, Notes, Placed}
+use Rattle.mcap_io.specs.Outside.{RisesOnce, HasCause, Opens, OpenCause, CountsStand, added, Keeping, Told, Names, OthersSame, Opening, opened, with_opening, went_well, LiveState, SourceState, WorldState, TellsNothingYet, KeepsLive, Notes, PlacedUnder}
 use Rattle.mcap_io.specs.declared.outside.Failed.{Failed}
 use Rattle.mcap_io.specs.declared.outside.ObjectKind.TheVariants as kinds
 use Rattle.mcap_io.specs.declared.outside.OpenRefused.{OpenRefused}
@@ -12,10 +12,10 @@ use Rattle.mcap_io.proofs.Notes.{noted_in}
 use Rattle.recorder.specs.declared.options.RecordOptions.{RecordOptions}
 use Rattle.recorder.specs.declared.report.Report.{Report}
 use Rattle.recorder.specs.Recorded.{sides, Recorded}
-use Rattle.command_base.specs.Ran.{kept, refused, IsWritten}
+use Rattle.command_base.specs.Ran.{kept, refused, IsGivenLive}
 use Rattle.command_base.proofs.Counting.{added_none, kept_adds}
 use Rattle.command_base.proofs.Opened.{tells_more, same_told, live_keeping, SameNames, leaves_same}
-use Rattle.generate_command.specs.Making.{IsPlaced, NameWritten}
+use Rattle.generate_command.specs.Making.{IsPutUnder, NameWritten}
 
 -- nothing was opened, for want of memory
 pub nothing_written : (options : RecordOptions) (sources : List SourceState) (out : List ℕ) (old new : WorldState) → new.told ≡ old.told → CountsStand old new → new.faults ≡ old.faults
@@ -73,11 +73,11 @@ live_noted out log new keeping notes =
     (record { there = refl; out = record { kind_is = refl; name_is = refl; given = refl; out = refl }; newest = λ k d within. absurd (omega (arith, within)) }) notes
 
 -- a name that isn't written is not the output's
-others_same : (out : List ℕ) (keeping : Keeping) (all now : Names) → OthersSame all now out → (name : List ℕ) → (IsWritten (kept kinds.Live out keeping ∷ []) name → ⊥) → now name ≡ all name
+others_same : (out : List ℕ) (keeping : Keeping) (all now : Names) → OthersSame all now out → (name : List ℕ) → (IsGivenLive (kept kinds.Live out keeping ∷ []) name → ⊥) → now name ≡ all name
 others_same out keeping all now same name unwritten =
     same name (λ is. unwritten (record { entry = kept kinds.Live out keeping; there = (0, refl); live = refl; given = refl; named = sym is }))
 
-placed_so : (all now : Names) (out bytes : List ℕ) (result : Result Unit Failed) → Placed all now out bytes result → IsPlaced bytes (went_well result) (all out) (now out)
+placed_so : (all now : Names) (out bytes : List ℕ) (result : Result Unit Failed) → PlacedUnder all now out bytes result → IsPutUnder bytes (went_well result) (all out) (now out)
 placed_so all now out bytes (Ok it) placed = placed
 placed_so all now out bytes (Err why) placed = placed
 
@@ -103,7 +103,7 @@ written options sources back out w0 w1 w2 live live_now report result a =
           empty = λ told here. a.nothing told here;
           placed = λ told now bytes here here_now held.
               let kept_now = a.keeps (with_opening told given) (more told here) in
-              subst (λ (t : Told). IsPlaced bytes (went_well result) (told.names out) (t.names out)) (same_told kept_now.0 now (sym kept_now.1 ∙ here_now))
+              subst (λ (t : Told). IsPutUnder bytes (went_well result) (told.names out) (t.names out)) (same_told kept_now.0 now (sym kept_now.1 ∙ here_now))
               (placed_so told.names kept_now.0.names out bytes result (kept_now.2.placed bytes held));
         },
       );

@@ -23,12 +23,12 @@ use Rattle.chunk_writer.specs.Stops.{Cause as WriterCause}
 use Rattle.feed_lane.specs.Lanes.{messages}
 use Rattle.recorder.specs.declared.options.RecordOptions.{RecordOptions}
 use Rattle.recorder.specs.declared.report.Report.{Report}
-use Rattle.recorder.specs.Recorded.{FeedRecorded, answer_of, sides, Recorded}
+use Rattle.recorder.specs.Recorded.{FeedRecorded, end_answer, sides, Recorded}
 use Rattle.recorder.specs.Laws.{AreReadable, ReadsAs}
 use Rattle.recorder.proofs.ReadBack.{closed_file, recordings_are_read_back}
 use Rattle.message_sums.specs.declared.sums.Sums.{Sums}
-use Rattle.message_sums.specs.Sums.{value_of, bytes_of, sums_of}
-use Rattle.message_sums.specs.Reading.{fields_of}
+use Rattle.message_sums.specs.Sums.{value_of, bytes_in_payload, sums_of}
+use Rattle.message_sums.specs.Reading.{fields_seen}
 use Rattle.command_base.specs.Printing.{TellsAll, Takes}
 use Rattle.command_base.specs.OneFile.{failing, text_of}
 use Rattle.command_base.specs.Ran.{Scene, WorldRose, world_faults, output_faults, input_faults}
@@ -42,8 +42,8 @@ use Rattle.command_base.specs.declared.file_reading.Reading.TheVariants as readi
 use Rattle.generate_command.specs.declared.making.Numbers.{Numbers}
 use Rattle.generate_command.specs.Lines.{sums_line}
 use Rattle.generate_command.specs.Back.{Back, back_ending, NameReadBack}
-use Rattle.generate_command.specs.Making.{AreAllowed, source_of, sources_of, IsPlaced as NameIsPlaced}
-use Rattle.generate_command.specs.Generating.{is_closed, is_limit, is_memory_writer, passes_limit, lacks_memory, is_sound, ReadsBack, text_after, halts_after, is_lack_after, Generates}
+use Rattle.generate_command.specs.Making.{OptionsAllowed, generated_source, sources_of, IsPutUnder as NameIsPlaced}
+use Rattle.generate_command.specs.Generating.{writer_closed, is_limit, is_memory_writer, passes_limit, report_lacks_memory, is_sound, ReadsBack, text_after, halts_after, is_lack_after, Generates}
 use Rattle.generate_command.specs.Laws.{made_for, all_made, AreInRange, GeneratedSumsAreTold}
 use Rattle.generate_command.proofs.Totals.{weight, total_of, seen_total, one_each, counted}
 use Rattle.generate_command.proofs.Silent.{cons_some, IsQuiet, quiet}
@@ -85,16 +85,16 @@ same_sums : (ms ns : List MessageFields) → ((f : MessageFields → ℕ) → su
 same_sums ms ns same =
     let k = 2 ^ 64 in
     let long : length ms ≡ length ns = counted ms ∙ same one_each ∙ sym (counted ns) in
-    ap (λ (n : ℕ). record { messages = n % k; bytes = sum_by bytes_of ms % k; total = sum_by value_of ms % k }) long
-    ∙ ap (λ (n : ℕ). record { messages = length ns % k; bytes = n % k; total = sum_by value_of ms % k }) (same bytes_of)
-    ∙ ap (λ (n : ℕ). record { messages = length ns % k; bytes = sum_by bytes_of ns % k; total = n % k }) (same value_of)
+    ap (λ (n : ℕ). record { messages = n % k; bytes = sum_by bytes_in_payload ms % k; total = sum_by value_of ms % k }) long
+    ∙ ap (λ (n : ℕ). record { messages = length ns % k; bytes = n % k; total = sum_by value_of ms % k }) (same bytes_in_payload)
+    ∙ ap (λ (n : ℕ). record { messages = length ns % k; bytes = sum_by bytes_in_payload ns % k; total = n % k }) (same value_of)
 
 -- ---- the recording
 
 module _ (options : RecordOptions) (numbers : Numbers) (back : List SourceState) (live live_now : LiveState) (r : Report) (it : Recorded options (sides (sources_of numbers) live) (sides back live_now) r)
-    (lossless : options.lossless ≡ true) (closed : r.writer.end ≡ ends.Closed) (enough : lacks_memory r ≡ false) (limited : passes_limit r ≡ false) (still : All (λ (s : SourceState). s.faults ≡ 0) back)
+    (lossless : options.lossless ≡ true) (closed : r.writer.end ≡ ends.Closed) (enough : report_lacks_memory r ≡ false) (limited : passes_limit r ≡ false) (still : All (λ (s : SourceState). s.faults ≡ 0) back)
     (range : AreInRange numbers) (read : FeedsAreRead) where
-  whole_feed : (k : ℕ) (f : FeedRecorded) (g : ℕ) → At it.feeds k f → At (range_with_len 0 numbers.feeds) k g → f.before ≡ source_of numbers g → IsWhole (made_for numbers) it.history f g
+  whole_feed : (k : ℕ) (f : FeedRecorded) (g : ℕ) → At it.feeds k f → At (range_with_len 0 numbers.feeds) k g → f.before ≡ generated_source numbers g → IsWhole (made_for numbers) it.history f g
   whole_feed k f g at at_g before =
       let within = range_at 0 numbers.feeds k g at_g in
       let few = range.messages in
@@ -109,7 +109,7 @@ module _ (options : RecordOptions) (numbers : Numbers) (back : List SourceState)
       (made_for numbers g) message_top (λ n m there. shows numbers.seed g numbers.messages n m few there) (flat_messages numbers.seed g numbers.messages)
 
   whole_feeds : AllZip (IsWhole (made_for numbers) it.history) it.feeds (range_with_len 0 numbers.feeds)
-  whole_feeds = zip_from (IsWhole (made_for numbers) it.history) (λ (f : FeedRecorded). f.before) (source_of numbers) it.feeds (range_with_len 0 numbers.feeds) it.are.before_are whole_feed
+  whole_feeds = zip_from (IsWhole (made_for numbers) it.history) (λ (f : FeedRecorded). f.before) (generated_source numbers) it.feeds (range_with_len 0 numbers.feeds) it.are.before_are whole_feed
 
   history_total : (f : MessageFields → ℕ) → sum_by (weight f) it.history ≡ sum_by f (all_made numbers)
   history_total f =
@@ -121,19 +121,19 @@ module _ (options : RecordOptions) (numbers : Numbers) (back : List SourceState)
       ∙ spots_total made f it.history it.feeds gs whole_feeds
 
   -- the messages that were read of its file have the sums of all that were made
-  pub same_read : (seen : List Seen) → AllZip HoldsSeen (filter is_message it.history) seen → sums_of (fields_of seen) ≡ sums_of (all_made numbers)
-  same_read seen zip = same_sums (fields_of seen) (all_made numbers) (λ f. seen_total f it.history seen zip ∙ history_total f)
+  pub same_read : (seen : List Seen) → AllZip HoldsSeen (filter is_message it.history) seen → sums_of (fields_seen seen) ≡ sums_of (all_made numbers)
+  same_read seen zip = same_sums (fields_seen seen) (all_made numbers) (λ f. seen_total f it.history seen zip ∙ history_total f)
 
 -- ---- the status 0
 
 -- the writer closed its file
-closed_so : (end : End) (live live_now : LiveState) (old middle new : WorldState) (r : Report) → r.writer.end ≡ end → WriterCause {X = Unit} live.faults live_now.faults (answer_of end) → live.faults ≡ 0 → middle.output_faults ≡ added old.output_faults live_now.faults
-    → new.output_faults ≡ middle.output_faults → (WorldRose old new → ⊥) → passes_limit r ≡ false → lacks_memory r ≡ false → r.writer.end ≡ ends.Closed
+closed_so : (end : End) (live live_now : LiveState) (old middle new : WorldState) (r : Report) → r.writer.end ≡ end → WriterCause {X = Unit} live.faults live_now.faults (end_answer end) → live.faults ≡ 0 → middle.output_faults ≡ added old.output_faults live_now.faults
+    → new.output_faults ≡ middle.output_faults → (WorldRose old new → ⊥) → passes_limit r ≡ false → report_lacks_memory r ≡ false → r.writer.end ≡ ends.Closed
 closed_so ends.Closed live live_now old middle new r same cause unused outputs stay none limited enough = same
 closed_so (ends.Stopped (stops.Fault faults)) live live_now old middle new r same cause unused outputs stay none limited enough =
     let rises = cause.0 in absurd (none (inr (inr (omega (arith, rises.once, unused, outputs, stay)))))
 closed_so (ends.Stopped (stops.Limit blocks bytes)) live live_now old middle new r same cause unused outputs stay none limited enough = absurd (both_ways (passes_limit r) limited (or_left (is_limit r.writer.end) _ (ap is_limit same)))
-closed_so (ends.Stopped stops.Memory) live live_now old middle new r same cause unused outputs stay none limited enough = absurd (both_ways (lacks_memory r) enough (or_left (is_memory_writer r.writer.end) _ (ap is_memory_writer same)))
+closed_so (ends.Stopped stops.Memory) live live_now old middle new r same cause unused outputs stay none limited enough = absurd (both_ways (report_lacks_memory r) enough (or_left (is_memory_writer r.writer.end) _ (ap is_memory_writer same)))
 
 -- and the keeping went well
 well_so : (well sound : Bool) (out : List ℕ) (old middle new : WorldState) (back : Option Back) → ReadsBack sound out middle new back → middle.faults ≡ added old.faults ((0 + (if well then 0 else 1)) + 0) → (WorldRose old new → ⊥) → well ≡ true
@@ -147,7 +147,7 @@ both a b one other = ap (λ (x : Bool). x && b) one ∙ other
 record IsSaved (r : Report) (kept : Bool) : Type 0 where
   closed : r.writer.end ≡ ends.Closed
   well : kept ≡ true
-  enough : lacks_memory r ≡ false
+  enough : report_lacks_memory r ≡ false
   limited : passes_limit r ≡ false
 
 -- the name was read back, and the line of these sums was told
@@ -169,8 +169,8 @@ module _ (options : RecordOptions) (numbers : Numbers) (out : List ℕ) (old new
   world_is : it.middle.faults ≡ added old.world.faults ((0 + (if it.kept then 0 else 1)) + 0)
   world_is = it.written.counts.world ∙ ap (λ (es : List Opening). added old.world.faults (world_faults es)) s.entries_are ∙ ap (λ (k : Keeping). added old.world.faults ((0 + (if k.well then 0 else 1)) + 0)) s.stored.keeping_is
 
-  lacks : (lacks_memory r ≡ false) × (is_lack_after numbers.feeds out it.back ≡ false)
-  lacks = neither (lacks_memory r) (is_lack_after numbers.feeds out it.back) q.enough
+  lacks : (report_lacks_memory r ≡ false) × (is_lack_after numbers.feeds out it.back ≡ false)
+  lacks = neither (report_lacks_memory r) (is_lack_after numbers.feeds out it.back) q.enough
 
   saved : IsSaved r it.kept
   saved =
@@ -185,7 +185,7 @@ module _ (options : RecordOptions) (numbers : Numbers) (out : List ℕ) (old new
 
   tells_sums : TellsSums numbers.feeds out it.middle old new
   tells_sums =
-      let sound_is : is_sound (Some r) it.kept ≡ true = both (is_closed r.writer.end) it.kept (ap is_closed saved.closed) saved.well in
+      let sound_is : is_sound (Some r) it.kept ≡ true = both (writer_closed r.writer.end) it.kept (ap writer_closed saved.closed) saved.well in
       let (b, back_is, name) = there_back (is_sound (Some r) it.kept) out it.middle new.world it.back it.reads sound_is in
       let unfailed : back_ending numbers.feeds out b.reading ≡ failing → ⊥ =
       λ fails. q.world (failed_rose out old.world it.middle new.world (world_faults it.written.entries) (input_faults it.written.entries) name.entries b.failed it.written.counts.world it.written.counts.inputs name.name (name.sure numbers.feeds fails)) in
@@ -194,7 +194,7 @@ module _ (options : RecordOptions) (numbers : Numbers) (out : List ℕ) (old new
       subst (λ (x : Reading Sums ReadingRefused). Takes old.out new.out (text_of (back_ending numbers.feeds out x))) sums_are (subst (λ (x : Option Back). Takes old.out new.out (text_after numbers.feeds out x)) back_is it.printed) in
       record { back = b; name = name; sums = sums; summed = sums_are; line = all_taken old.out new.out (sums_line numbers.feeds sums) taken q.printing }
 
-  module _ (told : Told) (allowed : AreAllowed options) (utf8 : IsUtf8 options.file.profile) (range : AreInRange numbers) (lossless : options.lossless ≡ true) (here : old.world.told ≡ Some told) (read : FeedsAreRead) where
+  module _ (told : Told) (allowed : OptionsAllowed options) (utf8 : IsUtf8 options.file.profile) (range : AreInRange numbers) (lossless : options.lossless ≡ true) (here : old.world.told ≡ Some told) (read : FeedsAreRead) where
     equal : tells_sums.sums ≡ sums_of (all_made numbers)
     equal =
         let live = s.stored.live in

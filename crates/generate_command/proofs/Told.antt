@@ -10,7 +10,7 @@ use Rattle.command_base.specs.Ran.{Scene, counts_in, when, Complains}
 use Rattle.generate_command.specs.Back.{Back}
 use Rattle.generate_command.specs.declared.making.Numbers.{Numbers}
 use Rattle.generate_command.specs.Making.{sources_of, NameWritten}
-use Rattle.generate_command.specs.Generating.{limit_passed, lacks_memory, is_sound, ReadsBack, text_after, halts_after, is_lack_after, LackIsTold, Generates}
+use Rattle.generate_command.specs.Generating.{limit_passed, report_lacks_memory, is_sound, ReadsBack, text_after, halts_after, is_lack_after, GenerationLackTold, Generates}
 
 -- what is told of it, with these troubles of the reading back
 abbrev pub told_with : List ℕ → List Trouble → Bool → Bool → Bool → Bool → List Trouble
@@ -25,15 +25,15 @@ pub record CallsAre (options : RecordOptions) (numbers : Numbers) (out : List �
   pub printed : Takes old.out new.out (text_after numbers.feeds out back)
   pub blame : (blamed ≡ true) ↔ (Rose before.world now.world ⊎ (Rose before.inputs now.inputs ⊎ Rose before.outputs now.outputs))
   pub print_blame : (printing ≡ true) ↔ Rose before.printing now.printing
-  pub lacks : LackIsTold before now numbers.feeds out report back lacked
+  pub lacks : GenerationLackTold before now numbers.feeds out report back lacked
   pub halts_are : halts ≡ halts_after numbers.feeds out back
   pub limited_is : limited ≡ limit_passed report
   pub said : Complains (told_with out halts blamed limited printing lacked) old.err new.err status
 
 -- a printing leaves what is told of a want of memory
-pub lack_told : (before now : Counts) (feeds : ℕ) (out : List ℕ) (report : Option Report) (printed back : Option Back) (lacked : Bool) → is_lack_after feeds out printed ≡ is_lack_after feeds out back → LackIsTold before now feeds out report printed lacked → LackIsTold before now feeds out report back lacked
+pub lack_told : (before now : Counts) (feeds : ℕ) (out : List ℕ) (report : Option Report) (printed back : Option Back) (lacked : Bool) → is_lack_after feeds out printed ≡ is_lack_after feeds out back → GenerationLackTold before now feeds out report printed lacked → GenerationLackTold before now feeds out report back lacked
 lack_told before now feeds out None printed back lacked same told = told
-lack_told before now feeds out (Some r) printed back lacked same told = told ∙ ap (λ (b : Bool). lacks_memory r || b) same
+lack_told before now feeds out (Some r) printed back lacked same told = told ∙ ap (λ (b : Bool). report_lacks_memory r || b) same
 
 -- what holds of the counts that were taken holds of those of both scenes
 at_scenes : (P : Counts → Counts → Type 0) (before now old new : Counts) → before ≡ old → now ≡ new → P before now → P old new
@@ -54,7 +54,7 @@ generates options numbers out old new middle report kept back before now halts b
       printing = printing;
       print_blame = at_scenes (λ b n. (printing ≡ true) ↔ Rose b.printing n.printing) before now (counts_in old) (counts_in new) c.before_is c.now_is c.print_blame;
       lacked = lacked;
-      lacks = at_scenes (λ b n. LackIsTold b n numbers.feeds out report back lacked) before now (counts_in old) (counts_in new) c.before_is c.now_is c.lacks;
+      lacks = at_scenes (λ b n. GenerationLackTold b n numbers.feeds out report back lacked) before now (counts_in old) (counts_in new) c.before_is c.now_is c.lacks;
       said =
           subst (λ (l : List Trouble). Complains (told_with out l blamed (limit_passed report) printing lacked) old.err new.err status) c.halts_are
           (subst (λ (b : Bool). Complains (told_with out halts blamed b printing lacked) old.err new.err status) c.limited_is c.said);

@@ -12,7 +12,7 @@ use Rattle.mcap_model.specs.Laws.{HoldsSeen}
 use Rattle.mcap_model.proofs.Places.{at_none, at_one, at_within, at_read, at_set, at_set_other}
 use Rattle.mcap_model.proofs.Lists.{at_either}
 use Rattle.std.proofs.lemmas.Option.{same_Some}
-use Rattle.message_sums.specs.Reading.{fields_of}
+use Rattle.message_sums.specs.Reading.{fields_seen}
 
 -- ---- what a record weighs
 
@@ -118,7 +118,7 @@ apart_joined (p ∷ ps) qs first second cross = (each, apart_joined ps qs first.
 seen_weight : (f : MessageFields → ℕ) (r : Rec) (s : Seen) → HoldsSeen r s → weight f r ≡ f s.message
 seen_weight f r s is = ap (weight f) is
 
-pub seen_total : (f : MessageFields → ℕ) (history : List Rec) (messages : List Seen) → AllZip HoldsSeen (filter is_message history) messages → sum_by f (fields_of messages) ≡ sum_by (weight f) history
+pub seen_total : (f : MessageFields → ℕ) (history : List Rec) (messages : List Seen) → AllZip HoldsSeen (filter is_message history) messages → sum_by f (fields_seen messages) ≡ sum_by (weight f) history
 seen_total f [] [] zip = refl
 seen_total f [] (s ∷ ss) zip = absurd zip
 seen_total f (Schema id schema ∷ rs) messages zip =
@@ -134,7 +134,7 @@ seen_total f (Message channel sequence log_time publish_time payload ∷ rs) (s 
     let r = Message channel sequence log_time publish_time payload in
     let first = seen_weight f r s zip.0 in
     let more = seen_total f rs ss zip.1 in
-    let one = sum_by-cons f s.message (fields_of ss) in
+    let one = sum_by-cons f s.message (fields_seen ss) in
     let other = sum_by-cons (weight f) r rs in
     omega (arith, first, more, one, other)
 

@@ -20,12 +20,12 @@ abbrev pub Back : Type 0
 Back = ReadName Sums ReadingRefused
 
 -- what the reading of a source came to
-abbrev pub ComesTo : SourceState → SourceState → Result Sums ReadingRefused → Type 0
-ComesTo before now (Ok sums) = SumsAll before now sums
-ComesTo before now (Err why) = (tops : List Top) × RefusalStands why before now tops
+abbrev pub SumsComeTo : SourceState → SourceState → Result Sums ReadingRefused → Type 0
+SumsComeTo before now (Ok sums) = SumsAll before now sums
+SumsComeTo before now (Err why) = (tops : List Top) × RefusalStands why before now tops
 
 -- one that failed has a source that failed
-pub back_fails : (before now : SourceState) (file : List ℕ) (why : ReadingRefused) → ComesTo before now (Err why) → before.faults ≡ 0 → refusal_ending file why ≡ failing → now.faults ≡ 0 → ⊥
+pub back_fails : (before now : SourceState) (file : List ℕ) (why : ReadingRefused) → SumsComeTo before now (Err why) → before.faults ≡ 0 → refusal_ending file why ≡ failing → now.faults ≡ 0 → ⊥
 back_fails before now file why comes unused e none =
     let fault = refusal_fails file why e in
     let stands = subst (λ (w : ReadingRefused). (tops : List Top) × RefusalStands w before now tops) fault.1 comes in
@@ -38,6 +38,6 @@ back_ending feeds file reading = ending_of (sums_line feeds) (refusal_ending fil
 -- what became of the name; where the reading failed, a failure is told
 pub record NameReadBack (file : List ℕ) (old new : WorldState) (back : Back) : Type 0 where
   pub entries : List Opening
-  pub reading : IsSourceRead ComesTo file old entries back.reading
+  pub reading : IsSourceRead SumsComeTo file old entries back.reading
   pub name : NameRead kinds.Source file old new entries back.failed
   pub sure : (feeds : ℕ) → back_ending feeds file back.reading ≡ failing → back.failed ≡ true

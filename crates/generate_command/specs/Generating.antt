@@ -21,9 +21,9 @@ use Rattle.generate_command.specs.Making.{sources_of, NameWritten}
 
 -- ---- what a report tells
 
-abbrev pub is_closed : End → Bool
-is_closed ends.Closed = true
-is_closed (ends.Stopped stop) = false
+abbrev pub writer_closed : End → Bool
+writer_closed ends.Closed = true
+writer_closed (ends.Stopped stop) = false
 
 abbrev pub is_limit : End → Bool
 is_limit ends.Closed = false
@@ -45,8 +45,8 @@ abbrev pub is_memory_writer : End → Bool
 is_memory_writer ends.Closed = false
 is_memory_writer (ends.Stopped stop) = is_memory_stop stop
 
-abbrev pub lacks_memory : Report → Bool
-lacks_memory r = is_memory_writer r.writer.end || list_any (λ f. is_memory_end f.end || list_any (λ x. is_memory x.cause) f.refused.items) r.feeds.items
+abbrev pub report_lacks_memory : Report → Bool
+report_lacks_memory r = is_memory_writer r.writer.end || list_any (λ f. is_memory_end f.end || list_any (λ x. is_memory x.cause) f.refused.items) r.feeds.items
 
 -- the same where there may be no report
 abbrev pub limit_passed : Option Report → Bool
@@ -58,7 +58,7 @@ limit_passed (Some r) = passes_limit r
 -- the file is whole and stands under its name
 abbrev pub is_sound : Option Report → Bool → Bool
 is_sound None kept = false
-is_sound (Some r) kept = is_closed r.writer.end && kept
+is_sound (Some r) kept = writer_closed r.writer.end && kept
 
 -- where it is, it is read back; else nothing more is opened
 abbrev pub ReadsBack : Bool → List ℕ → WorldState → WorldState → Option Back → Type 0
@@ -83,9 +83,9 @@ is_lack_after feeds out (Some back) = is_lack (back_ending feeds out back.readin
 -- ---- the end
 
 -- Memory lacked exactly where the report names that, or the reading back does; or where there is no report though no count rose.
-abbrev pub LackIsTold : Counts → Counts → ℕ → List ℕ → Option Report → Option Back → Bool → Type 0
-LackIsTold before now feeds out None back lacked = (AnyRose before now → ⊥) ↔ (lacked ≡ true)
-LackIsTold before now feeds out (Some r) back lacked = lacked ≡ (lacks_memory r || is_lack_after feeds out back)
+abbrev pub GenerationLackTold : Counts → Counts → ℕ → List ℕ → Option Report → Option Back → Bool → Type 0
+GenerationLackTold before now feeds out None back lacked = (AnyRose before now → ⊥) ↔ (lacked ≡ true)
+GenerationLackTold before now feeds out (Some r) back lacked = lacked ≡ (report_lacks_memory r || is_lack_after feeds out back)
 
 -- all troubles, in their order
 abbrev pub troubles_after : ℕ → List ℕ → Option Report → Option Back → Bool → Bool → Bool → List Trouble
@@ -109,5 +109,5 @@ pub record Generates (options : RecordOptions) (numbers : Numbers) (out : List �
   pub printing : Bool
   pub print_blame : (printing ≡ true) ↔ Rose old.out.faults new.out.faults
   pub lacked : Bool
-  pub lacks : LackIsTold (counts_in old) (counts_in new) numbers.feeds out report back lacked
+  pub lacks : GenerationLackTold (counts_in old) (counts_in new) numbers.feeds out report back lacked
   pub said : Complains (troubles_after numbers.feeds out report back blamed printing lacked) old.err new.err status

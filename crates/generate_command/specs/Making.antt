@@ -14,27 +14,27 @@ use Rattle.generate_command.specs.declared.making.Written.{Written}
 
 -- the options of a recording are in their ranges: a buffer of 1 byte to 1 GiB, chunks of 1 byte to 64 MiB, and a profile of at
 -- most 65,535 bytes
-pub record AreAllowed (options : RecordOptions) : Type 0 where
+pub record OptionsAllowed (options : RecordOptions) : Type 0 where
   pub some : 1 ≤ options.limit
   pub small : options.limit ≤ buffer_limit
   pub size : (n : ℕ) → options.file.chunk ≡ Some n → (1 ≤ n) × (n ≤ chunk_size_limit)
   pub short : length options.file.profile ≤ profile_limit
 
 -- the feed of that number, of which nothing is read
-abbrev pub source_of : Numbers → ℕ → SourceState
-source_of numbers feed = record { left = Some (feed_bytes numbers.seed feed numbers.messages); faults = 0 }
+abbrev pub generated_source : Numbers → ℕ → SourceState
+generated_source numbers feed = record { left = Some (feed_bytes numbers.seed feed numbers.messages); faults = 0 }
 
 -- all feeds, from that of number 0 on
 abbrev pub sources_of : Numbers → List SourceState
-sources_of numbers = map (source_of numbers) (range_with_len 0 numbers.feeds)
+sources_of numbers = map (generated_source numbers) (range_with_len 0 numbers.feeds)
 
 -- the text was put under the name; where the keeping failed, that or what stood there
-abbrev pub IsPlaced : List ℕ → Bool → Option (List ℕ) → Option (List ℕ) → Type 0
-IsPlaced text true before now = now ≡ Some text
-IsPlaced text false before now = (now ≡ Some text) ⊎ (now ≡ before)
+abbrev pub IsPutUnder : List ℕ → Bool → Option (List ℕ) → Option (List ℕ) → Type 0
+IsPutUnder text true before now = now ≡ Some text
+IsPutUnder text false before now = (now ≡ Some text) ⊎ (now ≡ before)
 
 -- The store that was opened under the name was recorded into, unless memory lacked before, and was taken back.
-pub record Stored (options : RecordOptions) (sources : List SourceState) (out : List ℕ) (old new : WorldState) (keeping : Keeping) (w : Written) : Type 0 where
+pub record RecordedInto (options : RecordOptions) (sources : List SourceState) (out : List ℕ) (old new : WorldState) (keeping : Keeping) (w : Written) : Type 0 where
   pub live : LiveState
   pub live_now : LiveState
   pub unused : live.faults ≡ 0
@@ -44,13 +44,13 @@ pub record Stored (options : RecordOptions) (sources : List SourceState) (out : 
   pub reported : (r : Report) → w.report ≡ Some r → (back : List SourceState) × All (λ (s : SourceState). s.faults ≡ 0) back × Recorded options (sides sources live) (sides back live_now) r
   -- what the store holds is put under the name
   pub empty : (told : Told) → old.told ≡ Some told → live.held ≡ Some []
-  pub placed : (told now : Told) (bytes : List ℕ) → old.told ≡ Some told → new.told ≡ Some now → live_now.held ≡ Some bytes → IsPlaced bytes w.kept (told.names out) (now.names out)
+  pub placed : (told now : Told) (bytes : List ℕ) → old.told ≡ Some told → new.told ≡ Some now → live_now.held ≡ Some bytes → IsPutUnder bytes w.kept (told.names out) (now.names out)
 
 -- no entry, where memory lacked for the feeds or for the opening; or it was refused; or a store was given, written, and taken back
 abbrev pub IsWriting : RecordOptions → List SourceState → List ℕ → WorldState → WorldState → List Opening → Written → Type 0
 IsWriting options sources out old new [] w = (w.report ≡ None) × (w.kept ≡ false)
 IsWriting options sources out old new (entry ∷ more) w = ((entry ≡ refused kinds.Live out) × (w.report ≡ None) × (w.kept ≡ false))
-    ⊎ ((keeping : Keeping) × (entry ≡ kept kinds.Live out keeping) × Stored options sources out old new keeping w)
+    ⊎ ((keeping : Keeping) × (entry ≡ kept kinds.Live out keeping) × RecordedInto options sources out old new keeping w)
 
 -- what became of the name
 pub record NameWritten (options : RecordOptions) (sources : List SourceState) (out : List ℕ) (old new : WorldState) (w : Written) : Type 0 where

@@ -2,7 +2,7 @@
 ghost use Rattle.command_base.specs.OneFile.{refusal_ending};
 ghost use Rattle.command_base.proofs.Refusals.{refusal_is};
 ghost use Rattle.generate_command.specs.Lines.{sums_line};
-ghost use Rattle.generate_command.specs.Back.{ComesTo, back_fails};
+ghost use Rattle.generate_command.specs.Back.{SumsComeTo, back_fails};
 
 use crate::line::line_of_sums;
 use command_base::{
@@ -53,7 +53,7 @@ impl FileReading for Summing {
 }
 
 impl SourceReading for Summing {
-    ghost comes = { λ s before now came. ComesTo before now came };
+    ghost comes = { λ s before now came. SumsComeTo before now came };
 
     fn read_source<S: Source>(&self, source: &mut S) -> Result<Sums, ReadingRefused> {
         sum_messages(self.alloc, source)

@@ -8,8 +8,8 @@ ghost use Rattle.feed_lane.specs.Feeds.{ListsMessages};
 ghost use Rattle.command_base.specs.Texts.{complained, fault, output_limit, output_fault, no_memory};
 ghost use Rattle.command_base.specs.Printing.{Takes};
 ghost use Rattle.command_base.specs.Ran.{scene, AnyRose, when, Complains};
-ghost use Rattle.generate_command.specs.Making.{AreAllowed};
-ghost use Rattle.generate_command.specs.Generating.{is_closed as closes, is_limit, is_memory_end, is_memory_writer, limit_passed, lacks_memory as names_lack, is_sound as stands_whole, ReadsBack, text_after, halts_after, is_lack_after, LackIsTold, Generates};
+ghost use Rattle.generate_command.specs.Making.{OptionsAllowed};
+ghost use Rattle.generate_command.specs.Generating.{writer_closed as closes, is_limit, is_memory_end, is_memory_writer, limit_passed, report_lacks_memory as names_lack, is_sound as stands_whole, ReadsBack, text_after, halts_after, is_lack_after, GenerationLackTold, Generates};
 
 use crate::back::{Back, Summing};
 use crate::making::{Numbers, Written, write_generated};
@@ -173,7 +173,7 @@ fn is_lack(
     report: &Option<Report>,
     back: &Option<Back>,
 ) -> bool
-    ensures { (out : List ℕ) → LackIsTold before.now now.now what.now.feeds out report.now back.now result }
+    ensures { (out : List ℕ) → GenerationLackTold before.now now.now what.now.feeds out report.now back.now result }
 {
     match report {
         Some(report) => return names_memory(report) || back_lacked(what, back),
@@ -263,7 +263,7 @@ pub fn generate_file<R: AllocGlobal + Threads + Wait + Sync, W: World, O: Sink, 
     err: &mut E,
     listed: bool,
 ) -> Generated
-    requires allowed { AreAllowed options.now }
+    requires allowed { OptionsAllowed options.now }
     requires few { (1 ≤ numbers.feeds) × (numbers.feeds ≤ 64) }
     ensures generates { Generates options.now numbers out_name.now
         (scene (W.state world.old) (O.state out.old) (E.state err.old))

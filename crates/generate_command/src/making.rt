@@ -3,7 +3,7 @@ ghost use Rattle.std.specs.Prelude.{◌≡◌, ◌≤◌, ◌<◌, ◌^◌, ◌�
 ghost use Rattle.mcap_io.specs.Outside.{went_well};
 ghost use Rattle.mcap_model.specs.Places.{Each};
 ghost use Rattle.feed_lane.specs.Feeds.{ListsMessages};
-ghost use Rattle.generate_command.specs.Making.{AreAllowed, source_of, sources_of, NameWritten};
+ghost use Rattle.generate_command.specs.Making.{OptionsAllowed, generated_source, sources_of, NameWritten};
 
 use generated_feed::GeneratedFeed;
 use mcap_io::{Failed, OpenRefused, Source, World};
@@ -36,7 +36,7 @@ fn add_feed(
     numbers: Numbers,
     feed: u64,
 ) -> Result<(), Memory>
-    ensures { OnOk result (map (λ f. ⟦<GeneratedFeed as Source>⟧.state f) feeds.new.items ≡ map (λ f. ⟦<GeneratedFeed as Source>⟧.state f) feeds.old.items ++ source_of numbers feed ∷ []) }
+    ensures { OnOk result (map (λ f. ⟦<GeneratedFeed as Source>⟧.state f) feeds.new.items ≡ map (λ f. ⟦<GeneratedFeed as Source>⟧.state f) feeds.old.items ++ generated_source numbers feed ∷ []) }
 {
     let made = match GeneratedFeed::new(alloc, numbers.seed, feed, numbers.messages) {
         Ok(made) => made,
@@ -82,7 +82,7 @@ fn write_feeds<R: Threads + Wait + Sync, W: World>(
     world: &mut W,
     listed: bool,
 ) -> Written
-    requires allowed { AreAllowed options.now }
+    requires allowed { OptionsAllowed options.now }
     requires few { (1 ≤ vec_len feeds) × (vec_len feeds ≤ 64) }
     requires world_fits { (W.state world.old).faults < 2 ^ 64 }
     requires inputs_fit { (W.state world.old).input_faults < 2 ^ 64 }
@@ -129,7 +129,7 @@ pub fn write_generated<R: Threads + Wait + Sync, W: World>(
     world: &mut W,
     listed: bool,
 ) -> Written
-    requires allowed { AreAllowed options.now }
+    requires allowed { OptionsAllowed options.now }
     requires few { (1 ≤ numbers.feeds) × (numbers.feeds ≤ 64) }
     requires world_fits { (W.state world.old).faults < 2 ^ 64 }
     requires inputs_fit { (W.state world.old).input_faults < 2 ^ 64 }

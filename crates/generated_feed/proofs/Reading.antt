@@ -26,8 +26,8 @@ use Rattle.mcap_model.proofs.Histories.{header_meets, data_end_meets, rec_meets,
 use Rattle.mcap_model.proofs.Maps.{shows_once, message_once}
 use Rattle.mcap_model.proofs.ReadBack.{at_map}
 use Rattle.mcap_model.proofs.Readings.{length-top, halts_are_last}
-use Rattle.generated_feed.specs.Generator.{next_state, number_of, message_of, messages_from, generated, first_state}
-use Rattle.generated_feed.specs.Feeds.{header_top, topic_of, channel_of, channel_top, message_top, end_top, feed_bytes}
+use Rattle.generated_feed.specs.Generator.{next_state, upper_bits, generated_message, messages_from, generated, first_state}
+use Rattle.generated_feed.specs.Feeds.{header_top, topic_of, feed_channel, channel_top, message_top, end_top, feed_bytes}
 use Rattle.generated_feed.specs.Laws.{FeedsAreRead}
 
 -- ---- what the messages are
@@ -42,8 +42,8 @@ pub record IsSmall (m : MessageFields) : Type 0 where
 pub small_from : (n index x : ℕ) → index + n ≤ 2 ^ 32 → Each IsSmall (messages_from n index x)
 small_from zero index x fits k m at = absurd (at_none k m at)
 small_from (suc n) index x fits zero m at =
-    let u = number_of (next_state x) in
-    subst IsSmall (same_Some (message_of index u) m at) (record {
+    let u = upper_bits (next_state x) in
+    subst IsSmall (same_Some (generated_message index u) m at) (record {
       sequence = omega (arith, fits);
       log = omega (arith, fits);
       publish = omega (arith, fits);
@@ -70,13 +70,13 @@ length-topic feed fits = let size = length-decimal-le 20 feed (omega arith) (ome
 no_pairs : IsTextMap []
 no_pairs = record { texts = λ k d less. absurd (omega (arith, less)); keys_differ = λ i j d less within. absurd (omega (arith, within)) }
 
-pub channel_is : (feed : ℕ) → feed < 2 ^ 64 → IsChannel (channel_top feed) 1 (channel_of feed)
+pub channel_is : (feed : ℕ) → feed < 2 ^ 64 → IsChannel (channel_top feed) 1 (feed_channel feed)
 channel_is feed fits =
     let size = length-topic feed fits in
     let utf8 : IsUtf8 (topic_of feed) = IsUtf8-append (codes "/gen/") (decimal feed) slash_gen (IsUtf8-from_ascii (decimal feed) (IsAscii-decimal feed fits)) in
     record {
       kind = refl;
-      layout = row_shown channel_kinds (channel_values 1 (channel_of feed)) (omega arith, (omega arith, ((omega (arith, size), utf8), ((omega arith, ([], (refl, refl))), ((omega arith, no_pairs), tt)))));
+      layout = row_shown channel_kinds (channel_values 1 (feed_channel feed)) (omega arith, (omega arith, ((omega (arith, size), utf8), ((omega arith, ([], (refl, refl))), ((omega arith, no_pairs), tt)))));
     }
 
 pub message_is : (m : MessageFields) → IsSmall m → IsMessage (message_top m) 1 m
@@ -84,10 +84,10 @@ message_is m small = record { kind = refl; layout = message_shown 1 m (omega ari
 
 -- ---- how long they are
 
-length-channel : (feed : ℕ) → feed < 2 ^ 64 → length (channel_text 1 (channel_of feed)) ≤ 64
+length-channel : (feed : ℕ) → feed < 2 ^ 64 → length (channel_text 1 (feed_channel feed)) ≤ 64
 length-channel feed fits =
     let size = length-topic feed fits in
-    let all : length (channel_text 1 (channel_of feed)) ≡ 16 + length (topic_of feed) = simp (length-append, length-le) (omega arith) in
+    let all : length (channel_text 1 (feed_channel feed)) ≡ 16 + length (topic_of feed) = simp (length-append, length-le) (omega arith) in
     omega (arith, size, all)
 
 length-messages : (ms : List MessageFields) → Each IsSmall ms → length (spelled (map message_top ms)) ≤ 94 * length ms
@@ -129,7 +129,7 @@ channel_agrees feed fits = record {
   schemas = λ id f g n u is at other. absurd (omega (arith, is.kind));
   channels = λ id f g n u is at other. absurd (at_none n u at);
   schema = λ id f is.
-      let same = shows_once (channel_top feed) 1 id (channel_of feed) f (channel_is feed fits) is in
+      let same = shows_once (channel_top feed) 1 id (feed_channel feed) f (channel_is feed fits) is in
       inl (ap (λ (g : ChannelFields). g.schema) (sym same.1));
   channel = λ id m is. absurd (omega (arith, is.kind));
 }
@@ -150,7 +150,7 @@ channel_fits feed fits =
       v8 = λ f chunk. absurd (omega (arith, chunk.kind));
       v10 = λ f place kind. absurd (omega (arith, kind));
       plain = λ name named. let chunk = named.is in absurd (omega (arith, chunk.kind));
-      within = within_there (offset_behind (header_top ∷ [])) (length (channel_text 1 (channel_of feed))) (omega (arith, size)) (omega (arith, size, front));
+      within = within_there (offset_behind (header_top ∷ [])) (length (channel_text 1 (feed_channel feed))) (omega (arith, size)) (omega (arith, size, front));
       unended = unended;
     }
   where
@@ -183,7 +183,7 @@ message_agrees feed more m fits small = record {
   schema = λ id f is. absurd (omega (arith, is.kind));
   channel = λ id n is.
       let same = message_once (message_top m) 1 id m n (message_is m small) is in
-      subst (HasChannel (channel_top feed ∷ more)) same.0 (record { place = 0; top = channel_top feed; shown = channel_of feed; at = refl; is = channel_is feed fits });
+      subst (HasChannel (channel_top feed ∷ more)) same.0 (record { place = 0; top = channel_top feed; shown = feed_channel feed; at = refl; is = channel_is feed fits });
 }
 
 message_back : (m : MessageFields) → IsSmall m → IsReadBack (recs.Message 1 m.sequence m.log_time m.publish_time m.payload)

@@ -17,11 +17,11 @@ abbrev pub topic_of : ℕ → List ℕ
 topic_of feed = codes "/gen/" ++ decimal feed
 
 -- the one channel, which has no schema
-abbrev pub channel_of : ℕ → ChannelFields
-channel_of feed = record { schema = 0; topic = topic_of feed; encoding = []; metadata = [] }
+abbrev pub feed_channel : ℕ → ChannelFields
+feed_channel feed = record { schema = 0; topic = topic_of feed; encoding = []; metadata = [] }
 
 abbrev pub channel_top : ℕ → Top
-channel_top feed = top channel_opcode (channel_text 1 (channel_of feed))
+channel_top feed = top channel_opcode (channel_text 1 (feed_channel feed))
 
 abbrev pub message_top : MessageFields → Top
 message_top m = top message_opcode (message_text 1 m)
@@ -45,5 +45,5 @@ unmade true n index state = []
 unmade false n index state = spelled (map message_top (messages_from n index state)) ++ top_bytes end_top
 
 -- the bytes that were made and not read, and what isn't made yet
-abbrev pub left_of : List ℕ → ℕ → List ℕ → List ℕ
-left_of waiting from later = drop from waiting ++ later
+abbrev pub left_to_read : List ℕ → ℕ → List ℕ → List ℕ
+left_to_read waiting from later = drop from waiting ++ later

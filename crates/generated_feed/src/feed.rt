@@ -4,7 +4,7 @@ ghost use Rattle.std.proofs.Common.{◌∙◌};
 ghost use Rattle.mcap_wire.specs.Layout.{magic};
 ghost use Rattle.mcap_model.specs.Tops.{top_bytes};
 ghost use Rattle.generated_feed.specs.declared.generator.TheConstants.{RECORD_ROOM as record_room};
-ghost use Rattle.generated_feed.specs.Feeds.{header_top, channel_top, feed_bytes, unmade, left_of};
+ghost use Rattle.generated_feed.specs.Feeds.{header_top, channel_top, feed_bytes, unmade, left_to_read};
 
 use crate::generator::{CHANNEL_ID, RECORD_ROOM, advance, begin, draw, put_message};
 use mcap_io::{Failed, Source};
@@ -81,8 +81,8 @@ impl GeneratedFeed {
 
     // Makes the next record, where all that were made are read. There is room for it.
     fn refill(&mut self)
-        ensures left { left_of self.new.waiting.items self.new.from (unmade self.new.ended (self.new.messages - self.new.made) self.new.made self.new.state)
-            ≡ left_of self.old.waiting.items self.old.from (unmade self.old.ended (self.old.messages - self.old.made) self.old.made self.old.state) }
+        ensures left { left_to_read self.new.waiting.items self.new.from (unmade self.new.ended (self.new.messages - self.new.made) self.new.made self.new.state)
+            ≡ left_to_read self.old.waiting.items self.old.from (unmade self.old.ended (self.old.messages - self.old.made) self.old.made self.old.state) }
         ensures some { drop self.new.from self.new.waiting.items ≡ [] → self.new.ended ≡ true }
         ensures messages { self.new.messages ≡ self.old.messages }
     {
@@ -124,7 +124,7 @@ impl GeneratedFeed {
 }
 
 impl Source for GeneratedFeed {
-    ghost state = { λ f. record { left = Some (left_of f.waiting.items f.from (unmade f.ended (f.messages - f.made) f.made f.state)); faults = 0 } };
+    ghost state = { λ f. record { left = Some (left_to_read f.waiting.items f.from (unmade f.ended (f.messages - f.made) f.made f.state)); faults = 0 } };
 
     /// It has as many messages in all.
     ghost stays = { λ f g. g.messages ≡ f.messages };

@@ -3,7 +3,7 @@ ghost use Rattle.std.specs.Prelude.{◌≡◌, ◌≤◌, ◌++◌, vec_capacity
 ghost use Rattle.mcap_wire.specs.Layout.{framed};
 ghost use Rattle.mcap_wire.specs.Writing.{LacksRoom};
 ghost use Rattle.rec_data.specs.Records.{message_opcode, message_text};
-ghost use Rattle.generated_feed.specs.Generator.{first_state, next_state, number_of, message_of};
+ghost use Rattle.generated_feed.specs.Generator.{first_state, next_state, upper_bits, generated_message};
 
 use mcap_wire::Memory;
 use rec_data::Message;
@@ -44,14 +44,14 @@ pub(crate) fn advance(state: u64) -> u64
 
 /// The number of a state.
 pub(crate) fn draw(state: u64) -> u64
-    ensures { result ≡ number_of state }
+    ensures { result ≡ upper_bits state }
 {
     state >> LOW_BITS
 }
 
 /// Appends the record of the message of that index and number.
 pub(crate) fn put_message(out: &mut Vec<u8>, index: u32, number: u64) -> Result<(), Memory>
-    ensures ok { OnOk result (out.new.items ≡ out.old.items ++ framed message_opcode (message_text 1 (message_of index number))) }
+    ensures ok { OnOk result (out.new.items ≡ out.old.items ++ framed message_opcode (message_text 1 (generated_message index number))) }
     ensures full { OnErr result (LacksRoom out.old RECORD_ROOM) }
     ensures capacity { vec_capacity out.old ≤ vec_capacity out.new }
 {

@@ -17,14 +17,14 @@ use Rattle.id_table.specs.Given.{Lacks, EachOnce, FoundAt, Offers, OffersTo, IsF
 use Rattle.id_table.specs.Ids.{ids}
 use Rattle.id_table.proofs.Places.{at_end}
 use Rattle.id_table.specs.Parts.{Grows, StandAt, FoundPlaces}
-use Rattle.id_table.specs.Keys.{Stock, stocked, ShowsSchema, ShowsKey, FoundKey, schema_at, content_at, Stands, AllStand, Stocks}
+use Rattle.id_table.specs.Keys.{Stock, stocked, SchemaStandsAt, ShowsKey, FoundKey, schema_at, content_at, KeyStands, AllStand, Stocks}
 
 -- ---- one key
 
 abbrev make_channel : List ℕ → List ℕ → List (List ℕ × List ℕ) → Option SchemaDef → ChannelDef
 make_channel topic encoding metadata schema = record { topic = topic; message_encoding = encoding; metadata = metadata; schema = schema }
 
-schema_is : (schemas : List SchemaDef) (place : Option ℕ) (schema : Option SchemaDef) → ShowsSchema schemas place schema → schema_at schemas place ≡ schema
+schema_is : (schemas : List SchemaDef) (place : Option ℕ) (schema : Option SchemaDef) → SchemaStandsAt schemas place schema → schema_at schemas place ≡ schema
 schema_is schemas None None shows = refl
 schema_is schemas None (Some s) shows = absurd shows
 schema_is schemas (Some n) None shows = absurd shows
@@ -39,7 +39,7 @@ content_is stock k d shows =
     ∙ ap (λ (l : List (List ℕ × List ℕ)). make_channel d.topic d.message_encoding l at.schema) (get_or_from_slice_get stock.maps k.parts.metadata d.metadata [] shows.parts.metadata)
     ∙ ap (λ (o : Option SchemaDef). make_channel d.topic d.message_encoding d.metadata o) (schema_is stock.schemas k.schema d.schema shows.schema)
 
-pub stands : (stock : Stock) (k : ChannelKey) (d : ChannelDef) → ShowsKey stock k d → Stands stock k
+pub stands : (stock : Stock) (k : ChannelKey) (d : ChannelDef) → ShowsKey stock k d → KeyStands stock k
 stands stock k d shows = subst (λ (e : ChannelDef). ShowsKey stock k e) (sym (content_is stock k d shows)) shows
 
 abbrev make_places : ℕ → ℕ → ℕ → Places
@@ -48,7 +48,7 @@ make_places topic encoding metadata = record { topic = topic; message_encoding =
 abbrev make_key : Option ℕ → Places → ChannelKey
 make_key schema parts = record { schema = schema; parts = parts }
 
-same_schema : (schemas : List SchemaDef) → EachOnce schemas → (m n : Option ℕ) (schema : Option SchemaDef) → ShowsSchema schemas m schema → ShowsSchema schemas n schema → m ≡ n
+same_schema : (schemas : List SchemaDef) → EachOnce schemas → (m n : Option ℕ) (schema : Option SchemaDef) → SchemaStandsAt schemas m schema → SchemaStandsAt schemas n schema → m ≡ n
 same_schema schemas once None None None one other = refl
 same_schema schemas once None None (Some s) one other = absurd one
 same_schema schemas once None (Some n) None one other = absurd other
@@ -122,7 +122,7 @@ read_front (y ∷ xs) more (suc n) x at = read_front xs more n x at
 grown : {X : Type 0} (xs ys : List X) → Grows xs ys → (n : ℕ) (x : X) → slice_get xs n ≡ Some x → slice_get ys n ≡ Some x
 grown {X} xs ys grows n x at = subst (λ (l : List X). slice_get l n ≡ Some x) (sym grows.1) (read_front xs grows.0 n x at)
 
-schema_stays : (old new : List SchemaDef) → Grows old new → (place : Option ℕ) (schema : Option SchemaDef) → ShowsSchema old place schema → ShowsSchema new place schema
+schema_stays : (old new : List SchemaDef) → Grows old new → (place : Option ℕ) (schema : Option SchemaDef) → SchemaStandsAt old place schema → SchemaStandsAt new place schema
 schema_stays old new grows None None shows = tt
 schema_stays old new grows None (Some s) shows = absurd shows
 schema_stays old new grows (Some n) None shows = absurd shows
@@ -165,7 +165,7 @@ at_push (z ∷ xs) y x (suc n) at = at_push xs y x n at
 pub all_stand_with : (stock : Stock) (keys : List ChannelKey) (k : ChannelKey) (d : ChannelDef) → AllStand stock keys → ShowsKey stock k d → AllStand stock (keys ++ k ∷ [])
 all_stand_with stock keys k d all shows n l at = elim (at_push keys k l n at) [
   | inl before ↦ all n l before
-  | inr same ↦ subst (λ (m : ChannelKey). Stands stock m) (sym same) (stands stock k d shows)
+  | inr same ↦ subst (λ (m : ChannelKey). KeyStands stock m) (sym same) (stands stock k d shows)
 ]
 
 pub contents_with : (stock : Stock) (keys : List ChannelKey) (k : ChannelKey) (d : ChannelDef) → ShowsKey stock k d → map (content_at stock) (keys ++ k ∷ []) ≡ map (content_at stock) keys ++ d ∷ []
@@ -195,7 +195,7 @@ module _ (old : Stock) (schemas : List SchemaDef) (texts : List (List ℕ)) (map
   pub stay_now : map (content_at now) keys ≡ map (content_at old) keys
   stay_now = contents_stay old now keys grows all
 
-  schema_shows : (schema : Option SchemaDef) (s : Option Given) → OffersTo old.schemas schema s → schemas ≡ old.schemas ++ option_to_list (fresh_to schema s) → ShowsSchema schemas (place_given s) schema
+  schema_shows : (schema : Option SchemaDef) (s : Option Given) → OffersTo old.schemas schema s → schemas ≡ old.schemas ++ option_to_list (fresh_to schema s) → SchemaStandsAt schemas (place_given s) schema
   schema_shows None None offers is = tt
   schema_shows None (Some given) offers is = absurd offers
   schema_shows (Some x) None offers is = absurd offers
@@ -206,7 +206,7 @@ module _ (old : Stock) (schemas : List SchemaDef) (texts : List (List ℕ)) (map
 
   pub kept_shows : (k : ChannelKey) → k.schema ≡ place_given g.schema → StandAt texts maps d k.parts → ShowsKey now k d
   kept_shows k place parts = record {
-    schema = subst (λ (o : Option ℕ). ShowsSchema schemas o d.schema) (sym place) (schema_shows d.schema g.schema offered given);
+    schema = subst (λ (o : Option ℕ). SchemaStandsAt schemas o d.schema) (sym place) (schema_shows d.schema g.schema offered given);
     parts = parts;
   }
 

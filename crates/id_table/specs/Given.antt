@@ -10,7 +10,7 @@ use Rattle.id_table.specs.declared.given.Given.TheVariants.{Known, New}
 use Rattle.id_table.specs.declared.given.GivenIds.{GivenIds}
 use Rattle.id_table.specs.declared.given.IdRefused.{IdRefused}
 use Rattle.id_table.specs.declared.given.IdRefused.TheVariants.{TooManySchemas, TooManyChannels, Memory}
-use Rattle.id_table.specs.Ids.{Ids}
+use Rattle.id_table.specs.Ids.{IdContents}
 
 module _ {X : Type 0} where
   -- ids are counted from 1
@@ -110,24 +110,24 @@ KeptKey texts maps d schema (New id) None = ⊥
 KeptKey texts maps d schema (New id) (Some k) = (k.schema ≡ place_given schema) × StandAt texts maps d k.parts
 
 -- the channel with that id has this schema, or none where this is none
-pub record SharesSchema (ids : Ids) (schema : Option SchemaDef) (like : ℕ) : Type 0 where
+pub record SharesSchema (ids : IdContents) (schema : Option SchemaDef) (like : ℕ) : Type 0 where
   pub channel : ChannelDef
   pub has_id : HasId ids.channels channel like
   pub same : channel.schema ≡ schema
 
 -- ids were given to a channel and to its schema
-pub record Declares (before : Ids) (d : ChannelDef) (g : GivenIds) (after : Ids) : Type 0 where
+pub record Declares (before : IdContents) (d : ChannelDef) (g : GivenIds) (after : IdContents) : Type 0 where
   pub schema : OffersTo before.schemas d.schema g.schema
   pub channel : Offers before.channels d g.channel
   pub schemas : after.schemas ≡ with_given_to before.schemas d.schema g.schema
   pub channels : after.channels ≡ with_given before.channels d g.channel
 
 -- a new id is needed for the channel or for its schema
-abbrev pub NeedsId : Ids → ChannelDef → Type 0
+abbrev pub NeedsId : IdContents → ChannelDef → Type 0
 NeedsId ids d = LacksTo ids.schemas d.schema ⊎ Lacks ids.channels d
 
 -- Why ids are refused. Memory lacks only where a new id is needed and could be given.
-abbrev pub Refuses : Ids → ChannelDef → IdRefused → Type 0
-Refuses ids d TooManySchemas = IsFullTo ids.schemas d.schema
-Refuses ids d TooManyChannels = (IsFullTo ids.schemas d.schema → ⊥) × IsFull ids.channels d
-Refuses ids d Memory = NeedsId ids d × (IsFullTo ids.schemas d.schema → ⊥) × (IsFull ids.channels d → ⊥)
+abbrev pub RefusesIds : IdContents → ChannelDef → IdRefused → Type 0
+RefusesIds ids d TooManySchemas = IsFullTo ids.schemas d.schema
+RefusesIds ids d TooManyChannels = (IsFullTo ids.schemas d.schema → ⊥) × IsFull ids.channels d
+RefusesIds ids d Memory = NeedsId ids d × (IsFullTo ids.schemas d.schema → ⊥) × (IsFull ids.channels d → ⊥)

@@ -15,21 +15,21 @@ abbrev pub stocked : List SchemaDef → List (List ℕ) → List (List (List ℕ
 stocked schemas texts maps = record { schemas = schemas; texts = texts; maps = maps }
 
 -- the schema stands at the place, or there is neither
-abbrev pub ShowsSchema : List SchemaDef → Option ℕ → Option SchemaDef → Type 0
-ShowsSchema schemas None None = Unit {0}
-ShowsSchema schemas None (Some s) = ⊥
-ShowsSchema schemas (Some n) None = ⊥
-ShowsSchema schemas (Some n) (Some s) = slice_get schemas n ≡ Some s
+abbrev pub SchemaStandsAt : List SchemaDef → Option ℕ → Option SchemaDef → Type 0
+SchemaStandsAt schemas None None = Unit {0}
+SchemaStandsAt schemas None (Some s) = ⊥
+SchemaStandsAt schemas (Some n) None = ⊥
+SchemaStandsAt schemas (Some n) (Some s) = slice_get schemas n ≡ Some s
 
 -- a key stands for a channel
 pub record ShowsKey (stock : Stock) (k : ChannelKey) (d : ChannelDef) : Type 0 where
-  pub schema : ShowsSchema stock.schemas k.schema d.schema
+  pub schema : SchemaStandsAt stock.schemas k.schema d.schema
   pub parts : StandAt stock.texts stock.maps d k.parts
 
 -- the place of a schema, or that it stands nowhere
 abbrev pub FoundSchema : List SchemaDef → Option SchemaDef → Option (Option ℕ) → Type 0
-FoundSchema schemas schema (Some place) = ShowsSchema schemas place schema
-FoundSchema schemas schema None = (place : Option ℕ) → ShowsSchema schemas place schema → ⊥
+FoundSchema schemas schema (Some place) = SchemaStandsAt schemas place schema
+FoundSchema schemas schema None = (place : Option ℕ) → SchemaStandsAt schemas place schema → ⊥
 
 -- the key of a channel, or that none stands for it
 abbrev pub FoundKey : Stock → ChannelDef → Option ChannelKey → Type 0
@@ -52,11 +52,11 @@ content_at stock k = record {
 }
 
 -- all of it is there
-abbrev pub Stands : Stock → ChannelKey → Type 0
-Stands stock k = ShowsKey stock k (content_at stock k)
+abbrev pub KeyStands : Stock → ChannelKey → Type 0
+KeyStands stock k = ShowsKey stock k (content_at stock k)
 
 abbrev pub AllStand : Stock → List ChannelKey → Type 0
-AllStand stock keys = (n : ℕ) (k : ChannelKey) → slice_get keys n ≡ Some k → Stands stock k
+AllStand stock keys = (n : ℕ) (k : ChannelKey) → slice_get keys n ≡ Some k → KeyStands stock k
 
 -- more may stand behind it
 pub record Stocks (old new : Stock) : Type 0 where

@@ -3,10 +3,10 @@ ghost use Rattle.std.specs.Prelude.{◌≡◌, ◌+◌, ◌<◌, ◌≤◌, ◌+
 ghost use Rattle.mcap_wire.specs.Limits.{id_limit};
 ghost use Rattle.rec_data.specs.declared.channel.ChannelDef.{ChannelDef};
 ghost use Rattle.indexmap.specs.IndexSet.{spare};
-ghost use Rattle.id_table.specs.Ids.{Ids, ids};
+ghost use Rattle.id_table.specs.Ids.{IdContents, ids};
 ghost use Rattle.id_table.specs.Parts.{Grows};
-ghost use Rattle.id_table.specs.Keys.{ShowsSchema, FoundKey, stocked, content_at, AllStand};
-ghost use Rattle.id_table.specs.Given.{place_given, KeptKey, IsNew, Lacks, LacksTo, EachOnce, Found, FoundAt, Offers, OffersTo, fresh, fresh_to, IsFull, IsFullTo, SharesSchema, Declares, Refuses, PlaceGives, GivesOrFull};
+ghost use Rattle.id_table.specs.Keys.{SchemaStandsAt, FoundKey, stocked, content_at, AllStand};
+ghost use Rattle.id_table.specs.Given.{place_given, KeptKey, IsNew, Lacks, LacksTo, EachOnce, Found, FoundAt, Offers, OffersTo, fresh, fresh_to, IsFull, IsFullTo, SharesSchema, Declares, RefusesIds, PlaceGives, GivesOrFull};
 
 use crate::given::{Given, GivenIds, IdRefused};
 use crate::keys::{ChannelKey, key_of, key_with, place_given};
@@ -34,13 +34,13 @@ pub struct IdTable {
 }
 
 impl Model for IdTable {
-    ghost use Rattle.id_table.specs.Ids.{Ids};
+    ghost use Rattle.id_table.specs.Ids.{IdContents};
 
-    ghost Value = { Ids };
+    ghost Value = { IdContents };
 
-    ghost use Rattle.id_table.specs.Table.{ids_of, IsTable};
+    ghost use Rattle.id_table.specs.Table.{ids_inside, IsTable};
 
-    ghost view = { ids_of };
+    ghost view = { ids_inside };
 
     ghost invariant = { IsTable };
 }
@@ -92,7 +92,7 @@ impl IdTable {
     pub fn declare(&mut self, d: &ChannelDef) -> Result<GivenIds, IdRefused>
         ensures ok { IfOk result (λ g. Declares self.old d.now g self.new) }
         ensures err { OnErr result (self.new ≡ self.old) }
-        ensures why { IfErr result (Refuses self.old d.now) }
+        ensures why { IfErr result (RefusesIds self.old d.now) }
     {
         if lacks_by_parts(&self.schemas, &self.parts, &self.channels, d) {
             return Err(IdRefused::TooManyChannels);
@@ -108,7 +108,7 @@ impl IdTable {
         requires { SharesSchema self.old d.now.schema like }
         ensures ok { IfOk result (λ g. Declares self.old d.now g self.new) }
         ensures err { OnErr result (self.new ≡ self.old) }
-        ensures why { IfErr result (Refuses self.old d.now) }
+        ensures why { IfErr result (RefusesIds self.old d.now) }
     {
         let schema = given_like(&self.schemas, &self.parts, &self.channels, &d.schema, like);
         self.give(d, schema)
@@ -120,7 +120,7 @@ impl IdTable {
         requires room { IsFullTo self.old.schemas d.now.schema → ⊥ }
         ensures ok { IfOk result (λ g. Declares self.old d.now g self.new) }
         ensures err { OnErr result (self.new ≡ self.old) }
-        ensures why { IfErr result (Refuses self.old d.now) }
+        ensures why { IfErr result (RefusesIds self.old d.now) }
     {
         let key = key_with(&self.schemas, &self.parts, d, schema);
         let channel = match given_to_channel(&self.schemas, &self.parts, &self.channels, d, key) {
@@ -305,7 +305,7 @@ fn given_at(
     place: Option<usize>,
 ) -> Option<Given>
     requires few { length _schemas.now.keys ≤ id_limit }
-    requires shows { ShowsSchema _schemas.now.keys place _schema.now }
+    requires shows { SchemaStandsAt _schemas.now.keys place _schema.now }
     ensures offered { OffersTo _schemas.now.keys _schema.now result }
     ensures room { IsFullTo _schemas.now.keys _schema.now → ⊥ }
 {

@@ -18,7 +18,7 @@ use Rattle.mcap_model.proofs.Logged.{pair_same}
 use Rattle.mcap_model.proofs.Spans.{times_right, times_wrong, test_holds, test_fails}
 use Rattle.index_check.specs.declared.tally.Tally.{Tally}
 use Rattle.index_check.specs.declared.tally.IdCounts.{IdCounts}
-use Rattle.index_check.specs.Tally.{HasKey, CountsTallied, HasTallied, IdsAre, CountsAre, TallyOf}
+use Rattle.index_check.specs.Tally.{HasChannelCount, CountsTallied, HasTallied, IdsAre, ChannelsCounted, TallyOf}
 
 -- ---- the data section is one
 
@@ -93,18 +93,18 @@ on_none (x ∷ xs) channel none =
     ap (λ (b : Bool). length (cond b (x ∷ filter (λ c. eqb c channel) xs) (filter (λ c. eqb c channel) xs))) other
     ∙ on_none xs channel (λ has. none (suc has.0, has.1))
 
-key_or_none : (counts : List (ℕ × ℕ)) (channel : ℕ) → HasKey counts channel ⊎ (HasKey counts channel → ⊥)
+key_or_none : (counts : List (ℕ × ℕ)) (channel : ℕ) → HasChannelCount counts channel ⊎ (HasChannelCount counts channel → ⊥)
 key_or_none [] channel = inr (λ key. at_none key.0 key.1 key.2)
 key_or_none (e ∷ es) channel = elim (key_or_none es channel) [
   | inl key ↦ inl (suc key.0, key.1, key.2, key.3)
   | inr none ↦ by (eqb e.0 channel) refl none
 ]
   where
-    by : (b : Bool) → eqb e.0 channel ≡ b → (HasKey es channel → ⊥) → HasKey (e ∷ es) channel ⊎ (HasKey (e ∷ es) channel → ⊥)
+    by : (b : Bool) → eqb e.0 channel ≡ b → (HasChannelCount es channel → ⊥) → HasChannelCount (e ∷ es) channel ⊎ (HasChannelCount (e ∷ es) channel → ⊥)
     by true is none = inl (0, e, refl, eqb-true e.0 channel is)
     by false is none = inr lacks
       where
-        lacks : HasKey (e ∷ es) channel → ⊥
+        lacks : HasChannelCount (e ∷ es) channel → ⊥
         lacks (zero, entry, at, same) = eqb-false e.0 channel is (ap {B = ℕ} (λ (p : ℕ × ℕ). p.0) (same_Some e entry at) ∙ same)
         lacks (suc k, entry, at, same) = none (k, entry, at, same)
 
@@ -112,7 +112,7 @@ key_or_none (e ∷ es) channel = elim (key_or_none es channel) [
 entry_of : (counts : List (ℕ × ℕ)) (k : ℕ) (entry : ℕ × ℕ) (channel : ℕ) → At counts k entry → entry.0 ≡ channel → Has {X = ℕ × ℕ} counts (channel, entry.1)
 entry_of counts k entry channel at is = (k, subst {A = ℕ × ℕ} (λ e. At counts k e) (pair_same entry channel entry.1 is refl) at)
 
-counts_right : (section : List Top) (map : List (ℕ × ℕ)) (channels : List ℕ) (counts : List (ℕ × ℕ)) → AreChannels (flat section) channels → CountsAre channels counts → CountsTallied map counts → (map ≡ []) ⊎ AreCounted section map
+counts_right : (section : List Top) (map : List (ℕ × ℕ)) (channels : List ℕ) (counts : List (ℕ × ℕ)) → AreChannels (flat section) channels → ChannelsCounted channels counts → CountsTallied map counts → (map ≡ []) ⊎ AreCounted section map
 counts_right section map channels counts are counted tallied = elim tallied [
   | inl none ↦ inl none
   | inr (each, keys) ↦ inr (record {
@@ -129,7 +129,7 @@ counts_right section map channels counts are counted tallied = elim tallied [
   })
 ]
 
-counts_back : (section : List Top) (map : List (ℕ × ℕ)) (channels : List ℕ) (counts : List (ℕ × ℕ)) → AreChannels (flat section) channels → CountsAre channels counts → (map ≡ []) ⊎ AreCounted section map → CountsTallied map counts
+counts_back : (section : List Top) (map : List (ℕ × ℕ)) (channels : List ℕ) (counts : List (ℕ × ℕ)) → AreChannels (flat section) channels → ChannelsCounted channels counts → (map ≡ []) ⊎ AreCounted section map → CountsTallied map counts
 counts_back section map channels counts are counted right = elim right [
   | inl none ↦ inl none
   | inr own ↦

@@ -14,15 +14,15 @@ use Rattle.mcap_model.proofs.Lists.{take_while_front}
 use Rattle.mcap_model.proofs.Cutting.{last_of}
 use Rattle.mcap_model.proofs.Once.{message_index_once}
 use Rattle.record_walk.specs.declared.heads.MessageHead.{MessageHead}
-use Rattle.index_check.specs.Behind.{IsOpen}
-use Rattle.index_check.specs.Messages.{message_of, AreOn}
+use Rattle.index_check.specs.Behind.{IsChunkOpen}
+use Rattle.index_check.specs.Messages.{message_at_entry, AreOn}
 
 -- ---- a Message Index
 
 pub as_index : (content : List ℕ) (channel : ℕ) (entries : List (ℕ × ℕ)) → ShowsMessageIndex content channel entries → IsMessageIndex (top 7 content) channel entries
 as_index content channel entries shows = record { kind = refl; layout = shows }
 
-pub index_belongs : (before : List Top) (messages : List MessageHead) (channels content : List ℕ) (channel : ℕ) (entries : List (ℕ × ℕ)) → (o : IsOpen before messages channels) → ShowsMessageIndex content channel entries
+pub index_belongs : (before : List Top) (messages : List MessageHead) (channels content : List ℕ) (channel : ℕ) (entries : List (ℕ × ℕ)) → (o : IsChunkOpen before messages channels) → ShowsMessageIndex content channel entries
     → AreEntries (inner_tops o.chunk) channel entries → (Has channels channel → ⊥) → BelongsTo before (top 7 content)
 index_belongs before messages channels content channel entries o shows are fresh = by o.earlier refl
   where
@@ -55,7 +55,7 @@ index_belongs before messages channels content channel entries o shows are fresh
           right = right;
         }
 
-pub belongs_index : (before : List Top) (messages : List MessageHead) (channels content : List ℕ) (channel : ℕ) (entries : List (ℕ × ℕ)) → (o : IsOpen before messages channels) → ShowsMessageIndex content channel entries
+pub belongs_index : (before : List Top) (messages : List MessageHead) (channels content : List ℕ) (channel : ℕ) (entries : List (ℕ × ℕ)) → (o : IsChunkOpen before messages channels) → ShowsMessageIndex content channel entries
     → BelongsTo before (top 7 content) → AreEntries (inner_tops o.chunk) channel entries × (Has channels channel → ⊥)
 belongs_index before messages channels content channel entries o shows belongs =
     let right = belongs.right o.others o.chunk o.earlier o.joined o.kind o.indexes in
@@ -79,11 +79,11 @@ indexes_are others chunk earlier t after indexes other =
     first : (x : Top) → At (t ∷ after) 0 x → is_index x ≡ false
     first x at = ap is_index (sym (same_Some t x at)) ∙ ne_eqb t.op 7 other
 
-pub behind_open : (before after : List Top) (t : Top) (messages : List MessageHead) (channels : List ℕ) (o : IsOpen before messages channels) → (t.op ≡ 7 → ⊥) → indexes_behind (before ++ t ∷ after) (length o.others) ≡ o.earlier
+pub behind_open : (before after : List Top) (t : Top) (messages : List MessageHead) (channels : List ℕ) (o : IsChunkOpen before messages channels) → (t.op ≡ 7 → ⊥) → indexes_behind (before ++ t ∷ after) (length o.others) ≡ o.earlier
 behind_open before after t messages channels o other =
     ap (λ (l : List Top). indexes_behind (l ++ t ∷ after) (length o.others)) o.joined ∙ indexes_are o.others o.chunk o.earlier t after o.indexes other
 
-pub indexed_none : (before after : List Top) (t : Top) (messages : List MessageHead) (channels : List ℕ) (o : IsOpen before messages channels) → (t.op ≡ 7 → ⊥) → channels ≡ [] → IsIndexed (before ++ t ∷ after) (length o.others) o.chunk
+pub indexed_none : (before after : List Top) (t : Top) (messages : List MessageHead) (channels : List ℕ) (o : IsChunkOpen before messages channels) → (t.op ≡ 7 → ⊥) → channels ≡ [] → IsIndexed (before ++ t ∷ after) (length o.others) o.chunk
 indexed_none before after t messages channels o other none = inl (behind_open before after t messages channels o other ∙ empty o.earlier refl)
   where
     empty : (earlier : List Top) → o.earlier ≡ earlier → earlier ≡ []
@@ -93,15 +93,15 @@ indexed_none before after t messages channels o other none = inl (behind_open be
         let has = subst (λ (l : List ℕ). Has l there.0) none there.3 in
         absurd (at_none has.0 there.0 has.1)
 
-pub indexed_all : (before after : List Top) (t : Top) (messages : List MessageHead) (channels : List ℕ) (o : IsOpen before messages channels) → (t.op ≡ 7 → ⊥) → AreOn messages channels → IsIndexed (before ++ t ∷ after) (length o.others) o.chunk
+pub indexed_all : (before after : List Top) (t : Top) (messages : List MessageHead) (channels : List ℕ) (o : IsChunkOpen before messages channels) → (t.op ≡ 7 → ⊥) → AreOn messages channels → IsIndexed (before ++ t ∷ after) (length o.others) o.chunk
 indexed_all before after t messages channels o other on = inr (λ j channel u m at is.
     let entry : IsEntryOf (inner_tops o.chunk) channel (m.log_time, offset_among (inner_tops o.chunk) j) = record { place = j; top = u; message = m; at = at; is = is; time = refl; offset = refl } in
     let heard = o.holds.all channel (m.log_time, offset_among (inner_tops o.chunk) j) entry in
-    let there = o.named channel (on heard.0 (message_of channel (m.log_time, offset_among (inner_tops o.chunk) j)) heard.1) in
+    let there = o.named channel (on heard.0 (message_at_entry channel (m.log_time, offset_among (inner_tops o.chunk) j)) heard.1) in
     let has = there.2 in
     (has.0, there.0, there.1, subst (λ (l : List Top). At l has.0 there.0) (sym (behind_open before after t messages channels o other)) has.1, there.3))
 
-pub on_indexed : (before after : List Top) (t : Top) (messages : List MessageHead) (channels : List ℕ) (o : IsOpen before messages channels) → (t.op ≡ 7 → ⊥) → (channels ≡ [] → ⊥) → IsIndexed (before ++ t ∷ after) (length o.others) o.chunk → AreOn messages channels
+pub on_indexed : (before after : List Top) (t : Top) (messages : List MessageHead) (channels : List ℕ) (o : IsChunkOpen before messages channels) → (t.op ≡ 7 → ⊥) → (channels ≡ [] → ⊥) → IsIndexed (before ++ t ∷ after) (length o.others) o.chunk → AreOn messages channels
 on_indexed before after t messages channels o other some indexed = elim indexed [
   | inl none ↦ absurd (some (no_channel (none_behind none) channels refl))
   | inr each ↦ λ n heard at.

@@ -16,42 +16,42 @@ use Rattle.mcap_model.proofs.ReadBack.{at_map}
 use Rattle.mcap_model.proofs.Flat.{at_mapped}
 use Rattle.record_walk.specs.declared.heads.MessageHead.{MessageHead}
 use Rattle.index_check.specs.Entries.{ListsEntries, entry_offset}
-use Rattle.index_check.specs.Messages.{entry_of, message_of, NotBehind, Rises, HoldsMessages}
+use Rattle.index_check.specs.Messages.{entry_of, message_at_entry, ByChannelNotBehind, MessagesRise, HoldsMessages}
 use Rattle.index_check.proofs.Apart.{apart_moved}
 use Rattle.index_check.proofs.SortedEntries.{moved_has}
 
 -- ---- order
 
-next : (a b c : MessageHead) → NotBehind a b → NotBehind b c → NotBehind a c
+next : (a b c : MessageHead) → ByChannelNotBehind a b → ByChannelNotBehind b c → ByChannelNotBehind a c
 next a b c (inl p) (inl q) = inl (omega (arith, p, q))
 next a b c (inl p) (inr q) = inl (omega (arith, p, q.0))
 next a b c (inr p) (inl q) = inl (omega (arith, p.0, q))
 next a b c (inr p) (inr q) = inr (p.0 ∙ q.0, omega (arith, p.1, q.1))
 
-far : (xs : List MessageHead) → AllAdjacentBelow NotBehind xs (length xs) → (i n : ℕ) (d : MessageHead) → suc (i + n) < length xs → NotBehind (get_or xs i d) (get_or xs (suc (i + n)) d)
+far : (xs : List MessageHead) → AllAdjacentBelow ByChannelNotBehind xs (length xs) → (i n : ℕ) (d : MessageHead) → suc (i + n) < length xs → ByChannelNotBehind (get_or xs i d) (get_or xs (suc (i + n)) d)
 far xs order i zero d within =
     let is : i + 1 ≡ suc (i + 0) = omega arith in
-    subst (λ (k : ℕ). NotBehind (get_or xs i d) (get_or xs k d)) is (order i d (omega (arith, within)))
+    subst (λ (k : ℕ). ByChannelNotBehind (get_or xs i d) (get_or xs k d)) is (order i d (omega (arith, within)))
 far xs order i (suc n) d within =
     let is : suc (i + n) + 1 ≡ suc (i + suc n) = omega arith in
     next (get_or xs i d) (get_or xs (suc (i + n)) d) (get_or xs (suc (i + suc n)) d) (far xs order i n d (omega (arith, within)))
-    (subst (λ (k : ℕ). NotBehind (get_or xs (suc (i + n)) d) (get_or xs k d)) is (order (suc (i + n)) d (omega (arith, within))))
+    (subst (λ (k : ℕ). ByChannelNotBehind (get_or xs (suc (i + n)) d) (get_or xs k d)) is (order (suc (i + n)) d (omega (arith, within))))
 
 -- where none comes behind the next, all rise
-pub all_rise : (xs : List MessageHead) → AllAdjacentBelow NotBehind xs (length xs) → Rises xs
+pub all_rise : (xs : List MessageHead) → AllAdjacentBelow ByChannelNotBehind xs (length xs) → MessagesRise xs
 all_rise xs order i j d less within =
     let is : suc (i + (j - suc i)) ≡ j = omega (arith, less) in
-    subst (λ (k : ℕ). NotBehind (get_or xs i d) (get_or xs k d)) is (far xs order i (j - suc i) d (omega (arith, within, less)))
+    subst (λ (k : ℕ). ByChannelNotBehind (get_or xs i d) (get_or xs k d)) is (far xs order i (j - suc i) d (omega (arith, within, less)))
 
 not_so : true ≡ false → ⊥
 not_so e = cc
 
 -- what the order of the keys says
-pub not_less : (s r : MessageHead) → is_lt (ordering_then (nat_cmp s.channel r.channel) (nat_cmp s.offset r.offset)) ≡ false → NotBehind r s
+pub not_less : (s r : MessageHead) → is_lt (ordering_then (nat_cmp s.channel r.channel) (nat_cmp s.offset r.offset)) ≡ false → ByChannelNotBehind r s
 not_less s r = by (nat_lt s.channel r.channel) (s.channel == r.channel) (nat_lt s.offset r.offset) (s.offset == r.offset) refl refl refl
   where
     by : (l e n g : Bool) → nat_lt s.channel r.channel ≡ l → (s.channel == r.channel) ≡ e → nat_lt s.offset r.offset ≡ n
-        → is_lt (ordering_then (cond l Less (cond e Equal Greater)) (cond n Less (cond g Equal Greater))) ≡ false → NotBehind r s
+        → is_lt (ordering_then (cond l Less (cond e Equal Greater)) (cond n Less (cond g Equal Greater))) ≡ false → ByChannelNotBehind r s
     by true e n g l_is e_is n_is less = absurd (not_so less)
     by false false n g l_is e_is n_is less = inl (omega (arith, ltb-false s.channel r.channel l_is, eqb-false s.channel r.channel e_is))
     by false true true g l_is e_is n_is less = absurd (not_so less)
@@ -59,10 +59,10 @@ not_less s r = by (nat_lt s.channel r.channel) (s.channel == r.channel) (nat_lt 
 
 -- ---- those below a channel
 
-pub parted : (xs : List MessageHead) (bound : ℕ) → Rises xs → (i j : ℕ) (d : MessageHead) → i ≤ j → j < length xs → nat_lt (get_or xs j d).channel bound ≡ true → nat_lt (get_or xs i d).channel bound ≡ true
+pub parted : (xs : List MessageHead) (bound : ℕ) → MessagesRise xs → (i j : ℕ) (d : MessageHead) → i ≤ j → j < length xs → nat_lt (get_or xs j d).channel bound ≡ true → nat_lt (get_or xs i d).channel bound ≡ true
 parted xs bound rises i j d few within early = by (i == j) refl
   where
-    low : NotBehind (get_or xs i d) (get_or xs j d) → nat_lt (get_or xs i d).channel bound ≡ true
+    low : ByChannelNotBehind (get_or xs i d) (get_or xs j d) → nat_lt (get_or xs i d).channel bound ≡ true
     low (inl less) = lt-ltb (get_or xs i d).channel bound (omega (arith, less, ltb-true (get_or xs j d).channel bound early))
     low (inr same) = lt-ltb (get_or xs i d).channel bound (omega (arith, same.0, ltb-true (get_or xs j d).channel bound early))
 
@@ -113,8 +113,8 @@ module _ (xs : List MessageHead) (channel from to : ℕ) (within : from ≤ leng
   pub run_rises : from ≤ to
   run_rises = elim (cases_lt to from) [
     | inl less ↦
-        let heard = get_or xs to (message_of 0 (0, 0)) in
-        let at : At xs to heard = at_read xs to (message_of 0 (0, 0)) (omega (arith, less, within)) in
+        let heard = get_or xs to (message_at_entry 0 (0, 0)) in
+        let at : At xs to heard = at_read xs to (message_at_entry 0 (0, 0)) (omega (arith, less, within)) in
         let few = (below to heard at).0 less in
         let before = (through to heard at).1 (omega (arith, few)) in
         absurd (omega (arith, before))
@@ -131,8 +131,8 @@ module _ (xs : List MessageHead) (channel from to : ℕ) (within : from ≤ leng
       omega (arith, few, many)))
       (λ k heard at past. ne_eqb heard.channel channel (λ e. let before = (through k heard at).1 (omega (arith, e)) in omega (arith, before, past, rises)))
 
-pub run_still_rises : (xs run : List MessageHead) (channel : ℕ) → Rises xs → run ≡ filter (λ heard. heard.channel == channel) xs → Rises run
-run_still_rises xs run channel rises is = subst Rises (sym is) (AllPairs-filter NotBehind (λ (h : MessageHead). h.channel == channel) xs rises)
+pub run_still_rises : (xs run : List MessageHead) (channel : ℕ) → MessagesRise xs → run ≡ filter (λ heard. heard.channel == channel) xs → MessagesRise run
+run_still_rises xs run channel rises is = subst MessagesRise (sym is) (AllPairs-filter ByChannelNotBehind (λ (h : MessageHead). h.channel == channel) xs rises)
 
 -- ---- the entries of a channel
 
@@ -140,16 +140,16 @@ run_still_rises xs run channel rises is = subst Rises (sym is) (AllPairs-filter 
 pub holds_moved : (records : List Top) (xs ys : List MessageHead) → IsPermutation xs ys → HoldsMessages records xs → HoldsMessages records ys
 holds_moved records xs ys moved was = record {
   are = λ heard has. was.are heard (moved_has ys xs heard (IsPermutation-sym xs ys moved) has);
-  all = λ channel entry is. moved_has xs ys (message_of channel entry) moved (was.all channel entry is);
+  all = λ channel entry is. moved_has xs ys (message_at_entry channel entry) moved (was.all channel entry is);
   once = apart_moved (λ (heard : MessageHead). heard.offset) xs ys moved was.once;
 }
 
-on_one : (channel : ℕ) (a b : MessageHead) → a.channel ≡ channel → b.channel ≡ channel → NotBehind a b → a.offset ≢ b.offset → a.offset < b.offset
+on_one : (channel : ℕ) (a b : MessageHead) → a.channel ≡ channel → b.channel ≡ channel → ByChannelNotBehind a b → a.offset ≢ b.offset → a.offset < b.offset
 on_one channel a b first second (inl less) differ = absurd (omega (arith, first, second, less))
 on_one channel a b first second (inr same) differ = omega (arith, same.1, differ)
 
 -- those of a channel, in order, give the entries of its Message Index
-pub lists_run : (records : List Top) (messages run : List MessageHead) (channel : ℕ) → HoldsMessages records messages → Rises run → run ≡ filter (λ heard. heard.channel == channel) messages → ListsEntries records channel (map entry_of run)
+pub lists_run : (records : List Top) (messages run : List MessageHead) (channel : ℕ) → HoldsMessages records messages → MessagesRise run → run ≡ filter (λ heard. heard.channel == channel) messages → ListsEntries records channel (map entry_of run)
 lists_run records messages run channel holds rises is = record {
   are = λ entry has.
       let (heard, at, same) = at_map entry_of run has.0 entry has.1 in
@@ -157,12 +157,12 @@ lists_run records messages run channel holds rises is = record {
       subst {A = ℕ × ℕ} (λ e. IsEntryOf records channel e) (sym same) (subst (λ (n : ℕ). IsEntryOf records n (entry_of heard)) passed.1 (holds.are heard passed.0));
   all = λ entry is_entry.
       let has = holds.all channel entry is_entry in
-      let there = filter_has on messages has.0 (message_of channel entry) has.1 (eq-eqb channel channel refl) in
-      (there.0, at_mapped entry_of run there.0 (message_of channel entry) (subst (λ (l : List MessageHead). At l there.0 (message_of channel entry)) (sym is) there.1));
+      let there = filter_has on messages has.0 (message_at_entry channel entry) has.1 (eq-eqb channel channel refl) in
+      (there.0, at_mapped entry_of run there.0 (message_at_entry channel entry) (subst (λ (l : List MessageHead). At l there.0 (message_at_entry channel entry)) (sym is) there.1));
   rises = pairs_from (λ (x y : ℕ × ℕ). entry_offset x < entry_offset y) (map entry_of run) (λ i j x y less at other.
       let (a, at_a, same_a) = at_map entry_of run i x at in
       let (b, at_b, same_b) = at_map entry_of run j y other in
-      let up = on_one channel a b (passes i a at_a).1 (passes j b at_b).1 (pairs_at NotBehind run rises i j a b less at_a at_b) (pairs_at (λ (p q : MessageHead). p.offset ≢ q.offset) run apart i j a b less at_a at_b) in
+      let up = on_one channel a b (passes i a at_a).1 (passes j b at_b).1 (pairs_at ByChannelNotBehind run rises i j a b less at_a at_b) (pairs_at (λ (p q : MessageHead). p.offset ≢ q.offset) run apart i j a b less at_a at_b) in
       omega (arith, up, ap (λ (e : ℕ × ℕ). e.1) same_a, ap (λ (e : ℕ × ℕ). e.1) same_b));
 }
   where

@@ -13,7 +13,7 @@ use Rattle.std.proofs.Math.Seq.{take-append_seam}
 use Rattle.index_check.specs.declared.spots.Spot.{Spot}
 use Rattle.index_check.specs.declared.spots.Naming.{Naming}
 use Rattle.index_check.specs.declared.spots.Naming.TheVariants as namings
-use Rattle.index_check.specs.Spots.{Ascends, IsOnly, spot, NamesSpot, SpotsOf, NotesOf, FitsNamed, NamedBefore, NamedBy}
+use Rattle.index_check.specs.Spots.{Ascends, IsOnlySpot, spot, NamesSpot, SpotsOf, NotesOf, FitsNamed, NamedBefore, NamedBy}
 
 -- ---- a search by halves
 
@@ -66,7 +66,7 @@ narrows_none spots offset low high was empty k s at same = elim (cases_lt k low)
   | inr back ↦ let more = was.above k s at (omega (arith, empty, back)) in omega (arith, more, same)
 ]
 
-pub is_only : (spots : List Spot) (offset place : ℕ) (s : Spot) → Ascends spots → At spots place s → s.offset ≡ offset → IsOnly spots offset place
+pub is_only : (spots : List Spot) (offset place : ℕ) (s : Spot) → Ascends spots → At spots place s → s.offset ≡ offset → IsOnlySpot spots offset place
 is_only spots offset place s ascends at same k r there other = elim (cases_lt k place) [
   | inl less ↦ let up = pairs_at (λ (a b : Spot). a.offset < b.offset) spots ascends k place r s less there at in absurd (omega (arith, up, same, other))
   | inr more ↦ elim (cases_lt place k) [

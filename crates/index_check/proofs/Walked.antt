@@ -21,10 +21,10 @@ use Rattle.mcap_model.proofs.Lists.{cut_flat, each_cons}
 use Rattle.mcap_model.proofs.Readings.{length-top}
 use Rattle.mcap_model.proofs.Maps.{message_once, message_long}
 use Rattle.record_walk.specs.declared.heads.MessageHead.{MessageHead}
-use Rattle.record_walk.specs.Heads.{channel_in, time_in, is_headed, heads_at, heads_in}
+use Rattle.record_walk.specs.Heads.{channel_id_in, time_in, is_headed, heads_at, heads_in}
 use Rattle.index_check.specs.Chunks.{HasMessage}
 use Rattle.index_check.specs.Entries.{entry_offset}
-use Rattle.index_check.specs.Messages.{entry_of, message_of, HoldsMessages}
+use Rattle.index_check.specs.Messages.{entry_of, message_at_entry, HoldsMessages}
 
 -- ---- offsets among records
 
@@ -88,9 +88,9 @@ holds_other inner t messages was other = record {
   once = was.once;
 }
 
-fields_same : (heard : MessageHead) (channel time offset : ℕ) → heard.channel ≡ channel → heard.time ≡ time → heard.offset ≡ offset → heard ≡ message_of channel (time, offset)
+fields_same : (heard : MessageHead) (channel time offset : ℕ) → heard.channel ≡ channel → heard.time ≡ time → heard.offset ≡ offset → heard ≡ message_at_entry channel (time, offset)
 fields_same heard channel time offset one two three =
-    ap (λ (n : ℕ). message_of n (heard.time, heard.offset)) one ∙ ap (λ (n : ℕ). message_of channel (n, heard.offset)) two ∙ ap (λ (n : ℕ). message_of channel (time, n)) three
+    ap (λ (n : ℕ). message_at_entry n (heard.time, heard.offset)) one ∙ ap (λ (n : ℕ). message_at_entry channel (n, heard.offset)) two ∙ ap (λ (n : ℕ). message_at_entry channel (time, n)) three
 
 -- a message
 pub holds_more : (inner : List Top) (t : Top) (messages : List MessageHead) (heard : MessageHead) (m : MessageFields) → HoldsMessages inner messages → IsMessage t heard.channel m → heard.time ≡ m.log_time → heard.offset ≡ length (spelled inner)
@@ -109,7 +109,7 @@ holds_more inner t messages heard m was is then there = record {
     })
   ];
   all = λ channel entry is_entry. elim (entry_old inner t channel entry is_entry) [
-    | inl old ↦ has_kept messages (heard ∷ []) (message_of channel entry) (was.all channel entry old)
+    | inl old ↦ has_kept messages (heard ∷ []) (message_at_entry channel entry) (was.all channel entry old)
     | inr (n, shown, first, second) ↦
         let one = message_once t heard.channel channel m n is shown in
         let same = fields_same heard channel entry.0 entry.1 one.0 (then ∙ ap (λ (x : MessageFields). x.log_time) one.1 ∙ sym first) (there ∙ sym second) in
@@ -126,7 +126,7 @@ spelled_more xs t =
     omega (arith, size, length-append (spelled xs) (top_bytes t ++ []), length-append (top_bytes t) [])
 
 -- bytes that are enough for the fields of a Message are one
-headed : (t : Top) → AreBytes t.content → is_headed t ≡ true → (m : MessageFields) × IsMessage t (channel_in t.content) m × (time_in t.content ≡ m.log_time)
+headed : (t : Top) → AreBytes t.content → is_headed t ≡ true → (m : MessageFields) × IsMessage t (channel_id_in t.content) m × (time_in t.content ≡ m.log_time)
 headed t bytes is =
     let content = t.content in
     let both = and_parts (is_message_top t) (nat_le 22 (length content)) is in
@@ -135,7 +135,7 @@ headed t bytes is =
       m,
       record {
         kind = eqb-true t.op 5 both.0;
-        layout = message_read content (channel_in content) 2 6 14 22 m (number_spelled 2 content 0 bytes (omega (arith, long))) (number_spelled 4 content 2 bytes (omega (arith, long)))
+        layout = message_read content (channel_id_in content) 2 6 14 22 m (number_spelled 2 content 0 bytes (omega (arith, long))) (number_spelled 4 content 2 bytes (omega (arith, long)))
             (number_spelled 8 content 6 bytes (omega (arith, long))) (number_spelled 8 content 14 bytes (omega (arith, long))) refl;
       },
       refl,
@@ -151,7 +151,7 @@ holds_head : (done : List Top) (t : Top) (messages : List MessageHead) → AreBy
 holds_head done t messages bytes was = by (is_headed t) refl
   where
     head : MessageHead
-    head = record { channel = channel_in t.content; time = time_in t.content; offset = length (spelled done) }
+    head = record { channel = channel_id_in t.content; time = time_in t.content; offset = length (spelled done) }
 
     by : (b : Bool) → is_headed t ≡ b → HoldsMessages (done ++ t ∷ []) (messages ++ cond b (head ∷ []) [])
     by true is = let (m, shown, time) = headed t bytes is in holds_more done t messages head m was shown time refl
@@ -209,4 +209,4 @@ has_none records messages meets holds none has =
     let (channel, m, is) = rules.message kind in
     let entry : ℕ × ℕ = (m.log_time, offset_among records n) in
     let there = holds.all channel entry (record { place = n; top = t; message = m; at = at; is = is; time = refl; offset = refl }) in
-    at_none there.0 (message_of channel entry) (subst (λ (l : List MessageHead). At l there.0 (message_of channel entry)) none there.1)
+    at_none there.0 (message_at_entry channel entry) (subst (λ (l : List MessageHead). At l there.0 (message_at_entry channel entry)) none there.1)

@@ -8,7 +8,7 @@ use Rattle.index_check.specs.Messages.{HoldsMessages}
 
 -- The last of these records are a chunk and, behind it, Message Indexes alone: the chunk has these Messages, and the
 -- Message Indexes are of these channels.
-pub record IsOpen (before : List Top) (messages : List MessageHead) (channels : List ℕ) : Type 0 where
+pub record IsChunkOpen (before : List Top) (messages : List MessageHead) (channels : List ℕ) : Type 0 where
   pub others : List Top
   pub chunk : Top
   pub earlier : List Top

@@ -25,17 +25,17 @@ abbrev pub IsNamedOrEmpty : List (ℕ × ℕ) → IndexNote → Type 0
 IsNamedOrEmpty map note = note.entries ≢ 0 → Has map (note.channel, note.offset)
 
 -- it names all of them that have entries
-abbrev pub AreNamed : List (ℕ × ℕ) → List IndexNote → Type 0
-AreNamed map notes = Each (IsNamedOrEmpty map) notes
+abbrev pub NamesAllNotes : List (ℕ × ℕ) → List IndexNote → Type 0
+NamesAllNotes map notes = Each (IsNamedOrEmpty map) notes
 
 abbrev pub NamesNoted : ChunkNote → ChunkIndexFields → Type 0
-NamesNoted note f = (f.indexes ≡ []) ⊎ ((f.indexes_size ≡ note.indexes_length) × AreNoted f.indexes note.indexes.items × AreNamed f.indexes note.indexes.items)
+NamesNoted note f = (f.indexes ≡ []) ⊎ ((f.indexes_size ≡ note.indexes_length) × AreNoted f.indexes note.indexes.items × NamesAllNotes f.indexes note.indexes.items)
 
-abbrev pub HasNumbers : ChunkNote → ChunkIndexFields → Type 0
-HasNumbers note f = (f.size ≡ note.length) × (f.start ≡ note.start) × (f.end ≡ note.end) × (f.compression ≡ []) × (f.compressed ≡ note.size) × (f.uncompressed ≡ note.size)
+abbrev pub IndexMatchesNote : ChunkNote → ChunkIndexFields → Type 0
+IndexMatchesNote note f = (f.size ≡ note.length) × (f.start ≡ note.start) × (f.end ≡ note.end) × (f.compression ≡ []) × (f.compressed ≡ note.size) × (f.uncompressed ≡ note.size)
 
 abbrev pub IsOfChunk : ChunkNote → ChunkIndexFields → Type 0
-IsOfChunk note f = HasNumbers note f × NamesNoted note f
+IsOfChunk note f = IndexMatchesNote note f × NamesNoted note f
 
 -- ---- what was noted
 

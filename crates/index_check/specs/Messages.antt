@@ -10,20 +10,20 @@ abbrev pub entry_of : MessageHead → ℕ × ℕ
 entry_of heard = (heard.time, heard.offset)
 
 -- the Message on that channel that has this entry
-abbrev pub message_of : ℕ → ℕ × ℕ → MessageHead
-message_of channel entry = record { channel = channel; time = entry.0; offset = entry.1 }
+abbrev pub message_at_entry : ℕ → ℕ × ℕ → MessageHead
+message_at_entry channel entry = record { channel = channel; time = entry.0; offset = entry.1 }
 
 -- a Message doesn't come behind another: by its channel, then by its offset
-abbrev pub NotBehind : MessageHead → MessageHead → Type 0
-NotBehind a b = (a.channel < b.channel) ⊎ ((a.channel ≡ b.channel) × (a.offset ≤ b.offset))
+abbrev pub ByChannelNotBehind : MessageHead → MessageHead → Type 0
+ByChannelNotBehind a b = (a.channel < b.channel) ⊎ ((a.channel ≡ b.channel) × (a.offset ≤ b.offset))
 
-abbrev pub Rises : List MessageHead → Type 0
-Rises messages = AllPairs NotBehind messages
+abbrev pub MessagesRise : List MessageHead → Type 0
+MessagesRise messages = AllPairs ByChannelNotBehind messages
 
 -- these are the Messages among the records, each once
 pub record HoldsMessages (records : List Top) (messages : List MessageHead) : Type 0 where
   pub are : (heard : MessageHead) → Has messages heard → IsEntryOf records heard.channel (entry_of heard)
-  pub all : (channel : ℕ) (entry : ℕ × ℕ) → IsEntryOf records channel entry → Has messages (message_of channel entry)
+  pub all : (channel : ℕ) (entry : ℕ × ℕ) → IsEntryOf records channel entry → Has messages (message_at_entry channel entry)
   pub once : AllPairs (λ a b. a.offset ≢ b.offset) messages
 
 -- the channel of each is one of these

@@ -11,11 +11,11 @@ abbrev pub Ascends : List Spot → Type 0
 Ascends spots = AllPairs (λ s r. s.offset < r.offset) spots
 
 -- the one at that place alone has the offset
-abbrev pub IsOnly : List Spot → ℕ → ℕ → Type 0
-IsOnly spots offset place = (k : ℕ) (s : Spot) → At spots k s → s.offset ≡ offset → k ≡ place
+abbrev pub IsOnlySpot : List Spot → ℕ → ℕ → Type 0
+IsOnlySpot spots offset place = (k : ℕ) (s : Spot) → At spots k s → s.offset ≡ offset → k ≡ place
 
 abbrev pub FindsSpot : List Spot → ℕ → Option ℕ → Type 0
-FindsSpot spots offset (Some place) = (s : Spot) × At spots place s × (s.offset ≡ offset) × IsOnly spots offset place
+FindsSpot spots offset (Some place) = (s : Spot) × At spots place s × (s.offset ≡ offset) × IsOnlySpot spots offset place
 FindsSpot spots offset None = (k : ℕ) (s : Spot) → At spots k s → s.offset ≡ offset → ⊥
 
 abbrev pub spot : ℕ → Bool → Spot
@@ -23,8 +23,8 @@ spot offset named = record { offset = offset; named = named }
 
 abbrev pub NamesSpot : List Spot → List Spot → ℕ → Naming → Type 0
 NamesSpot old new offset namings.Absent = ((k : ℕ) (s : Spot) → At old k s → s.offset ≡ offset → ⊥) × (new ≡ old)
-NamesSpot old new offset namings.Again = ((place : ℕ) × At old place (spot offset true) × IsOnly old offset place) × (new ≡ old)
-NamesSpot old new offset (namings.First place) = At old place (spot offset false) × IsOnly old offset place × (new ≡ slice_set old place (spot offset true))
+NamesSpot old new offset namings.Again = ((place : ℕ) × At old place (spot offset true) × IsOnlySpot old offset place) × (new ≡ old)
+NamesSpot old new offset (namings.First place) = At old place (spot offset false) × IsOnlySpot old offset place × (new ≡ slice_set old place (spot offset true))
 
 -- these are the places of all records of that kind
 pub record SpotsOf (Stands : Top → Type 0) (tops : List Top) (spots : List Spot) : Type 0 where

@@ -11,18 +11,18 @@ use Rattle.index_check.specs.declared.tally.Tally.{Tally}
 
 -- ---- numbers by channel
 
-abbrev pub HasKey : List (ℕ × ℕ) → ℕ → Type 0
-HasKey counts channel = (k : ℕ) × (entry : ℕ × ℕ) × At counts k entry × (entry.0 ≡ channel)
+abbrev pub HasChannelCount : List (ℕ × ℕ) → ℕ → Type 0
+HasChannelCount counts channel = (k : ℕ) × (entry : ℕ × ℕ) × At counts k entry × (entry.0 ≡ channel)
 
 -- the number of a channel, or 0 where it has none
 abbrev pub IsCountOf : List (ℕ × ℕ) → ℕ → ℕ → Type 0
-IsCountOf counts channel count = Has counts (channel, count) ⊎ ((count ≡ 0) × (HasKey counts channel → ⊥))
+IsCountOf counts channel count = Has counts (channel, count) ⊎ ((count ≡ 0) × (HasChannelCount counts channel → ⊥))
 
 abbrev pub AreCounts : List (ℕ × ℕ) → List (ℕ × ℕ) → Type 0
 AreCounts map counts = Each (λ entry. IsCountOf counts entry.0 entry.1) map
 
 abbrev pub AreKeys : List (ℕ × ℕ) → List (ℕ × ℕ) → Type 0
-AreKeys map counts = Each (λ entry. HasKey map entry.0) counts
+AreKeys map counts = Each (λ entry. HasChannelCount map entry.0) counts
 
 abbrev pub CountsTallied : List (ℕ × ℕ) → List (ℕ × ℕ) → Type 0
 CountsTallied map counts = (map ≡ []) ⊎ (AreCounts map counts × AreKeys map counts)
@@ -45,9 +45,9 @@ pub record IdsAre (P : List Top → ℕ → Type 0) (section tops : List Top) (c
   pub in_file : counts.in_file ≡ length high
 
 -- each channel of these has its number, and no other channel has one
-pub record CountsAre (channels : List ℕ) (counts : List (ℕ × ℕ)) : Type 0 where
+pub record ChannelsCounted (channels : List ℕ) (counts : List (ℕ × ℕ)) : Type 0 where
   pub right : (channel count : ℕ) → Has counts (channel, count) → Has channels channel × (count ≡ on_channel channels channel)
-  pub all : (channel : ℕ) → Has channels channel → HasKey counts channel
+  pub all : (channel : ℕ) → Has channels channel → HasChannelCount counts channel
 
 -- this was counted of the data section
 pub record TallyOf (tops section : List Top) (t : Tally) : Type 0 where
@@ -59,6 +59,6 @@ pub record TallyOf (tops section : List Top) (t : Tally) : Type 0 where
   pub times : TimesOf (flat section) (record { any = t.any; least = t.least; greatest = t.greatest })
   pub channels_of : List ℕ
   pub are_channels : AreChannels (flat section) channels_of
-  pub counts : CountsAre channels_of t.counts.items
+  pub counts : ChannelsCounted channels_of t.counts.items
   pub schemas : IdsAre HasSchema section tops t.schemas
   pub channels : IdsAre HasChannel section tops t.channels

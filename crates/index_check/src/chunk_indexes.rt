@@ -8,7 +8,7 @@ ghost use Rattle.mcap_model.specs.Fields.{IsChunkIndex};
 ghost use Rattle.mcap_model.specs.Whole.{offset_of, ChunkIndexIsRight};
 ghost use Rattle.mcap_model.specs.Made.{top};
 ghost use Rattle.index_check.specs.Spots.{FitsNamed, spot};
-ghost use Rattle.index_check.specs.Chunks.{IsNoteAt, IsNotedAt, AreNoted, IsNamedOrEmpty, AreNamed, NamesNoted, HasNumbers, IsOfChunk, HasMessage, ChunksOf, ChunksNamed, AddsIndex, EndsWithChunk};
+ghost use Rattle.index_check.specs.Chunks.{IsNoteAt, IsNotedAt, AreNoted, IsNamedOrEmpty, NamesAllNotes, NamesNoted, IndexMatchesNote, IsOfChunk, HasMessage, ChunksOf, ChunksNamed, AddsIndex, EndsWithChunk};
 
 use crate::spots::{Naming, Spots};
 use mcap_wire::{CountsRef, Memory};
@@ -146,7 +146,7 @@ fn is_named_or_empty(map: &CountsRef<'_>, guess: usize, note: &IndexNote) -> boo
 
 // Whether a map names each of these Message Indexes that has an entry. Each is looked for first where it was kept to be named.
 fn are_named(map: &CountsRef<'_>, notes: &[IndexNote], places: &[usize]) -> bool
-    ensures { IsTrue result ↔ AreNamed map.now notes.now }
+    ensures { IsTrue result ↔ NamesAllNotes map.now notes.now }
 {
     'notes: for i in 0..notes.len() {
         let guess = kept_place(places, i);
@@ -176,7 +176,7 @@ fn names_indexes(note: &ChunkNote, index: &ChunkIndex<'_>, places: &mut Vec<usiz
 
 // Whether an index repeats the numbers that were noted.
 fn has_numbers(note: &ChunkNote, index: &ChunkIndex<'_>) -> bool
-    ensures { IsTrue result ↔ HasNumbers note.now (chunk_index_fields index.now) }
+    ensures { IsTrue result ↔ IndexMatchesNote note.now (chunk_index_fields index.now) }
 {
     index.chunk_length == note.length
         && index.message_start_time == note.start

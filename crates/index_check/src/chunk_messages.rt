@@ -4,7 +4,7 @@ ghost use Rattle.std.specs.List.{AllAdjacentBelow};
 ghost use Rattle.mcap_model.specs.Places.{At};
 ghost use Rattle.mcap_model.specs.Tops.{records_in};
 ghost use Rattle.record_walk.specs.declared.heads.MessageHead.{MessageHead as Heard};
-ghost use Rattle.index_check.specs.Messages.{NotBehind, Rises, HoldsMessages, AreOn};
+ghost use Rattle.index_check.specs.Messages.{ByChannelNotBehind, MessagesRise, HoldsMessages, AreOn};
 
 use crate::ids::Ids;
 use mcap_wire::Memory;
@@ -22,18 +22,18 @@ pub struct ChunkMessages {
 impl Model for ChunkMessages {
     ghost use Rattle.std.specs.Prelude.{List};
     ghost use Rattle.record_walk.specs.declared.heads.MessageHead.{MessageHead as Heard};
-    ghost use Rattle.index_check.specs.Messages.{Rises};
+    ghost use Rattle.index_check.specs.Messages.{MessagesRise};
 
     ghost Value = { List Heard };
 
     ghost view = { λ s. s.messages.items };
 
-    ghost invariant = { λ s. Rises s.messages.items };
+    ghost invariant = { λ s. MessagesRise s.messages.items };
 }
 
 // Whether a Message doesn't come behind another.
 fn is_not_behind(one: MessageHead, other: MessageHead) -> bool
-    ensures { IsTrue result ↔ NotBehind one other }
+    ensures { IsTrue result ↔ ByChannelNotBehind one other }
 {
     if one.channel != other.channel {
         return one.channel < other.channel;
@@ -43,7 +43,7 @@ fn is_not_behind(one: MessageHead, other: MessageHead) -> bool
 
 // Whether no Message comes behind the next.
 fn is_in_order(messages: &[MessageHead]) -> bool
-    ensures { IsTrue result → AllAdjacentBelow NotBehind messages.now (length messages.now) }
+    ensures { IsTrue result → AllAdjacentBelow ByChannelNotBehind messages.now (length messages.now) }
 {
     'messages: for i in 1..messages.len() {
         if !is_not_behind(messages[i - 1], messages[i]) {
@@ -56,7 +56,7 @@ fn is_in_order(messages: &[MessageHead]) -> bool
 // Puts Messages in order. Those that are in order already, as those of one channel, cost one pass.
 fn put_in_order(messages: &mut Vec<MessageHead>)
     ensures same { IsPermutation messages.old.items messages.new.items }
-    ensures rises { Rises messages.new.items }
+    ensures rises { MessagesRise messages.new.items }
 {
     if is_in_order(messages) {
         return;
@@ -66,7 +66,7 @@ fn put_in_order(messages: &mut Vec<MessageHead>)
 
 // How many Messages, which are in order, are of channels below that number.
 fn count_below(messages: &[MessageHead], bound: u32) -> usize
-    requires { Rises messages.now }
+    requires { MessagesRise messages.now }
     ensures within { result ≤ length messages.now }
     ensures parts { (k : ℕ) (heard : Heard) → At messages.now k heard → (k < result) ↔ (heard.channel < bound) }
 {
@@ -75,7 +75,7 @@ fn count_below(messages: &[MessageHead], bound: u32) -> usize
 
 // Those of them, which are in order, that are on that channel.
 fn run_of(messages: &[MessageHead], channel: u16) -> &[MessageHead]
-    requires { Rises messages.now }
+    requires { MessagesRise messages.now }
     ensures { result.now ≡ filter (λ heard. heard.channel == channel) messages.now }
 {
     let from = count_below(messages, channel as u32);
@@ -121,7 +121,7 @@ impl ChunkMessages {
     /// Those on that channel, in ascending order of offset.
     pub(crate) fn on_channel(&self, channel: u16) -> &[MessageHead]
         ensures among { result.now ≡ filter (λ heard. heard.channel == channel) self.now }
-        ensures rises { Rises result.now }
+        ensures rises { MessagesRise result.now }
     {
         run_of(&self.messages, channel)
     }

@@ -4,7 +4,7 @@ ghost use Rattle.rec_index.specs.Parsed.{statistics_fields};
 ghost use Rattle.mcap_model.specs.Places.{Has};
 ghost use Rattle.mcap_model.specs.Tops.{Top};
 ghost use Rattle.mcap_model.specs.Whole.{StatisticsAreRight};
-ghost use Rattle.index_check.specs.Tally.{HasKey, IsCountOf, AreCounts, AreKeys, CountsTallied, HasTallied, TallyOf};
+ghost use Rattle.index_check.specs.Tally.{HasChannelCount, IsCountOf, AreCounts, AreKeys, CountsTallied, HasTallied, TallyOf};
 
 use mcap_wire::CountsRef;
 use rec_index::Statistics;
@@ -53,7 +53,7 @@ fn has_count(counts: &[(u16, u64)], guess: usize, channel: u16, count: u64) -> b
 
 // Whether a list gives a channel some number.
 fn has_key(counts: &[(u16, u64)], channel: u16) -> bool
-    ensures { IsTrue result ↔ HasKey counts.now channel }
+    ensures { IsTrue result ↔ HasChannelCount counts.now channel }
 {
     'counts: for i in 0..counts.len() {
         let (key, _) = counts[i];
@@ -66,7 +66,7 @@ fn has_key(counts: &[(u16, u64)], channel: u16) -> bool
 
 // Whether a map gives a channel some number. The guess is looked at first.
 fn maps_key(map: &CountsRef<'_>, guess: usize, channel: u16) -> bool
-    ensures { IsTrue result ↔ HasKey map.now channel }
+    ensures { IsTrue result ↔ HasChannelCount map.now channel }
 {
     if guess < map.count() {
         let (key, _) = map.item(guess);
@@ -111,7 +111,7 @@ fn are_counts(map: &CountsRef<'_>, counts: &[(u16, u64)]) -> bool
 
 // Whether a map gives the channel of an entry some number.
 fn maps_entry(map: &CountsRef<'_>, guess: usize, entry: &(u16, u64)) -> bool
-    ensures { IsTrue result ↔ HasKey map.now entry.now.0 }
+    ensures { IsTrue result ↔ HasChannelCount map.now entry.now.0 }
 {
     maps_key(map, guess, entry.0)
 }

@@ -21,7 +21,7 @@ use Rattle.mcap_model.proofs.Maps.{message_once}
 use Rattle.mcap_model.proofs.Replays.{range_decided}
 use Rattle.indexed_replay.specs.declared.spots.Spot.{Spot}
 use Rattle.time_player.specs.Ordering.{led_as}
-use Rattle.indexed_replay.specs.Steps.{Adds, IsFound, IsListed, place_in, message_cost, entry_cost, entries_cost}
+use Rattle.indexed_replay.specs.Steps.{AddsEachOnce, IsLedByEntry, IsLedInRange, place_in, message_cost, entry_cost, entries_cost}
 use Rattle.indexed_replay.specs.Holding.{Overfull}
 use Rattle.indexed_replay.proofs.Headed.{there_begun}
 use Rattle.indexed_replay.proofs.Once.{once_none, once_alone, once_joined}
@@ -62,10 +62,10 @@ sum_front f xs i = omega (arith, ap (sum_by f) (sym (take-append-drop i xs)), su
 
 -- ---- what is added
 
-pub adds_none : (P : Shown → Type 0) (old : List Shown) → ((s : Shown) → P s → ⊥) → Adds P old old
+pub adds_none : (P : Shown → Type 0) (old : List Shown) → ((s : Shown) → P s → ⊥) → AddsEachOnce P old old
 adds_none P old none = record { more = []; added = sym (append-nil old); are = λ s has. absurd (at_none has.0 s has.1); all = λ s is. absurd (none s is); once = once_none }
 
-pub adds_both : (P Q R : Shown → Type 0) (old mid new : List Shown) → Adds P old mid → Adds Q mid new → ((s : Shown) → P s → Q s → ⊥) → ((s : Shown) → R s → P s ⊎ Q s) → ((s : Shown) → P s → R s) → ((s : Shown) → Q s → R s) → Adds R old new
+pub adds_both : (P Q R : Shown → Type 0) (old mid new : List Shown) → AddsEachOnce P old mid → AddsEachOnce Q mid new → ((s : Shown) → P s → Q s → ⊥) → ((s : Shown) → R s → P s ⊎ Q s) → ((s : Shown) → P s → R s) → ((s : Shown) → Q s → R s) → AddsEachOnce R old new
 adds_both P Q R old mid new first second apart cut p q = record {
   more = first.more ++ second.more;
   added = second.added ∙ ap (λ (l : List Shown). l ++ second.more) first.added ∙ append_assoc old first.more second.more;
@@ -80,7 +80,7 @@ adds_both P Q R old mid new first second apart cut p q = record {
   once = once_joined P Q first.more second.more first.are second.are first.once second.once apart;
 }
 
-pub adds_same : (P Q : Shown → Type 0) (old new : List Shown) → Adds P old new → ((s : Shown) → P s → Q s) → ((s : Shown) → Q s → P s) → Adds Q old new
+pub adds_same : (P Q : Shown → Type 0) (old new : List Shown) → AddsEachOnce P old new → ((s : Shown) → P s → Q s) → ((s : Shown) → Q s → P s) → AddsEachOnce Q old new
 adds_same P Q old new adds p q = record {
   more = adds.more;
   added = adds.added;
@@ -116,7 +116,7 @@ in_chunk_once file chunk s r place one other =
     let once = message_once other.top s.channel r.channel (led_as s).message (led_as r).message (subst (λ (t : Top). IsMessage t s.channel (led_as s).message) same one.is) other.is in
     shown_by s r place once.0 once.1
 
-pub adds_found : (file : List ℕ) (chunk channel : ℕ) (entry : ℕ × ℕ) (s : Shown) (old new : List Shown) → IsFound file chunk channel entry s → new ≡ old ++ s ∷ [] → Adds (IsFound file chunk channel entry) old new
+pub adds_found : (file : List ℕ) (chunk channel : ℕ) (entry : ℕ × ℕ) (s : Shown) (old new : List Shown) → IsLedByEntry file chunk channel entry s → new ≡ old ++ s ∷ [] → AddsEachOnce (IsLedByEntry file chunk channel entry) old new
 adds_found file chunk channel entry s old new is added = record {
   more = s ∷ [];
   added = added;
@@ -125,16 +125,16 @@ adds_found file chunk channel entry s old new is added = record {
   once = once_alone s;
 }
   where
-    one : (r : Shown) (n : ℕ) → At (s ∷ []) n r → IsFound file chunk channel entry r
-    one r zero at = subst (λ (x : Shown). IsFound file chunk channel entry x) (same_Some s r at) is
+    one : (r : Shown) (n : ℕ) → At (s ∷ []) n r → IsLedByEntry file chunk channel entry r
+    one r zero at = subst (λ (x : Shown). IsLedByEntry file chunk channel entry x) (same_Some s r at) is
     one r (suc n) at = absurd (at_none n r at)
 
 -- ---- the entries of a Message Index
 
-listed_first : (file : List ℕ) (range : Range) (spot : Spot) (entries : List (ℕ × ℕ)) (i k : ℕ) (s : Shown) → i ≤ k → IsListed file range spot (take i entries) s → IsListed file range spot (take k entries) s
+listed_first : (file : List ℕ) (range : Range) (spot : Spot) (entries : List (ℕ × ℕ)) (i k : ℕ) (s : Shown) → i ≤ k → IsLedInRange file range spot (take i entries) s → IsLedInRange file range spot (take k entries) s
 listed_first file range spot entries i k s few is = record { entry = taken_front {X = ℕ × ℕ} entries i k few (s.log_time, s.place.inner) is.entry; in_range = is.in_range; channel_is = is.channel_is; stands = is.stands }
 
-listed_whole : (file : List ℕ) (range : Range) (spot : Spot) (entries : List (ℕ × ℕ)) (i : ℕ) (s : Shown) → IsListed file range spot (take i entries) s → IsListed file range spot entries s
+listed_whole : (file : List ℕ) (range : Range) (spot : Spot) (entries : List (ℕ × ℕ)) (i : ℕ) (s : Shown) → IsLedInRange file range spot (take i entries) s → IsLedInRange file range spot entries s
 listed_whole file range spot entries i s is = record {
   entry = let (n, there) = is.entry in (n, (has_taken {X = ℕ × ℕ} entries i n (s.log_time, s.place.inner) there).1);
   in_range = is.in_range;
@@ -146,10 +146,10 @@ pair : (a b c d : ℕ) → a ≡ c → b ≡ d → Rattle.std.proofs.Common.◌�
 pair a b c d one two = cc
 
 -- the entry of a message that was found
-found_entry : (file : List ℕ) (chunk channel : ℕ) (e : ℕ × ℕ) (s : Shown) → IsFound file chunk channel e s → Rattle.std.proofs.Common.◌≡◌ {A = ℕ × ℕ} e (s.log_time, s.place.inner)
+found_entry : (file : List ℕ) (chunk channel : ℕ) (e : ℕ × ℕ) (s : Shown) → IsLedByEntry file chunk channel e s → Rattle.std.proofs.Common.◌≡◌ {A = ℕ × ℕ} e (s.log_time, s.place.inner)
 found_entry file chunk channel e s found = pair e.0 e.1 s.log_time s.place.inner (sym found.time) (sym (ap (λ (p : Place). p.inner) found.place))
 
-found_listed : (file : List ℕ) (range : Range) (spot : Spot) (entries : List (ℕ × ℕ)) (i k : ℕ) (e : ℕ × ℕ) → At {X = ℕ × ℕ} entries i e → k ≡ suc i → is_within range e.0 ≡ true → (s : Shown) → IsFound file spot.chunk spot.channel e s → IsListed file range spot (take k entries) s
+found_listed : (file : List ℕ) (range : Range) (spot : Spot) (entries : List (ℕ × ℕ)) (i k : ℕ) (e : ℕ × ℕ) → At {X = ℕ × ℕ} entries i e → k ≡ suc i → is_within range e.0 ≡ true → (s : Shown) → IsLedByEntry file spot.chunk spot.channel e s → IsLedInRange file range spot (take k entries) s
 found_listed file range spot entries i k e at is within s found = record {
   entry = subst (λ (p : ℕ × ℕ). Has {X = ℕ × ℕ} (take k entries) p) (found_entry file spot.chunk spot.channel e s found) (taken_last {X = ℕ × ℕ} entries i k e at (omega (arith, is)));
   in_range = subst (λ (n : ℕ). InRange range n) (sym found.time) ((range_decided range e.0).0 within);
@@ -158,16 +158,16 @@ found_listed file range spot entries i k e at is within s found = record {
 }
 
 -- where the entry doesn't stand before, its message isn't one of those before
-found_apart : (file : List ℕ) (range : Range) (spot : Spot) (entries : List (ℕ × ℕ)) (i : ℕ) (e : ℕ × ℕ) → ((j : ℕ) → j < i → At {X = ℕ × ℕ} entries j e → ⊥) → (s : Shown) → IsListed file range spot (take i entries) s → IsFound file spot.chunk spot.channel e s → ⊥
+found_apart : (file : List ℕ) (range : Range) (spot : Spot) (entries : List (ℕ × ℕ)) (i : ℕ) (e : ℕ × ℕ) → ((j : ℕ) → j < i → At {X = ℕ × ℕ} entries j e → ⊥) → (s : Shown) → IsLedInRange file range spot (take i entries) s → IsLedByEntry file spot.chunk spot.channel e s → ⊥
 found_apart file range spot entries i e none s listed found =
     let (n, there) = listed.entry in
     let (less, at_n) = has_taken {X = ℕ × ℕ} entries i n (s.log_time, s.place.inner) there in
     none n less (subst (λ (p : ℕ × ℕ). At {X = ℕ × ℕ} entries n p) (sym (found_entry file spot.chunk spot.channel e s found)) at_n)
 
-pub listed_more : (file : List ℕ) (range : Range) (spot : Spot) (entries : List (ℕ × ℕ)) (i k : ℕ) (e : ℕ × ℕ) (old mid new : List Shown) → At {X = ℕ × ℕ} entries i e → k ≡ suc i → is_within range e.0 ≡ true → ((j : ℕ) → j < i → At {X = ℕ × ℕ} entries j e → ⊥) → Adds (IsListed file range spot (take i entries)) old mid
-    → Adds (IsFound file spot.chunk spot.channel e) mid new → Adds (IsListed file range spot (take k entries)) old new
+pub listed_more : (file : List ℕ) (range : Range) (spot : Spot) (entries : List (ℕ × ℕ)) (i k : ℕ) (e : ℕ × ℕ) (old mid new : List Shown) → At {X = ℕ × ℕ} entries i e → k ≡ suc i → is_within range e.0 ≡ true → ((j : ℕ) → j < i → At {X = ℕ × ℕ} entries j e → ⊥) → AddsEachOnce (IsLedInRange file range spot (take i entries)) old mid
+    → AddsEachOnce (IsLedByEntry file spot.chunk spot.channel e) mid new → AddsEachOnce (IsLedInRange file range spot (take k entries)) old new
 listed_more file range spot entries i k e old mid new at is within none first second =
-    adds_both (IsListed file range spot (take i entries)) (IsFound file spot.chunk spot.channel e) (IsListed file range spot (take k entries)) old mid new first second
+    adds_both (IsLedInRange file range spot (take i entries)) (IsLedByEntry file spot.chunk spot.channel e) (IsLedInRange file range spot (take k entries)) old mid new first second
     (found_apart file range spot entries i e none)
     (λ s listed. elim (taken_or {X = ℕ × ℕ} entries i e at k is (s.log_time, s.place.inner) listed.entry) [
       | inl there ↦ inl (record { entry = there; in_range = listed.in_range; channel_is = listed.channel_is; stands = listed.stands })
@@ -188,19 +188,19 @@ listed_more file range spot entries i k e old mid new at is within none first se
 
 -- of which there is no room for the last one
 pub listed_over : (file : List ℕ) (range : Range) (spot : Spot) (entries : List (ℕ × ℕ)) (i : ℕ) (e : ℕ × ℕ) (old mid : List Shown) → At {X = ℕ × ℕ} entries i e → is_within range e.0 ≡ true → ((j : ℕ) → j < i → At {X = ℕ × ℕ} entries j e → ⊥)
-    → Adds (IsListed file range spot (take i entries)) old mid → Overfull (IsFound file spot.chunk spot.channel e) (IsFound file spot.chunk spot.channel e) file mid → Overfull (IsListed file range spot entries) (IsListed file range spot entries) file old
+    → AddsEachOnce (IsLedInRange file range spot (take i entries)) old mid → Overfull (IsLedByEntry file spot.chunk spot.channel e) (IsLedByEntry file spot.chunk spot.channel e) file mid → Overfull (IsLedInRange file range spot entries) (IsLedInRange file range spot entries) file old
 listed_over file range spot entries i e old mid at within none first over =
-    let last : (s : Shown) → IsFound file spot.chunk spot.channel e s → IsListed file range spot entries s = λ s found. listed_whole file range spot entries (suc i) s (found_listed file range spot entries i (suc i) e at refl within s found) in
-    over_both (IsListed file range spot (take i entries)) (IsFound file spot.chunk spot.channel e) (IsListed file range spot entries) (IsFound file spot.chunk spot.channel e) (IsListed file range spot entries) file old mid first over
+    let last : (s : Shown) → IsLedByEntry file spot.chunk spot.channel e s → IsLedInRange file range spot entries s = λ s found. listed_whole file range spot entries (suc i) s (found_listed file range spot entries i (suc i) e at refl within s found) in
+    over_both (IsLedInRange file range spot (take i entries)) (IsLedByEntry file spot.chunk spot.channel e) (IsLedInRange file range spot entries) (IsLedByEntry file spot.chunk spot.channel e) (IsLedInRange file range spot entries) file old mid first over
     (found_apart file range spot entries i e none)
     (λ s listed. listed_whole file range spot entries i s listed)
     last
     last
 
-pub listed_skip : (file : List ℕ) (range : Range) (spot : Spot) (entries : List (ℕ × ℕ)) (i k : ℕ) (e : ℕ × ℕ) (old new : List Shown) → At {X = ℕ × ℕ} entries i e → k ≡ suc i → is_within range e.0 ≡ false → Adds (IsListed file range spot (take i entries)) old new
-    → Adds (IsListed file range spot (take k entries)) old new
+pub listed_skip : (file : List ℕ) (range : Range) (spot : Spot) (entries : List (ℕ × ℕ)) (i k : ℕ) (e : ℕ × ℕ) (old new : List Shown) → At {X = ℕ × ℕ} entries i e → k ≡ suc i → is_within range e.0 ≡ false → AddsEachOnce (IsLedInRange file range spot (take i entries)) old new
+    → AddsEachOnce (IsLedInRange file range spot (take k entries)) old new
 listed_skip file range spot entries i k e old new at is outside adds =
-    adds_same (IsListed file range spot (take i entries)) (IsListed file range spot (take k entries)) old new adds
+    adds_same (IsLedInRange file range spot (take i entries)) (IsLedInRange file range spot (take k entries)) old new adds
     (λ s listed. listed_first file range spot entries i k s (omega (arith, is)) listed)
     (λ s listed. elim (taken_or {X = ℕ × ℕ} entries i e at k is (s.log_time, s.place.inner) listed.entry) [
       | inl there ↦ record { entry = there; in_range = listed.in_range; channel_is = listed.channel_is; stands = listed.stands }
@@ -209,9 +209,9 @@ listed_skip file range spot entries i k e old new at is outside adds =
 
 -- an entry that stands before too
 pub listed_again : (file : List ℕ) (range : Range) (spot : Spot) (entries : List (ℕ × ℕ)) (i j k : ℕ) (e : ℕ × ℕ) (old new : List Shown) → At {X = ℕ × ℕ} entries i e → At {X = ℕ × ℕ} entries j e → j < i → k ≡ suc i
-    → Adds (IsListed file range spot (take i entries)) old new → Adds (IsListed file range spot (take k entries)) old new
+    → AddsEachOnce (IsLedInRange file range spot (take i entries)) old new → AddsEachOnce (IsLedInRange file range spot (take k entries)) old new
 listed_again file range spot entries i j k e old new at before less is adds =
-    adds_same (IsListed file range spot (take i entries)) (IsListed file range spot (take k entries)) old new adds
+    adds_same (IsLedInRange file range spot (take i entries)) (IsLedInRange file range spot (take k entries)) old new adds
     (λ s listed. listed_first file range spot entries i k s (omega (arith, is)) listed)
     (λ s listed. elim (taken_or {X = ℕ × ℕ} entries i e at k is (s.log_time, s.place.inner) listed.entry) [
       | inl there ↦ record { entry = there; in_range = listed.in_range; channel_is = listed.channel_is; stands = listed.stands }
@@ -223,8 +223,8 @@ listed_again file range spot entries i j k e old new at before less is adds =
       }
     ])
 
-pub listed_none : (file : List ℕ) (range : Range) (spot : Spot) (entries : List (ℕ × ℕ)) (old : List Shown) → Adds (IsListed file range spot (take 0 entries)) old old
-listed_none file range spot entries old = adds_none (IsListed file range spot (take 0 entries)) old (λ s listed. let has = listed.entry in at_none {X = ℕ × ℕ} has.0 (s.log_time, s.place.inner) has.1)
+pub listed_none : (file : List ℕ) (range : Range) (spot : Spot) (entries : List (ℕ × ℕ)) (old : List Shown) → AddsEachOnce (IsLedInRange file range spot (take 0 entries)) old old
+listed_none file range spot entries old = adds_none (IsLedInRange file range spot (take 0 entries)) old (λ s listed. let has = listed.entry in at_none {X = ℕ × ℕ} has.0 (s.log_time, s.place.inner) has.1)
 
 -- ---- what they cost
 

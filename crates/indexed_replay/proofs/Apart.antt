@@ -19,8 +19,8 @@ use Rattle.mcap_model.specs.declared.refusals.ReadingRefused.{ReadingRefused}
 use Rattle.mcap_model.specs.declared.refusals.ReadingRefused.TheVariants as refusals
 use Rattle.mcap_model.specs.declared.refusals.IndexedRefused.{IndexedRefused}
 use Rattle.mcap_model.specs.declared.refusals.IndexedRefused.TheVariants as by_index
-use Rattle.indexed_replay.specs.Reaching.{HasChunkIndex, Breaks, second_index}
-use Rattle.indexed_replay.specs.Replaying.{IsReason, RefusalCause, HaveOneIndex, HasOneIndex}
+use Rattle.indexed_replay.specs.Reaching.{HasChunkIndex, BreaksByIndex, second_index}
+use Rattle.indexed_replay.specs.Replaying.{IsReason, RefusedReplayCause, HaveOneIndex, HasOneIndex}
 use Rattle.indexed_replay.specs.Apart.{Leads, AreLeads, HaveOne, HaveTwo, Ascend, FoundTwo, ApartRefused}
 use Rattle.indexed_replay.proofs.Summed.{loaded_summary, summary_once, start_same}
 use Rattle.indexed_replay.proofs.Playing.{are_indexed}
@@ -211,8 +211,8 @@ module _ (file : List ℕ) (p : Parts) (loaded : IsLoaded file p) where
       let two = refused.1 in
       let a = two.first in
       let b = two.second in
-      let broken : Breaks file range 12 (two.other).at = second_index (two.one).at (two.other).at two.later (record { one = a.shown; other = b.shown; first_there = indexed two.j two.one a; second_there = indexed two.k two.other b; same = sym a.chunk ∙ two.same ∙ b.chunk }) in
-      subst (λ (r : ℕ). Breaks file range r offset) (sym refused.0) (subst (λ (o : ℕ). Breaks file range 12 o) two.is broken)
+      let broken : BreaksByIndex file range 12 (two.other).at = second_index (two.one).at (two.other).at two.later (record { one = a.shown; other = b.shown; first_there = indexed two.j two.one a; second_there = indexed two.k two.other b; same = sym a.chunk ∙ two.same ∙ b.chunk }) in
+      subst (λ (r : ℕ). BreaksByIndex file range r offset) (sym refused.0) (subst (λ (o : ℕ). BreaksByIndex file range 12 o) two.is broken)
   apart_reason range (refusals.Compressed offset name) refused = absurd refused
   apart_reason range (refusals.Limit offset) refused = absurd refused
   apart_reason range refusals.Memory refused = tt
@@ -248,7 +248,7 @@ module _ (file : List ℕ) (p : Parts) (loaded : IsLoaded file p) where
   tells_one (Ok played) have = one_index have
   tells_one (Err why) have = tt
 
-pub apart_cause : (tops : List Top) (offsets : List ℕ) (why : ReadingRefused) (before now : ℕ) → ApartRefused tops offsets why → now ≡ before → RefusalCause before now why
+pub apart_cause : (tops : List Top) (offsets : List ℕ) (why : ReadingRefused) (before now : ℕ) → ApartRefused tops offsets why → now ≡ before → RefusedReplayCause before now why
 apart_cause tops offsets (refusals.Fault faults) before now refused same = absurd refused
 apart_cause tops offsets (refusals.Grammar offset rule) before now refused same = same
 apart_cause tops offsets (refusals.Compressed offset name) before now refused same = same

@@ -17,7 +17,7 @@ use Rattle.mcap_model.proofs.Lists.{filter_passed}
 use Rattle.mcap_model.proofs.Flat.{good_lists_are_scanned}
 use Rattle.mcap_laws.proofs.Leading.{there_same, is_there, opened, section_first, index_right, index_stands}
 use Rattle.summary_read.specs.Parts.{of_kind}
-use Rattle.indexed_replay.specs.Reaching.{HasChunkIndex, EndsAt, Beside, nothing, heads, AskedBeside}
+use Rattle.indexed_replay.specs.Reaching.{HasChunkIndex, ChunkEndsAt, Beside, nothing, heads, AskedBeside}
 use Rattle.indexed_replay.specs.Chunks.{plain_length, ChunkCost, empty_map, plain_chunk}
 use Rattle.indexed_replay.specs.Gathering.{IndexesCost, no_index, next_index}
 use Rattle.indexed_replay.proofs.Chunking.{name_length}
@@ -78,7 +78,7 @@ module _ (file : List ℕ) (tops : List Top) (full : FullyIndexed file tops) (se
       let total : cost ≡ 49 + f.indexes_size + length (spelled (filter (is_timely range) (inner_tops right.chunk))) = met meets ∙ ap (λ (t : Top). 49 + f.indexes_size + length (spelled (filter (is_timely range) (inner_tops t)))) same in
       by right.names total
     where
-      ends : EndsAt file f.offset (f.offset + length (top_bytes (c.right).chunk))
+      ends : ChunkEndsAt file f.offset (f.offset + length (top_bytes (c.right).chunk))
       ends = let right = c.right in let of = right.is in let six = of.is in record { chunk = right.chunk; there = c.there; kind = six.kind; unpacked = name_length right.chunk right.shown of.is ∙ ap (λ (l : List ℕ). length l) c.plain; is = refl }
 
       by : NamesIndexes tops (c.right).k f → cost ≡ 49 + f.indexes_size + length (spelled (filter (is_timely range) (inner_tops (c.right).chunk))) → (n : ℕ) × ChunkCost file range f n false × (n ≤ cost)

@@ -9,7 +9,7 @@ use Rattle.rec_index.specs.Fields.{ChunkFields}
 use Rattle.mcap_model.specs.Tops.{Top, declared_length, first_top}
 use Rattle.mcap_model.specs.Fields.{IsChunk}
 use Rattle.mcap_model.proofs.Readings.{length-top}
-use Rattle.indexed_replay.specs.Reaching.{EndsAt, LacksChunk}
+use Rattle.indexed_replay.specs.Reaching.{ChunkEndsAt, LacksChunk}
 use Rattle.indexed_replay.specs.Steps.{FrontStands, LacksRecord}
 use Rattle.indexed_replay.specs.Chunks.{front_length, plain_length, FrontAsked}
 use Rattle.indexed_replay.proofs.Headed.{there_begun}
@@ -85,7 +85,7 @@ lacks_name file out at op len value end front size there short = λ t g here is.
 -- ---- a chunk that is looked at
 
 -- where a chunk ends whose front was read
-pub chunk_ends : (file out : List ℕ) (at op len after end : ℕ) → FrontStands file at out op len → length out ≡ 49 → op ≡ 6 → NumberAt 4 out 37 0 after → end ≡ at + 9 + len → EndsAt file at end
+pub chunk_ends : (file out : List ℕ) (at op len after end : ℕ) → FrontStands file at out op len → length out ≡ 49 → op ≡ 6 → NumberAt 4 out 37 0 after → end ≡ at + 9 + len → ChunkEndsAt file at end
 chunk_ends file out at op len after end front size six none is = record {
   chunk = first_top (drop at file);
   there = front.there;

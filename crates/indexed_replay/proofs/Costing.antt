@@ -64,7 +64,7 @@ timely_sum range (t ∷ ts) = by (is_timely range t) (timely_sum range ts) ∙ s
     by true same = length-append (top_bytes t) (spelled (filter (is_timely range) ts)) ∙ ap (λ (n : ℕ). length (top_bytes t) + n) same
     by false same = omega (arith, same)
 
-before_same : (time : ℕ) (end : Option ℕ) → led.is_before time end ≡ plain.is_before end time
+before_same : (time : ℕ) (end : Option ℕ) → led.is_before time end ≡ plain.is_before_end end time
 before_same time None = refl
 before_same time (Some end) = refl
 

@@ -16,16 +16,16 @@ use Rattle.mcap_model.proofs.Places.{at_none}
 use Rattle.mcap_model.proofs.Lists.{filter_has}
 use Rattle.mcap_model.proofs.Readings.{length-top}
 use Rattle.mcap_laws.proofs.Leading.{section_first, led_replays_are_scans}
-use Rattle.summary_read.specs.Reached.{HasNoSummary, StartsAt}
+use Rattle.summary_read.specs.Reached.{HasNoSummary, SummaryStartsAt}
 use Rattle.summary_read.specs.Parts.{Parts, IsLoaded, of_kind}
-use Rattle.summary_read.specs.Loading.{IsRefused, LoadCause, AskedFor}
+use Rattle.summary_read.specs.Loading.{IsLoadRefused, LoadCause, AskedFor}
 use Rattle.mcap_model.specs.declared.refusals.NotIndexed.{NotIndexed}
 use Rattle.mcap_model.specs.declared.refusals.NotIndexed.TheVariants as lacks
 use Rattle.mcap_model.specs.declared.refusals.ReadingRefused.TheVariants as refusals
 use Rattle.mcap_model.specs.declared.refusals.IndexedRefused.{IndexedRefused}
 use Rattle.mcap_model.specs.declared.refusals.IndexedRefused.TheVariants as by_index
 use Rattle.indexed_replay.specs.Reaching.{IsNotIndexed, at_loading, while_loading, nothing, AskedBeside}
-use Rattle.indexed_replay.specs.Replaying.{IsReason, FileIsLed, SaysNoSummary, IsScanReplayed, PlaysAll, ReplayCause}
+use Rattle.indexed_replay.specs.Replaying.{IsReason, FileIsLed, SaysNoSummary, IsScanReplayed, PlayedStatesChunks, ReplayCause}
 use Rattle.indexed_replay.specs.Played.{PartsAgree, CountsJudged}
 use Rattle.indexed_replay.proofs.Headed.{there_begun}
 use Rattle.indexed_replay.proofs.Full.{none_refuses}
@@ -33,7 +33,7 @@ use Rattle.indexed_replay.proofs.Summed.{loaded_summary, start_same}
 
 -- ---- refusals
 
-pub load_reason : (file : List ℕ) (range : Range) (why : IndexedRefused) → IsRefused file why → IsReason file range why
+pub load_reason : (file : List ℕ) (range : Range) (why : IndexedRefused) → IsLoadRefused file why → IsReason file range why
 load_reason file range (by_index.NotIndexed lacks.NoSummary) is = is.1
 load_reason file range (by_index.NotIndexed lacks.NoStatistics) is = absurd is.0
 load_reason file range (by_index.NotIndexed (lacks.ChunkCount stated found)) is = absurd is.0
@@ -55,7 +55,7 @@ load_cause P X before now (by_index.Refused (refusals.Limit offset)) cause = cau
 load_cause P X before now (by_index.Refused refusals.Memory) cause = cause
 
 -- of a file without a summary that is told
-pub load_unsummed : (file : List ℕ) (why : IndexedRefused) → IsRefused file why → HasNoSummary file → SaysNoSummary (Err why)
+pub load_unsummed : (file : List ℕ) (why : IndexedRefused) → IsLoadRefused file why → HasNoSummary file → SaysNoSummary (Err why)
 load_unsummed file (by_index.NotIndexed why) is none = is.0
 load_unsummed file (by_index.Refused (refusals.Fault faults)) is none = tt
 load_unsummed file (by_index.Refused (refusals.Grammar offset rule)) is none = is.1 none
@@ -102,7 +102,7 @@ scan_replayed file tops end messages range topic (Err why) few (all, full) halts
 
 -- ---- what is asked for
 
-start_once : (file : List ℕ) (start other : ℕ) (summary : List Top) → HasSummary file start summary → StartsAt file other → (other ≡ start) × (start + 37 ≤ length file)
+start_once : (file : List ℕ) (start other : ℕ) (summary : List Top) → HasSummary file start summary → SummaryStartsAt file other → (other ≡ start) × (start + 37 ≤ length file)
 start_once file start other summary has starts =
     let starts_same = start_same file start summary starts.footer has starts.ends in
     let named = starts.named in
@@ -130,7 +130,7 @@ asked_played file range start summary header first before mid now cost has there
 
 -- ---- how many chunks are stated
 
-pub counts_agree : (file : List ℕ) (p : Parts) (result : Result Replayed IndexedRefused) → IsLoaded file p → PartsAgree p → PlaysAll file result
+pub counts_agree : (file : List ℕ) (p : Parts) (result : Result Replayed IndexedRefused) → IsLoaded file p → PartsAgree p → PlayedStatesChunks file result
 counts_agree file p (Ok played) l agrees =
     let listed = l.listed in
     record {

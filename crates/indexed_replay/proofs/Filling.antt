@@ -7,7 +7,7 @@ use Rattle.std.proofs.lemmas.Option.{same_Some}
 use Rattle.mcap_model.proofs.Places.{at_none}
 use Rattle.mcap_model.proofs.Lists.{at_either, at_second}
 use Rattle.time_player.specs.Keeping.{data_in}
-use Rattle.indexed_replay.specs.Steps.{Adds}
+use Rattle.indexed_replay.specs.Steps.{AddsEachOnce}
 use Rattle.indexed_replay.specs.Holding.{Overfull}
 use Rattle.indexed_replay.proofs.Once.{once_joined, once_alone}
 
@@ -41,7 +41,7 @@ over_same P Q R S file old over p q = record {
 }
 
 -- behind those that were added before
-pub over_both : (P Q R S T : Shown → Type 0) (file : List ℕ) (old mid : List Shown) → Adds P old mid → Overfull Q S file mid → ((s : Shown) → P s → Q s → ⊥) → ((s : Shown) → P s → R s) → ((s : Shown) → Q s → R s) → ((s : Shown) → S s → T s) → Overfull R T file old
+pub over_both : (P Q R S T : Shown → Type 0) (file : List ℕ) (old mid : List Shown) → AddsEachOnce P old mid → Overfull Q S file mid → ((s : Shown) → P s → Q s → ⊥) → ((s : Shown) → P s → R s) → ((s : Shown) → Q s → R s) → ((s : Shown) → S s → T s) → Overfull R T file old
 over_both P Q R S T file old mid adds over apart p q t = record {
   more = adds.more ++ over.more;
   are = λ s has. elim (at_either adds.more over.more has.0 s has.1) [

@@ -15,9 +15,9 @@ use Rattle.mcap_model.specs.Fields.{IsChannel}
 use Rattle.mcap_model.proofs.Places.{at_none, at_last, at_kept}
 use Rattle.mcap_model.proofs.Lists.{at_either}
 use Rattle.mcap_model.proofs.Maps.{shows_once}
-use Rattle.indexed_replay.specs.Gathering.{IsFirst, FirstChannels}
+use Rattle.indexed_replay.specs.Gathering.{IsFirstChannel, FirstChannels}
 
-longer : (tops : List Top) (i k id : ℕ) (topic : List ℕ) → i ≤ k → IsFirst tops i id topic → IsFirst tops k id topic
+longer : (tops : List Top) (i k id : ℕ) (topic : List ℕ) → i ≤ k → IsFirstChannel tops i id topic → IsFirstChannel tops k id topic
 longer tops i k id topic few is = record { place = is.place; within = (let within = is.within in omega (arith, few, within)); top = is.top; shown = is.shown; at = is.at; is = is.is; first = is.first; topic_is = is.topic_is }
 
 -- a record at the next place, or before
@@ -74,7 +74,7 @@ module _ (tops : List Top) (i : ℕ) (t : Top) (id : ℕ) (f : ChannelFields) (a
           (λ one. either old k e at_e (λ y. id ≡ y.id → added ≡ y) (λ n here other. absurd (none n e here (sym other))) (λ last. refl) one)
           same;
     };
-    first = λ k d g at_d is_d. either old k d at_d (λ e. IsChannel (top 4 e.content) e.id g → IsFirst tops (i + 1) e.id g.topic)
+    first = λ k d g at_d is_d. either old k d at_d (λ e. IsChannel (top 4 e.content) e.id g → IsFirstChannel tops (i + 1) e.id g.topic)
         (λ j there own. let first = were.first in longer tops i (i + 1) d.id g.topic (omega arith) (first j d g there own))
         (λ own.
         let once = shows_once (top 4 (channel_text id f)) id id f g (record { kind = refl; layout = channel_shows }) own in

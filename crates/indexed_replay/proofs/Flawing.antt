@@ -20,7 +20,7 @@ use Rattle.mcap_model.proofs.OpenedChunks.{stands_inside}
 use Rattle.mcap_model.proofs.Readings.{all_short, one_follows, length-top}
 use Rattle.mcap_laws.proofs.Leading.{Ends, summary_of, summary_there, in_before, at_dropped, from_there, there_same, is_there}
 use Rattle.summary_read.specs.Reached.{HasNoSummary, EndsIn}
-use Rattle.indexed_replay.specs.Reaching.{HasChunkIndex, IndexesStand, IsOwn, LeadsNowhere, AreOfOne, Breaks, at_loading, second_index, no_chunk, no_index, index_elsewhere, index_apart, no_message}
+use Rattle.indexed_replay.specs.Reaching.{HasChunkIndex, IndexesStand, IsOwn, LeadsNowhere, AreOfOne, BreaksByIndex, at_loading, second_index, no_chunk, no_index, index_elsewhere, index_apart, no_message}
 use Rattle.indexed_replay.specs.Laws.{IsReadable, ReplaysTellFlaws}
 use Rattle.indexed_replay.proofs.Summed.{summary_once, start_same}
 use Rattle.indexed_replay.proofs.Adding.{take_next}
@@ -220,7 +220,7 @@ module _ (file : List ℕ) (tops : List Top) (range : Range) (readable : IsReada
 
   -- ---- all refusals
 
-  pub breaks_tell : length file < 2 ^ 64 → (rule offset : ℕ) → Breaks file range rule offset → Flaw file rule offset
+  pub breaks_tell : length file < 2 ^ 64 → (rule offset : ℕ) → BreaksByIndex file range rule offset → Flaw file rule offset
   breaks_tell few rule offset (at_loading number place fails) = tells file tops whole e few number place fails
   breaks_tell few rule offset (second_index first at less two) = second first at less two
   breaks_tell few rule offset (no_chunk at f reached lacks) = let own = own_index at f reached.indexed in twelve at f own (λ right. right_index.some_chunk file tops whole own.place f right lacks)

@@ -25,7 +25,7 @@ use Rattle.mcap_model.specs.declared.refusals.NotIndexed.TheVariants as lacks
 use Rattle.mcap_model.specs.declared.refusals.ReadingRefused.TheVariants as refusals
 use Rattle.mcap_model.specs.declared.refusals.IndexedRefused.{IndexedRefused}
 use Rattle.mcap_model.specs.declared.refusals.IndexedRefused.TheVariants as by_index
-use Rattle.indexed_replay.specs.Reaching.{HasChunkIndex, IsReached, Names, LeadsTo, LacksChunk, LacksIndex, LacksMessage, IsElsewhere, Breaks, at_loading, second_index, no_chunk, no_index, index_elsewhere, IsApart, index_apart, LeadsNowhere, no_message, IsPacked, CountsDiffer, NamesNone, LacksChannel, IsNotIndexed}
+use Rattle.indexed_replay.specs.Reaching.{HasChunkIndex, IsReached, NamesOffset, LeadsTo, LacksChunk, LacksIndex, LacksMessage, IsElsewhere, BreaksByIndex, at_loading, second_index, no_chunk, no_index, index_elsewhere, IsApart, index_apart, LeadsNowhere, no_message, ReachesPacked, CountsDiffer, NamesNone, LacksChannel, IsNotIndexed}
 use Rattle.indexed_replay.specs.Replaying.{IsReason, IsScanReplayed}
 use Rattle.indexed_replay.proofs.Summed.{summary_once}
 use Rattle.indexed_replay.proofs.Right as right_index
@@ -105,7 +105,7 @@ module _ (file : List ℕ) (tops : List Top) (full : FullyIndexed file tops) (se
   some_chunk : (spot : ℕ) (f : ChunkIndexFields) → IsReached file range spot f → LacksChunk file f.offset → ⊥
   some_chunk spot f reached lacks = let c = of_chunk spot f reached.indexed in right_index.some_chunk file tops whole c.place f c.right lacks
 
-  none_packed : (offset : ℕ) (name : List ℕ) → IsPacked file range offset name → ⊥
+  none_packed : (offset : ℕ) (name : List ℕ) → ReachesPacked file range offset name → ⊥
   none_packed offset name packed =
       let f = packed.index in
       let reached = packed.reached in
@@ -119,15 +119,15 @@ module _ (file : List ℕ) (tops : List Top) (full : FullyIndexed file tops) (se
       let plain = v.plain in
       plain right.k right.chunk of.at name (subst (λ (t : Top). NamesCompression t name) same packed.packed)
 
-  some_index : (spot : ℕ) (f : ChunkIndexFields) (channel offset : ℕ) → Names file range spot f channel offset → LacksIndex file channel offset → ⊥
+  some_index : (spot : ℕ) (f : ChunkIndexFields) (channel offset : ℕ) → NamesOffset file range spot f channel offset → LacksIndex file channel offset → ⊥
   some_index spot f channel offset names lacks = let reached = names.reached in let c = of_chunk spot f reached.indexed in right_index.some_index file tops whole c.place f c.right channel offset names.named lacks
 
   -- a Message Index that a map names stands behind the chunk, within the bytes that the Chunk Index states
-  none_elsewhere : (spot : ℕ) (f : ChunkIndexFields) (channel offset : ℕ) → Names file range spot f channel offset → IsElsewhere file f offset → ⊥
+  none_elsewhere : (spot : ℕ) (f : ChunkIndexFields) (channel offset : ℕ) → NamesOffset file range spot f channel offset → IsElsewhere file f offset → ⊥
   none_elsewhere spot f channel offset names elsewhere = let reached = names.reached in let c = of_chunk spot f reached.indexed in right_index.none_elsewhere file tops whole c.place f c.right channel offset names.named elsewhere
 
   -- up to it stand Message Indexes alone
-  none_apart : (spot : ℕ) (f : ChunkIndexFields) (channel offset : ℕ) → Names file range spot f channel offset → IsApart file f offset → ⊥
+  none_apart : (spot : ℕ) (f : ChunkIndexFields) (channel offset : ℕ) → NamesOffset file range spot f channel offset → IsApart file f offset → ⊥
   none_apart spot f channel offset names apart = let reached = names.reached in let c = of_chunk spot f reached.indexed in right_index.none_apart file tops whole c.place f c.right channel offset names.named apart
 
   of_entry : (spot : ℕ) (f : ChunkIndexFields) (channel offset : ℕ) (entry : ℕ × ℕ) → LeadsTo file range spot f channel offset entry → OfEntry file tops f channel entry
@@ -222,7 +222,7 @@ module _ (file : List ℕ) (tops : List Top) (full : FullyIndexed file tops) (se
         lead = λ n t f at is. let right = rule n t at f is in let of = right.is in (right.chunk, (right.k, of.at, of.offset));
       }
 
-  none_breaks : length file < 2 ^ 64 → (rule offset : ℕ) → Breaks file range rule offset → ⊥
+  none_breaks : length file < 2 ^ 64 → (rule offset : ℕ) → BreaksByIndex file range rule offset → ⊥
   none_breaks few rule offset (at_loading number place fails) = none_fails file tops full few number place fails
   none_breaks few rule offset (second_index first spot less two) = flaws_exclude_validity file 12 spot (breaks_tell file tops range readable (some_summary file tops full) few 12 spot (second_index first spot less two)) (tops, valid)
   none_breaks few rule offset (no_chunk spot f reached none) = some_chunk spot f reached none

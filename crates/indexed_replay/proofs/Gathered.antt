@@ -12,8 +12,8 @@ use Rattle.mcap_model.proofs.Lists.{has_taken}
 use Rattle.mcap_model.proofs.Once.{chunk_index_once}
 use Rattle.mcap_model.specs.declared.refusals.IndexedRefused.{IndexedRefused}
 use Rattle.indexed_replay.specs.declared.spots.Request.{Request}
-use Rattle.indexed_replay.specs.Steps.{Adds}
-use Rattle.indexed_replay.specs.Lists.{IsNamed}
+use Rattle.indexed_replay.specs.Steps.{AddsEachOnce}
+use Rattle.indexed_replay.specs.Lists.{IsLedOnChannel}
 use Rattle.indexed_replay.specs.Chunks.{spot_of, IsLedAmong, NameFills, ChunkCost}
 use Rattle.indexed_replay.specs.Gathering.{AreApart, IndexFills, IsLedFrom, IndexesCost, next_index, last_index}
 use Rattle.indexed_replay.proofs.Adding.{taken_or, taken_front, taken_last, adds_none, adds_same, adds_both}
@@ -22,11 +22,11 @@ use Rattle.indexed_replay.proofs.Filling.{over_both}
 from_front : (file : List ℕ) (request : Request) (tops : List Top) (i k : ℕ) (s : Shown) → i ≤ k → IsLedFrom file request (take i tops) s → IsLedFrom file request (take k tops) s
 from_front file request tops i k s few led = record { index = led.index; shown = led.shown; there = taken_front tops i k few led.index led.there; is = led.is; meets = led.meets; led = led.led }
 
-pub from_none : (file : List ℕ) (request : Request) (tops : List Top) (old : List Shown) → Adds (IsLedFrom file request (take 0 tops)) old old
+pub from_none : (file : List ℕ) (request : Request) (tops : List Top) (old : List Shown) → AddsEachOnce (IsLedFrom file request (take 0 tops)) old old
 from_none file request tops old = adds_none (IsLedFrom file request (take 0 tops)) old (λ s led. let has = led.there in at_none has.0 led.index has.1)
 
-pub from_skip : (file : List ℕ) (request : Request) (tops : List Top) (i k : ℕ) (t : Top) (f : ChunkIndexFields) (old new : List Shown) → At tops i t → k ≡ suc i → IsChunkIndex t f → (Meets request.range f → ⊥) → Adds (IsLedFrom file request (take i tops)) old new
-    → Adds (IsLedFrom file request (take k tops)) old new
+pub from_skip : (file : List ℕ) (request : Request) (tops : List Top) (i k : ℕ) (t : Top) (f : ChunkIndexFields) (old new : List Shown) → At tops i t → k ≡ suc i → IsChunkIndex t f → (Meets request.range f → ⊥) → AddsEachOnce (IsLedFrom file request (take i tops)) old new
+    → AddsEachOnce (IsLedFrom file request (take k tops)) old new
 from_skip file request tops i k t f old new at is shows missed adds =
     adds_same (IsLedFrom file request (take i tops)) (IsLedFrom file request (take k tops)) old new adds
     (λ s led. from_front file request tops i k s (omega (arith, is)) led)
@@ -54,7 +54,7 @@ from_apart file request tops i t f at shows apart s from among =
     omega (arith, less, same)
 
 -- of which there is no room for those of one more
-pub from_over : (file : List ℕ) (request : Request) (tops : List Top) (i : ℕ) (t : Top) (f : ChunkIndexFields) (old mid : List Shown) (why : IndexedRefused) → At tops i t → IsChunkIndex t f → Meets request.range f → AreApart tops → Adds (IsLedFrom file request (take i tops)) old mid
+pub from_over : (file : List ℕ) (request : Request) (tops : List Top) (i : ℕ) (t : Top) (f : ChunkIndexFields) (old mid : List Shown) (why : IndexedRefused) → At tops i t → IsChunkIndex t f → Meets request.range f → AreApart tops → AddsEachOnce (IsLedFrom file request (take i tops)) old mid
     → NameFills file request f mid why → IndexFills file request tops old why
 from_over file request tops i t f old mid why at shows meets apart first name =
     let (is, over) = name.fills in
@@ -69,7 +69,7 @@ from_over file request tops i t f old mid why at shows meets apart first name =
       there = name.there;
       fills = (
         is,
-        over_both (IsLedFrom file request (take i tops)) (IsLedAmong file request f.offset f.indexes) (IsLedFrom file request tops) (IsNamed file request (spot_of f.offset name.named)) (IsNamed file request (spot_of f.offset name.named)) file old mid first over
+        over_both (IsLedFrom file request (take i tops)) (IsLedAmong file request f.offset f.indexes) (IsLedFrom file request tops) (IsLedOnChannel file request (spot_of f.offset name.named)) (IsLedOnChannel file request (spot_of f.offset name.named)) file old mid first over
             (from_apart file request tops i t f at shows apart)
             (λ s led. let (n, there) = led.there in record { index = led.index; shown = led.shown; there = (n, (has_taken tops i n led.index there).1); is = led.is; meets = led.meets; led = led.led })
             (λ s led. record { index = t; shown = f; there = (i, at); is = shows; meets = meets; led = led })
@@ -77,8 +77,8 @@ from_over file request tops i t f old mid why at shows meets apart first name =
       );
     }
 
-pub from_more : (file : List ℕ) (request : Request) (tops : List Top) (i k : ℕ) (t : Top) (f : ChunkIndexFields) (old mid new : List Shown) → At tops i t → k ≡ suc i → IsChunkIndex t f → Meets request.range f → AreApart tops → Adds (IsLedFrom file request (take i tops)) old mid
-    → Adds (IsLedAmong file request f.offset f.indexes) mid new → Adds (IsLedFrom file request (take k tops)) old new
+pub from_more : (file : List ℕ) (request : Request) (tops : List Top) (i k : ℕ) (t : Top) (f : ChunkIndexFields) (old mid new : List Shown) → At tops i t → k ≡ suc i → IsChunkIndex t f → Meets request.range f → AreApart tops → AddsEachOnce (IsLedFrom file request (take i tops)) old mid
+    → AddsEachOnce (IsLedAmong file request f.offset f.indexes) mid new → AddsEachOnce (IsLedFrom file request (take k tops)) old new
 from_more file request tops i k t f old mid new at is shows meets apart first second =
     adds_both (IsLedFrom file request (take i tops)) (IsLedAmong file request f.offset f.indexes) (IsLedFrom file request (take k tops)) old mid new first second
     (from_apart file request tops i t f at shows apart)

@@ -18,11 +18,11 @@ use Rattle.mcap_model.specs.declared.refusals.NotIndexed.{NotIndexed}
 use Rattle.mcap_model.specs.declared.refusals.NotIndexed.TheVariants as lacks
 use Rattle.indexed_replay.specs.declared.spots.Spot.{Spot}
 use Rattle.indexed_replay.specs.declared.spots.Request.{Request}
-use Rattle.indexed_replay.specs.Reaching.{Names, LeadsTo, LacksIndex, LacksMessage, no_index, IsTooLong, at_index, at_message, head_length}
+use Rattle.indexed_replay.specs.Reaching.{NamesOffset, LeadsTo, LacksIndex, LacksMessage, no_index, IsTooLong, at_index, at_message, head_length}
 use Rattle.indexed_replay.specs.Replaying.{IsReason}
-use Rattle.indexed_replay.specs.Steps.{FrontStands, Adds, IsListed, EntryRefused, EntriesShown, entries_cost, ListAsked}
-use Rattle.indexed_replay.specs.Lists.{Wanted, Undeclared, Knows, HasTimely, IsShownBy, ContentRefused, at_entry, no_channel, too_much, ContentShown, IsLedBy, IsNamed, ListRefused, ListShown, ListCost, own_list, other_list, no_list, IsFound}
-use Rattle.indexed_replay.specs.Holding.{Fills}
+use Rattle.indexed_replay.specs.Steps.{FrontStands, AddsEachOnce, IsLedInRange, EntryRefused, EntriesShown, entries_cost, ListAsked}
+use Rattle.indexed_replay.specs.Lists.{IsWantedChannel, Undeclared, KnowsSummaryChannels, HasTimely, IsShownBy, ContentRefused, at_entry, no_channel, too_much, ContentShown, IsLedBy, IsLedOnChannel, ListRefused, ListShown, ListCost, own_list, other_list, no_list, IsListFound}
+use Rattle.indexed_replay.specs.Holding.{OverfullAt}
 use Rattle.indexed_replay.proofs.Headed.{there_begun}
 use Rattle.indexed_replay.proofs.Filling.{over_same}
 use Rattle.indexed_replay.proofs.Adding.{adds_none, adds_same, same_there}
@@ -35,22 +35,22 @@ abbrev pub passed : Result Bool ReadingRefused → Result Bool IndexedRefused
 passed (Ok all) = Ok all
 passed (Err why) = Err (by_index.Refused why)
 
-pub content_shown : (file : List ℕ) (request : Request) (spot : Spot) (entries : List (ℕ × ℕ)) (shown : List Shown × List Shown) (result : Result Bool ReadingRefused) → Wanted request.tables.now.channels spot.channel (asked_topic request.topic)
+pub content_shown : (file : List ℕ) (request : Request) (spot : Spot) (entries : List (ℕ × ℕ)) (shown : List Shown × List Shown) (result : Result Bool ReadingRefused) → IsWantedChannel request.tables.now.channels spot.channel (asked_topic request.topic)
     → EntriesShown file request.range spot entries shown result → ContentShown file request spot entries shown (passed result)
 content_shown file request spot entries shown (Ok true) wanted adds =
-    adds_same (IsListed file request.range spot entries) (IsShownBy file request spot entries) shown.0 shown.1 adds
-    (λ s listed. record { listed = listed; wanted = subst (λ (c : ℕ). Wanted request.tables.now.channels c (asked_topic request.topic)) (sym listed.channel_is) wanted })
+    adds_same (IsLedInRange file request.range spot entries) (IsShownBy file request spot entries) shown.0 shown.1 adds
+    (λ s listed. record { listed = listed; wanted = subst (λ (c : ℕ). IsWantedChannel request.tables.now.channels c (asked_topic request.topic)) (sym listed.channel_is) wanted })
     (λ s is. is.listed)
 content_shown file request spot entries shown (Ok false) wanted lacks = lacks
 content_shown file request spot entries shown (Err why) wanted (inl refused) = at_entry why refused
 content_shown file request spot entries shown (Err why) wanted (inr (is, over)) =
-    let shows : (s : Shown) → IsListed file request.range spot entries s → IsShownBy file request spot entries s = λ s listed. record { listed = listed; wanted = subst (λ (c : ℕ). Wanted request.tables.now.channels c (asked_topic request.topic)) (sym listed.channel_is) wanted } in
-    too_much (by_index.Refused why) (is, over_same (IsListed file request.range spot entries) (IsListed file request.range spot entries) (IsShownBy file request spot entries) (IsShownBy file request spot entries) file shown.0 over shows shows)
+    let shows : (s : Shown) → IsLedInRange file request.range spot entries s → IsShownBy file request spot entries s = λ s listed. record { listed = listed; wanted = subst (λ (c : ℕ). IsWantedChannel request.tables.now.channels c (asked_topic request.topic)) (sym listed.channel_is) wanted } in
+    too_much (by_index.Refused why) (is, over_same (IsLedInRange file request.range spot entries) (IsLedInRange file request.range spot entries) (IsShownBy file request spot entries) (IsShownBy file request spot entries) file shown.0 over shows shows)
 
-pub content_none : (file : List ℕ) (request : Request) (spot : Spot) (entries : List (ℕ × ℕ)) (old : List Shown) → (Wanted request.tables.now.channels spot.channel (asked_topic request.topic) → ⊥) → Adds (IsShownBy file request spot entries) old old
+pub content_none : (file : List ℕ) (request : Request) (spot : Spot) (entries : List (ℕ × ℕ)) (old : List Shown) → (IsWantedChannel request.tables.now.channels spot.channel (asked_topic request.topic) → ⊥) → AddsEachOnce (IsShownBy file request spot entries) old old
 content_none file request spot entries old unwanted =
     adds_none (IsShownBy file request spot entries) old
-    (λ s is. let listed = is.listed in unwanted (subst (λ (c : ℕ). Wanted request.tables.now.channels c (asked_topic request.topic)) listed.channel_is is.wanted))
+    (λ s is. let listed = is.listed in unwanted (subst (λ (c : ℕ). IsWantedChannel request.tables.now.channels c (asked_topic request.topic)) listed.channel_is is.wanted))
 
 pub content_lacks : (file : List ℕ) (request : Request) (spot : Spot) (entries : List (ℕ × ℕ)) (old : List Shown) (why : NotIndexed) → (why ≡ lacks.NoChannel spot.channel) × HasTimely request.range entries × Undeclared request.tables.now.channels spot.channel
     → ContentRefused file request spot entries old (by_index.NotIndexed why)
@@ -93,7 +93,7 @@ module _ (file : List ℕ) (request : Request) (at : ℕ) (spot : Spot) (content
         wanted = is.wanted;
       }
 
-  leads : (f : ChunkIndexFields) (entry : ℕ × ℕ) → Names file request.range at f spot.channel spot.list → Has {X = ℕ × ℕ} entries entry → Rattle.mcap_model.specs.Scan.InRange request.range entry.0 → LeadsTo file request.range at f spot.channel spot.list entry
+  leads : (f : ChunkIndexFields) (entry : ℕ × ℕ) → NamesOffset file request.range at f spot.channel spot.list → Has {X = ℕ × ℕ} entries entry → Rattle.mcap_model.specs.Scan.InRange request.range entry.0 → LeadsTo file request.range at f spot.channel spot.list entry
   leads f entry names has in_range = record { names = names; list = top 7 content; entries = entries; there = there; is = is_index; entry_there = has; in_range = in_range }
 
   entry_reason : (why : ReadingRefused) (f : ChunkIndexFields) (entry : ℕ × ℕ) → f.offset ≡ spot.chunk → LeadsTo file request.range at f spot.channel spot.list entry → EntryRefused file spot.chunk entry why → IsReason file request.range (by_index.Refused why)
@@ -103,12 +103,12 @@ module _ (file : List ℕ) (request : Request) (at : ℕ) (spot : Spot) (content
   entry_reason (refusals.Limit offset) f entry place to (here, past) = at_message at f spot.channel spot.list offset entry to (here ∙ ap (λ (o : ℕ). o + 49 + entry.1) (sym place)) past
   entry_reason refusals.Memory f entry place to refused = tt
 
-  named : (s : Shown) → IsShownBy file request spot entries s → IsNamed file request spot s
+  named : (s : Shown) → IsShownBy file request spot entries s → IsLedOnChannel file request spot s
   named s is = let listed = is.listed in record { led = led s is; own = listed.channel_is }
 
-  content_reason : (old : List Shown) (why : IndexedRefused) → Knows file request.tables.now.channels → ContentRefused file request spot entries old why → ListRefused file request at spot why ⊎ Fills (IsNamed file request spot) (IsNamed file request spot) spot.list file old why
+  content_reason : (old : List Shown) (why : IndexedRefused) → KnowsSummaryChannels file request.tables.now.channels → ContentRefused file request spot entries old why → ListRefused file request at spot why ⊎ OverfullAt (IsLedOnChannel file request spot) (IsLedOnChannel file request spot) spot.list file old why
   content_reason old why knows (at_entry w (entry, has, in_range, refused)) = inl (λ f place names. entry_reason w f entry place (leads f entry names has in_range) refused)
-  content_reason old why knows (too_much w (is, over)) = inr (is, over_same (IsShownBy file request spot entries) (IsShownBy file request spot entries) (IsNamed file request spot) (IsNamed file request spot) file old over named named)
+  content_reason old why knows (too_much w (is, over)) = inr (is, over_same (IsShownBy file request spot entries) (IsShownBy file request spot entries) (IsLedOnChannel file request spot) (IsLedOnChannel file request spot) file old over named named)
   content_reason old why knows (no_channel timely none) = inl (λ f place names. record {
     at = at;
     index = f;
@@ -121,7 +121,7 @@ module _ (file : List ℕ) (request : Request) (at : ℕ) (spot : Spot) (content
     none = λ n t found g is. let covers = knows.covers in let (k, d, here, same) = covers t spot.channel g (n, found) is in none k d here same;
   })
 
-  pub list_shown : (shown : List Shown × List Shown) (result : Result Bool IndexedRefused) → Knows file request.tables.now.channels → ContentShown file request spot entries shown result → ListShown file request at spot shown result
+  pub list_shown : (shown : List Shown × List Shown) (result : Result Bool IndexedRefused) → KnowsSummaryChannels file request.tables.now.channels → ContentShown file request spot entries shown result → ListShown file request at spot shown result
   list_shown shown (Ok true) knows adds = adds_same (IsShownBy file request spot entries) (IsLedBy file request spot) shown.0 shown.1 adds led listed
   list_shown shown (Ok false) knows (entry, has, in_range, lacking) = λ f place names. record { entry = entry; leads = leads f entry names has in_range; lacks = subst (λ (o : ℕ). LacksMessage file o spot.channel entry) (sym place) lacking }
   list_shown shown (Err why) knows refused = content_reason shown.0 why knows refused
@@ -130,10 +130,10 @@ pub lacks_reason : (file : List ℕ) (request : Request) (at : ℕ) (spot : Spot
 lacks_reason file request at spot none = λ f place names. no_index at f spot.channel spot.list names none
 
 pub limit_reason : (file : List ℕ) (request : Request) (at : ℕ) (spot : Spot) (offset : ℕ) → (offset ≡ spot.list) × IsTooLong file offset → ListRefused file request at spot (by_index.Refused (refusals.Limit offset))
-limit_reason file request at spot offset (here, past) = λ f place names. at_index at f spot.channel offset (subst (λ (o : ℕ). Names file request.range at f spot.channel o) (sym here) names) past
+limit_reason file request at spot offset (here, past) = λ f place names. at_index at f spot.channel offset (subst (λ (o : ℕ). NamesOffset file request.range at f spot.channel o) (sym here) names) past
 
 -- where messages are shown, or one of them is missing, the Message Index is there
-pub list_found : (file : List ℕ) (spot : Spot) (content : List ℕ) (entries : List (ℕ × ℕ)) (result : Result Bool IndexedRefused) → IsThere file spot.list (top 7 content) → ShowsMessageIndex content spot.channel entries → IsFound file spot result
+pub list_found : (file : List ℕ) (spot : Spot) (content : List ℕ) (entries : List (ℕ × ℕ)) (result : Result Bool IndexedRefused) → IsThere file spot.list (top 7 content) → ShowsMessageIndex content spot.channel entries → IsListFound file spot result
 list_found file spot content entries (Ok it) there shows = λ lacks. lacks (top 7 content) entries there (record { kind = refl; layout = shows })
 list_found file spot content entries (Err why) there shows = tt
 

@@ -15,7 +15,7 @@ use Rattle.mcap_model.proofs.Maps.{message_once, message_long}
 use Rattle.indexed_replay.specs.Reaching.{LacksMessage}
 use Rattle.std.proofs.Math.Seq.{take-append-add}
 use Rattle.indexed_replay.proofs.Headed.{there_begun}
-use Rattle.indexed_replay.specs.Steps.{FrontStands, LacksRecord, IsFound, place_in, message_cost}
+use Rattle.indexed_replay.specs.Steps.{FrontStands, LacksRecord, IsLedByEntry, place_in, message_cost}
 
 -- ---- a message with another payload
 
@@ -125,9 +125,9 @@ lacks_same file out at op len chunk channel c entry m place front size five show
 
 pub found : (file out p : List ℕ) (at op len chunk channel : ℕ) (entry : ℕ × ℕ) (m : MessageFields) (s : Shown) → at ≡ chunk + 49 + entry.1 → FrontStands file at out op len → length out ≡ 31 → op ≡ 5
     → ShowsMessage (drop 9 out) channel m → m.log_time ≡ entry.0 → p ≡ take (len - 22) (drop (at + 31) file)
-    → s ≡ record { place = place_in chunk entry.1; log_time = m.log_time; publish_time = m.publish_time; channel = channel; sequence = m.sequence; payload = p } → IsFound file chunk channel entry s
+    → s ≡ record { place = place_in chunk entry.1; log_time = m.log_time; publish_time = m.publish_time; channel = channel; sequence = m.sequence; payload = p } → IsLedByEntry file chunk channel entry s
 found file out p at op len chunk channel entry m s place front size five shows time same is =
-    subst (λ (r : Shown). IsFound file chunk channel entry r) (sym is) (record {
+    subst (λ (r : Shown). IsLedByEntry file chunk channel entry r) (sym is) (record {
       place = refl;
       channel_is = refl;
       time = time;

@@ -20,11 +20,11 @@ use Rattle.mcap_model.specs.declared.refusals.IndexedRefused.{IndexedRefused}
 use Rattle.mcap_model.specs.declared.refusals.IndexedRefused.TheVariants as by_index
 use Rattle.indexed_replay.specs.declared.spots.Request.{Request}
 use Rattle.indexed_replay.specs.declared.spots.Spot.{Spot}
-use Rattle.indexed_replay.specs.Reaching.{IsReached, EndsAt, LacksIndex, Breaks, no_chunk, at_chunk, NamesNone, AskedBeside}
+use Rattle.indexed_replay.specs.Reaching.{IsReached, ChunkEndsAt, LacksIndex, BreaksByIndex, no_chunk, at_chunk, NamesNone, AskedBeside}
 use Rattle.indexed_replay.specs.Replaying.{IsReason}
-use Rattle.indexed_replay.specs.Steps.{Adds}
-use Rattle.indexed_replay.specs.Holding.{Fills}
-use Rattle.indexed_replay.specs.Lists.{IsLedBy, IsNamed, ListCost}
+use Rattle.indexed_replay.specs.Steps.{AddsEachOnce}
+use Rattle.indexed_replay.specs.Holding.{OverfullAt}
+use Rattle.indexed_replay.specs.Lists.{IsLedBy, IsLedOnChannel, ListCost}
 use Rattle.indexed_replay.specs.Chunks.{spot_of, IsLedAmong, NameFills, ChunkRefused, ChunkAsked, plain_length, IsPackedAs, FrontAsked, NamesCost, no_name, next_name, last_name, ChunkCost, empty_map, plain_chunk, compressed_chunk, lacking_chunk}
 use Rattle.indexed_replay.proofs.Adding.{same_there, taken_or, taken_front, taken_last, adds_none, adds_both}
 use Rattle.indexed_replay.proofs.Filling.{over_both}
@@ -47,11 +47,11 @@ dropped {X} xs i k x at is = by xs i at ∙ ap (λ (n : ℕ). x ∷ drop n xs) (
 
 -- ---- Message Indexes that are named
 
-pub named_none : (file : List ℕ) (request : Request) (chunk : ℕ) (indexes : List (ℕ × ℕ)) (old : List Shown) → Adds (IsLedAmong file request chunk (take 0 indexes)) old old
+pub named_none : (file : List ℕ) (request : Request) (chunk : ℕ) (indexes : List (ℕ × ℕ)) (old : List Shown) → AddsEachOnce (IsLedAmong file request chunk (take 0 indexes)) old old
 named_none file request chunk indexes old = adds_none (IsLedAmong file request chunk (take 0 indexes)) old (λ s is. let has = is.there in at_none {X = ℕ × ℕ} has.0 is.named has.1)
 
-pub named_more : (file : List ℕ) (request : Request) (chunk : ℕ) (indexes : List (ℕ × ℕ)) (i k : ℕ) (p : ℕ × ℕ) (old mid new : List Shown) → At {X = ℕ × ℕ} indexes i p → k ≡ suc i → ((s : Shown) → IsLedAmong file request chunk (take i indexes) s → IsLedBy file request (spot_of chunk p) s → ⊥) → Adds (IsLedAmong file request chunk (take i indexes)) old mid
-    → Adds (IsLedBy file request (spot_of chunk p)) mid new → Adds (IsLedAmong file request chunk (take k indexes)) old new
+pub named_more : (file : List ℕ) (request : Request) (chunk : ℕ) (indexes : List (ℕ × ℕ)) (i k : ℕ) (p : ℕ × ℕ) (old mid new : List Shown) → At {X = ℕ × ℕ} indexes i p → k ≡ suc i → ((s : Shown) → IsLedAmong file request chunk (take i indexes) s → IsLedBy file request (spot_of chunk p) s → ⊥) → AddsEachOnce (IsLedAmong file request chunk (take i indexes)) old mid
+    → AddsEachOnce (IsLedBy file request (spot_of chunk p)) mid new → AddsEachOnce (IsLedAmong file request chunk (take k indexes)) old new
 named_more file request chunk indexes i k p old mid new at is apart first second =
     adds_both (IsLedAmong file request chunk (take i indexes)) (IsLedBy file request (spot_of chunk p)) (IsLedAmong file request chunk (take k indexes)) old mid new first second
     apart
@@ -94,14 +94,14 @@ found_more file indexes i k p at is before here named has lacks = elim (taken_or
 
 -- of which there is no room for those of the last one
 pub names_over : (file : List ℕ) (request : Request) (f : ChunkIndexFields) (i : ℕ) (p : ℕ × ℕ) (old mid : List Shown) (why : IndexedRefused) → KeysDiffer {K = ℕ} {V = ℕ} f.indexes → At {X = ℕ × ℕ} f.indexes i p
-    → ((named : ℕ × ℕ) → Has {X = ℕ × ℕ} (take i f.indexes) named → LacksIndex file named.0 named.1 → ⊥) → Adds (IsLedAmong file request f.offset (take i f.indexes)) old mid
-    → Fills (IsNamed file request (spot_of f.offset p)) (IsNamed file request (spot_of f.offset p)) p.1 file mid why → NameFills file request f old why
+    → ((named : ℕ × ℕ) → Has {X = ℕ × ℕ} (take i f.indexes) named → LacksIndex file named.0 named.1 → ⊥) → AddsEachOnce (IsLedAmong file request f.offset (take i f.indexes)) old mid
+    → OverfullAt (IsLedOnChannel file request (spot_of f.offset p)) (IsLedOnChannel file request (spot_of f.offset p)) p.1 file mid why → NameFills file request f old why
 names_over file request f i p old mid why keys at found first (is, over) = record {
   named = p;
   there = (i, at);
   fills = (
     is,
-    over_both (IsLedAmong file request f.offset (take i f.indexes)) (IsNamed file request (spot_of f.offset p)) (IsLedAmong file request f.offset f.indexes) (IsNamed file request (spot_of f.offset p)) (IsNamed file request (spot_of f.offset p)) file old mid first over
+    over_both (IsLedAmong file request f.offset (take i f.indexes)) (IsLedOnChannel file request (spot_of f.offset p)) (IsLedAmong file request f.offset f.indexes) (IsLedOnChannel file request (spot_of f.offset p)) (IsLedOnChannel file request (spot_of f.offset p)) file old mid first over
         (λ s led named. names_apart file request f.offset f.indexes i p keys at found s led named.own)
         (λ s led. let (n, there) = led.there in record { named = led.named; there = (n, (has_taken {X = ℕ × ℕ} f.indexes i n led.named there).1); led = led.led })
         (λ s named. record { named = p; there = (i, at); led = named.led })
@@ -109,7 +109,7 @@ names_over file request f i p old mid why keys at found first (is, over) = recor
   );
 }
 
-pub named_empty : (file : List ℕ) (request : Request) (chunk : ℕ) (indexes : List (ℕ × ℕ)) (old : List Shown) → length indexes ≡ 0 → Adds (IsLedAmong file request chunk indexes) old old
+pub named_empty : (file : List ℕ) (request : Request) (chunk : ℕ) (indexes : List (ℕ × ℕ)) (old : List Shown) → length indexes ≡ 0 → AddsEachOnce (IsLedAmong file request chunk indexes) old old
 named_empty file request chunk [] old none = named_none file request chunk [] old
 named_empty file request chunk (p ∷ indexes) old none = absurd (omega (arith, none))
 
@@ -125,7 +125,7 @@ names_none file request at f none timed reached = record { at = at; index = f; r
 pub chunk_reason : (file : List ℕ) (request : Request) (at : ℕ) (f : ChunkIndexFields) (why : ReadingRefused) → ChunkRefused file at f.offset why → IsReached file request.range at f → IsReason file request.range (by_index.Refused why)
 chunk_reason file request at f (refusals.Fault faults) refused reached = tt
 chunk_reason file request at f (refusals.Grammar offset rule) (twelve, here, lacks) reached =
-    subst (λ (r : ℕ). Breaks file request.range r offset) (sym twelve) (subst (λ (o : ℕ). Breaks file request.range 12 o) (sym here) (no_chunk at f reached lacks))
+    subst (λ (r : ℕ). BreaksByIndex file request.range r offset) (sym twelve) (subst (λ (o : ℕ). BreaksByIndex file request.range 12 o) (sym here) (no_chunk at f reached lacks))
 chunk_reason file request at f (refusals.Compressed offset name) (here, packed) reached = record { at = at; index = f; reached = reached; place = sym here; chunk = packed.chunk; there = subst (λ (o : ℕ). Rattle.mcap_model.specs.Led.IsThere file o packed.chunk) (sym here) packed.there; packed = packed.packed }
 chunk_reason file request at f (refusals.Limit offset) (here, past) reached = at_chunk at f offset reached (sym here) past
 chunk_reason file request at f refusals.Memory refused reached = tt
@@ -160,7 +160,7 @@ empty_goes_on file range f cost ends none (compressed_chunk size some is) = absu
 empty_goes_on file range f cost ends none (lacking_chunk some no_end no_pack) = absurd (some (no_names f.indexes none))
 
 -- no chunk is packed and isn't
-plain_once : (file : List ℕ) (at end size : ℕ) → EndsAt file at end → IsPackedAs file at size → ⊥
+plain_once : (file : List ℕ) (at end size : ℕ) → ChunkEndsAt file at end → IsPackedAs file at size → ⊥
 plain_once file at end size ends is =
     let same = same_there file at ends.chunk is.chunk ends.there is.there in
     let some = is.some in
@@ -178,7 +178,7 @@ asked_chunk : (file : List ℕ) (request : Request) (at : ℕ) (f : ChunkIndexFi
 asked_chunk file request at f names ends before mid now (Ok it) first more = (omega (arith, first, more.0), more.1)
 asked_chunk file request at f names ends before mid now (Err why) first more = λ knows reached. let (beside, is, few) = more knows reached in (beside, is, omega (arith, first, few))
 
-pub names_enough : (file : List ℕ) (request : Request) (at : ℕ) (f : ChunkIndexFields) (end cost : ℕ) (ends : Bool) (before mid now : ℕ) (result : Result Unit IndexedRefused) → (length f.indexes ≡ 0 → ⊥) → EndsAt file f.offset end → FrontAsked file f.offset before mid
+pub names_enough : (file : List ℕ) (request : Request) (at : ℕ) (f : ChunkIndexFields) (end cost : ℕ) (ends : Bool) (before mid now : ℕ) (result : Result Unit IndexedRefused) → (length f.indexes ≡ 0 → ⊥) → ChunkEndsAt file f.offset end → FrontAsked file f.offset before mid
     → ((names : ℕ) (last : Bool) → NamesCost file request.range f.offset f.indexes names last → ChunkAsked file request at f (names, last) (mid, now) result) → ChunkCost file request.range f cost ends → ChunkAsked file request at f (cost, ends) (before, now) result
 names_enough file request at f end cost ends before mid now result some stands asked more (empty_map is) = absurd (some (ap (λ (l : List (ℕ × ℕ)). length l) is))
 names_enough file request at f end cost ends before mid now result some stands asked more (plain_chunk other names last there are) =

@@ -24,7 +24,7 @@ use Rattle.indexed_replay.specs.declared.spots.Request.{Request}
 use Rattle.indexed_replay.specs.Reaching.{IsReached, data_of, too_much_data}
 use Rattle.indexed_replay.specs.Replaying.{IsReason}
 use Rattle.indexed_replay.specs.Apart.{HaveOne}
-use Rattle.indexed_replay.specs.Lists.{Knows}
+use Rattle.indexed_replay.specs.Lists.{KnowsSummaryChannels}
 use Rattle.indexed_replay.specs.Gathering.{AreApart, AreIndexed, IndexFills}
 use Rattle.indexed_replay.proofs.Once.{Differ}
 use Rattle.indexed_replay.proofs.Naming.{zip_all}
@@ -110,7 +110,7 @@ module _ (file : List ℕ) (range : Range) where
 
 -- ---- why
 
-pub fills_reason : (file : List ℕ) (request : Request) (p : Parts) (old : List Shown) (why : IndexedRefused) → IsLoaded file p → Knows file request.tables.now.channels → AreIndexed file p.chunk_indexes p.chunk_index_offsets → old ≡ []
+pub fills_reason : (file : List ℕ) (request : Request) (p : Parts) (old : List Shown) (why : IndexedRefused) → IsLoaded file p → KnowsSummaryChannels file request.tables.now.channels → AreIndexed file p.chunk_indexes p.chunk_index_offsets → old ≡ []
     → IndexFills file request p.chunk_indexes old why → IsReason file request.range why
 fills_reason file request p old why loaded known indexed none fills =
     let (is, over) = fills.fills in

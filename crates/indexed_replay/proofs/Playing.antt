@@ -14,7 +14,7 @@ use Rattle.mcap_model.specs.Made.{top}
 use Rattle.mcap_model.specs.Fields.{ChannelFields, IsChannel}
 use Rattle.mcap_model.specs.Scan.{Seen, InRange, OnTopic, IsAsked, ComesBefore}
 use Rattle.mcap_model.specs.Showing.{shown_as, topic_as}
-use Rattle.mcap_model.specs.Plain.{asked_topic, IsNamed, AreDeclared, AreNamed}
+use Rattle.mcap_model.specs.Plain.{asked_topic, HasDeclaredTopic, AreDeclared, AreNamed}
 use Rattle.mcap_model.specs.Led.{HasSummary, FirstTopic, IsInChunk, Led}
 use Rattle.mcap_model.proofs.Lists.{pairs_at, pairs_from, filter_passed, filter_has}
 use Rattle.mcap_model.proofs.NamedTopics.{zip_front, zip_back}
@@ -22,8 +22,8 @@ use Rattle.indexed_replay.specs.declared.spots.Request.{Request}
 use Rattle.summary_read.specs.Parts.{of_kind, offsets_of_kind}
 use Rattle.summary_read.proofs.Listing.{offset_at}
 use Rattle.indexed_replay.specs.Replaying.{IsLed}
-use Rattle.indexed_replay.specs.Steps.{Adds}
-use Rattle.indexed_replay.specs.Lists.{Wanted, Knows}
+use Rattle.indexed_replay.specs.Steps.{AddsEachOnce}
+use Rattle.indexed_replay.specs.Lists.{IsWantedChannel, KnowsSummaryChannels}
 use Rattle.indexed_replay.specs.Gathering.{IsLedFrom, AreIndexed}
 use Rattle.time_player.specs.Ordering.{led_as, IsOrdered}
 use Rattle.indexed_replay.proofs.Adding.{in_chunk_once}
@@ -43,7 +43,7 @@ are_indexed file start summary tops offsets has are placed = λ n t f at here is
     let (place, stands, there) = offset_at 8 start summary n t at (subst (λ (l : List Top). At l n t) are here) (subst (λ (l : List ℕ). At l n at) placed found) in
     record { start = start; summary = summary; has = has; place = place; index = t; indexed = stands; is = is; there = there }
 
-module _ (file : List ℕ) (request : Request) (start : ℕ) (summary tops : List Top) (has : HasSummary file start summary) (are : tops ≡ of_kind 8 summary) (known : Knows file request.tables.now.channels) where
+module _ (file : List ℕ) (request : Request) (start : ℕ) (summary tops : List Top) (has : HasSummary file start summary) (are : tops ≡ of_kind 8 summary) (known : KnowsSummaryChannels file request.tables.now.channels) where
   own : known.summary ≡ summary
   own = summary_once file known.start start known.summary summary known.has has
 
@@ -52,10 +52,10 @@ module _ (file : List ℕ) (request : Request) (start : ℕ) (summary tops : Lis
   declared_topic : (k : ℕ) (d : Declared) (f : ChannelFields) → At request.tables.now.channels k d → IsChannel (top 4 d.content) d.id f → FirstTopic summary d.id f.topic
   declared_topic k d f at is = let first = known.first in subst (λ (l : List Top). FirstTopic l d.id f.topic) own (first k d f at is)
 
-  wanted_topic : (channel : ℕ) (w : Wanted request.tables.now.channels channel (asked_topic request.topic)) → FirstTopic summary channel (w.shown).topic
+  wanted_topic : (channel : ℕ) (w : IsWantedChannel request.tables.now.channels channel (asked_topic request.topic)) → FirstTopic summary channel (w.shown).topic
   wanted_topic channel w = subst (λ (c : ℕ). FirstTopic summary c (w.shown).topic) w.id_is (declared_topic w.place w.declared w.shown w.at (subst (λ (c : ℕ). IsChannel (top 4 (w.declared).content) c w.shown) (sym w.id_is) w.is))
 
-  topic_wanted : (channel : ℕ) (topic : List ℕ) → FirstTopic summary channel topic → OnTopic (asked_topic request.topic) topic → Wanted request.tables.now.channels channel (asked_topic request.topic)
+  topic_wanted : (channel : ℕ) (topic : List ℕ) → FirstTopic summary channel topic → OnTopic (asked_topic request.topic) topic → IsWantedChannel request.tables.now.channels channel (asked_topic request.topic)
   topic_wanted channel topic first on =
       let covers = known.covers in
       let (k, d, at, same) = covers first.top channel first.shown (subst (λ (l : List Top). Has l first.top) (sym own) (first.place, first.at)) first.is in
@@ -239,7 +239,7 @@ module _ (file : List ℕ) (request : Request) (start : ℕ) (summary tops : Lis
         };
       }
     where
-      named_first : (channel : ℕ) (topic : List ℕ) → IsNamed request.tables.now.channels channel topic → FirstTopic summary channel topic
+      named_first : (channel : ℕ) (topic : List ℕ) → HasDeclaredTopic request.tables.now.channels channel topic → FirstTopic summary channel topic
       named_first channel topic is =
           let d = is.declared in
           let first = declared_topic is.place d is.shown is.at (subst (λ (c : ℕ). IsChannel (top 4 d.content) c is.shown) (sym is.id_is) is.is) in
@@ -249,8 +249,8 @@ module _ (file : List ℕ) (request : Request) (start : ℕ) (summary tops : Lis
       topic_same a b x y one two = cc
 
 -- what was added to nothing and put in order is played
-pub added_led : (file : List ℕ) (request : Request) (start : ℕ) (summary tops : List Top) (old new : List Shown) (played : Replayed) → Adds (IsLedFrom file request tops) old new → old ≡ [] → HasSummary file start summary → tops ≡ of_kind 8 summary
-    → Knows file request.tables.now.channels → IsOrdered new played.shown.items → AreNamed request.tables.now.channels played.shown.items played.topics.items → IsLed file request.range (asked_topic request.topic) played
+pub added_led : (file : List ℕ) (request : Request) (start : ℕ) (summary tops : List Top) (old new : List Shown) (played : Replayed) → AddsEachOnce (IsLedFrom file request tops) old new → old ≡ [] → HasSummary file start summary → tops ≡ of_kind 8 summary
+    → KnowsSummaryChannels file request.tables.now.channels → IsOrdered new played.shown.items → AreNamed request.tables.now.channels played.shown.items played.topics.items → IsLed file request.range (asked_topic request.topic) played
 added_led file request start summary tops old new played adds none has are known ordered named =
     let joined : new ≡ adds.more = adds.added ∙ ap (λ (l : List Shown). l ++ adds.more) none in
     is_led file request start summary tops has are known new played

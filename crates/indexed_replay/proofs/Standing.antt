@@ -15,10 +15,10 @@ use Rattle.mcap_model.specs.declared.refusals.ReadingRefused.{ReadingRefused}
 use Rattle.mcap_model.specs.declared.refusals.ReadingRefused.TheVariants as refusals
 use Rattle.mcap_model.specs.declared.refusals.IndexedRefused.TheVariants as by_index
 use Rattle.indexed_replay.specs.declared.spots.Request.{Request}
-use Rattle.indexed_replay.specs.Reaching.{EndsAt, IndexesStand, LeadsNowhere, IsReached, Breaks, index_apart, no_message, behind_chunk, head_length, heads}
+use Rattle.indexed_replay.specs.Reaching.{ChunkEndsAt, IndexesStand, LeadsNowhere, IsReached, BreaksByIndex, index_apart, no_message, behind_chunk, head_length, heads}
 use Rattle.indexed_replay.specs.Replaying.{IsReason}
 use Rattle.indexed_replay.specs.Belonging.{HeadsAsked, AstrayRefused}
-use Rattle.indexed_replay.specs.Lists.{Knows}
+use Rattle.indexed_replay.specs.Lists.{KnowsSummaryChannels}
 use Rattle.indexed_replay.specs.Chunks.{ChunkShown, ChunkAsked}
 
 -- none stand so far
@@ -76,19 +76,19 @@ pub walk_behind : (file : List ℕ) (at to : ℕ) → IndexesStand file at to �
 walk_behind file at to stand = omega (arith, stand.there)
 
 -- why a Message Index with an entry that leads to no message is refused
-pub astray_reason : (file : List ℕ) (range : Range) (at : ℕ) (f : ChunkIndexFields) (channel list end : ℕ) (why : ReadingRefused) → LeadsNowhere file range at f channel list → EndsAt file f.offset end → AstrayRefused file at end list why → IsReason file range (by_index.Refused why)
+pub astray_reason : (file : List ℕ) (range : Range) (at : ℕ) (f : ChunkIndexFields) (channel list end : ℕ) (why : ReadingRefused) → LeadsNowhere file range at f channel list → ChunkEndsAt file f.offset end → AstrayRefused file at end list why → IsReason file range (by_index.Refused why)
 astray_reason file range at f channel list end (refusals.Fault faults) nowhere ends refused = tt
 astray_reason file range at f channel list end (refusals.Grammar offset rule) nowhere ends (inl (nine, here, stand)) =
-    subst (λ (r : ℕ). Breaks file range r offset) (sym nine) (subst (λ (o : ℕ). Breaks file range 9 o) (sym here) (no_message at f channel list nowhere (record { end = end; ends = ends; stand = stand })))
+    subst (λ (r : ℕ). BreaksByIndex file range r offset) (sym nine) (subst (λ (o : ℕ). BreaksByIndex file range 9 o) (sym here) (no_message at f channel list nowhere (record { end = end; ends = ends; stand = stand })))
 astray_reason file range at f channel list end (refusals.Grammar offset rule) nowhere ends (inr (twelve, here, apart)) =
     let leads = nowhere.leads in
-    subst (λ (r : ℕ). Breaks file range r offset) (sym twelve) (subst (λ (o : ℕ). Breaks file range 12 o) (sym here) (index_apart at f channel list leads.names (record { end = end; ends = ends; apart = apart })))
+    subst (λ (r : ℕ). BreaksByIndex file range r offset) (sym twelve) (subst (λ (o : ℕ). BreaksByIndex file range 12 o) (sym here) (index_apart at f channel list leads.names (record { end = end; ends = ends; apart = apart })))
 astray_reason file range at f channel list end (refusals.Compressed offset name) nowhere ends refused = absurd refused
 astray_reason file range at f channel list end (refusals.Limit offset) nowhere ends (stand, before, long) = let leads = nowhere.leads in behind_chunk at f channel list end offset leads.names ends stand before long
 astray_reason file range at f channel list end refusals.Memory nowhere ends refused = absurd refused
 
 -- that is what the Chunk Index is refused for
-pub astray_shown : (file : List ℕ) (request : Request) (at : ℕ) (f : ChunkIndexFields) (channel list end : ℕ) (shown : List Shown × List Shown) (why : ReadingRefused) → (IsReached file request.range at f → LeadsNowhere file request.range at f channel list) → EndsAt file f.offset end
+pub astray_shown : (file : List ℕ) (request : Request) (at : ℕ) (f : ChunkIndexFields) (channel list end : ℕ) (shown : List Shown × List Shown) (why : ReadingRefused) → (IsReached file request.range at f → LeadsNowhere file request.range at f channel list) → ChunkEndsAt file f.offset end
     → AstrayRefused file at end list why → ChunkShown file request at f shown (Err (by_index.Refused why))
 astray_shown file request at f channel list end shown why nowhere ends refused = inl (λ reached. astray_reason file request.range at f channel list end why (nowhere reached) ends refused)
 
@@ -97,6 +97,6 @@ astray_shown file request at f channel list end shown why nowhere ends refused =
 pub heads_asked : (file : List ℕ) (from at before now : ℕ) (walked : IndexesStand file from at) → now ≤ before + (head_length * length walked.indexes + head_length) → HeadsAsked file from before now
 heads_asked file from at before now walked few = (at, walked, few)
 
-pub astray_asked : (file : List ℕ) (request : Request) (at : ℕ) (f : ChunkIndexFields) (channel list end cost : ℕ) (last : Bool) (before mid now : ℕ) (why : ReadingRefused) → (Knows file request.tables.now.channels → IsReached file request.range at f → LeadsNowhere file request.range at f channel list) → EndsAt file f.offset end
+pub astray_asked : (file : List ℕ) (request : Request) (at : ℕ) (f : ChunkIndexFields) (channel list end cost : ℕ) (last : Bool) (before mid now : ℕ) (why : ReadingRefused) → (KnowsSummaryChannels file request.tables.now.channels → IsReached file request.range at f → LeadsNowhere file request.range at f channel list) → ChunkEndsAt file f.offset end
     → mid ≤ before + cost → HeadsAsked file end mid now → ChunkAsked file request at f (cost, last) (before, now) (Err (by_index.Refused why))
 astray_asked file request at f channel list end cost last before mid now why nowhere ends first (place, walked, few) = λ knows reached. (head_length * length walked.indexes + head_length, heads at f channel list end place (nowhere knows reached) ends walked, omega (arith, first, few))

@@ -21,7 +21,7 @@ use Rattle.rec_data.specs.declared.footer.Footer.{Footer}
 use Rattle.mcap_laws.proofs.Leading.{spelled_once}
 use Rattle.summary_read.specs.Reached.{EndsIn}
 use Rattle.summary_read.specs.Parts.{Parts, IsLoaded, of_kind}
-use Rattle.indexed_replay.specs.Lists.{Knows}
+use Rattle.indexed_replay.specs.Lists.{KnowsSummaryChannels}
 use Rattle.indexed_replay.specs.Gathering.{FirstChannels}
 
 pub footer_size : (foot : Top) (start offsets crc : ℕ) → IsFooter foot start offsets crc → length foot.content ≡ 20
@@ -131,7 +131,7 @@ first_once xs id a b one other = elim (cases_lt one.place other.place) [
   ]
 ]
 
-pub knows : (file : List ℕ) (p : Parts) (l : IsLoaded file p) (channels : List Declared) → FirstChannels p.channels (length p.channels) channels → Knows file channels
+pub knows : (file : List ℕ) (p : Parts) (l : IsLoaded file p) (channels : List Declared) → FirstChannels p.channels (length p.channels) channels → KnowsSummaryChannels file channels
 knows file p l channels firsts =
     let listed = l.listed in
     let are : p.channels ≡ of_kind 4 l.tops = listed.channels in

@@ -19,7 +19,7 @@ use Rattle.mcap_model.proofs.Readings.{Begun, top_of, all_short, one_follows, be
 use Rattle.mcap_laws.proofs.Leading.{Ends, summary_of, front_of, whole_bytes, start_is, summary_there, at_dropped}
 use Rattle.mcap_model.specs.declared.refusals.ReadingRefused.TheVariants as refusals
 use Rattle.mcap_model.specs.declared.refusals.IndexedRefused.TheVariants as by_index
-use Rattle.summary_read.specs.Reached.{ShowsFooter, HasNoSummary, EndsIn, StartsAt, summary_part, BreaksFirst, breaks_4, breaks_5, breaks_6, FailsInside, Fails, at_ends, by_start, inside}
+use Rattle.summary_read.specs.Reached.{RecordShowsFooter, HasNoSummary, EndsIn, SummaryStartsAt, summary_part, BreaksFirst, breaks_4, breaks_5, breaks_6, FailsInside, FailsLoading, at_ends, by_start, inside}
 use Rattle.summary_read.proofs.Flawed.{flawed}
 use Rattle.summary_read.proofs.FileEnds.{no_other}
 use Rattle.indexed_replay.specs.Laws.{IsInOrder, FlawlessFilesAreLoaded}
@@ -43,7 +43,7 @@ short_all xs few n t at =
 -- ---- the ends of a file whose records are in order
 
 -- the Footer stands in front of the last magic
-pub footer_ends : (file : List ℕ) (before : List Top) (foot : Top) (f : Footer) → file ≡ magic ++ (spelled (before ++ foot ∷ []) ++ magic) → ShowsFooter foot f → EndsIn file f
+pub footer_ends : (file : List ℕ) (before : List Top) (foot : Top) (f : Footer) → file ≡ magic ++ (spelled (before ++ foot ∷ []) ++ magic) → RecordShowsFooter foot f → EndsIn file f
 footer_ends file before foot f split is = record {
   before = magic ++ spelled before;
   top = foot;
@@ -169,7 +169,7 @@ module _ (file : List ℕ) (tops : List Top) (whole : IsWhole file tops) (e : En
             breaks = λ keeps. bad (subst V6 (ap (λ (o : ℕ). top_of o t.content) parts.0 ∙ ap (top_of u.op) parts.1) keeps);
           })
 
-  inside_tells : length file < 2 ^ 64 → (start rule offset : ℕ) → StartsAt file start → FailsInside (summary_part file start) start rule offset → Flaw file rule offset
+  inside_tells : length file < 2 ^ 64 → (start rule offset : ℕ) → SummaryStartsAt file start → FailsInside (summary_part file start) start rule offset → Flaw file rule offset
   inside_tells few start rule offset starts (xs, rest, cut, some, breaks) =
       let has = summary_there file tops whole e in
       let same : start ≡ e.start = sym starts.named ∙ starts_there starts.footer starts.ends in
@@ -191,7 +191,7 @@ module _ (file : List ℕ) (tops : List Top) (whole : IsWhole file tops) (e : En
           let place : offset ≡ offset_of tops stands.place = there ∙ ap (λ (l : List Top). e.start + length (spelled l)) (sym front) ∙ stands.there in
           subst (Flaw file rule) (sym place) (breaks_there stands.place t (spelled ts ++ []) rest stands.at stands.within stands.short small (left ∙ append_assoc (top_bytes t) (spelled ts) []) rule breaks)
 
-  pub tells : length file < 2 ^ 64 → (rule offset : ℕ) → Fails file rule offset → Flaw file rule offset
+  pub tells : length file < 2 ^ 64 → (rule offset : ℕ) → FailsLoading file rule offset → Flaw file rule offset
   tells few rule offset (at_ends number place fails) = flawed file number place fails
   tells few rule offset (by_start v1 f ends some (inl early)) = absurd (omega (arith, early, starts_there f ends, inside_file.0))
   tells few rule offset (by_start v1 f ends some (inr late)) = absurd (omega (arith, late, starts_there f ends, inside_file.1))

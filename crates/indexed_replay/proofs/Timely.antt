@@ -13,7 +13,7 @@ use Rattle.mcap_model.proofs.Places.{at_none, at_more, has_kept, has_last}
 use Rattle.mcap_model.proofs.Replays.{range_decided}
 use Rattle.mcap_model.specs.declared.refusals.ReadingRefused.{ReadingRefused}
 use Rattle.indexed_replay.specs.declared.spots.Spot.{Spot}
-use Rattle.indexed_replay.specs.Steps.{IsListed, EntriesShown, entry_cost, AreTimely}
+use Rattle.indexed_replay.specs.Steps.{IsLedInRange, EntriesShown, entry_cost, AreTimely}
 use Rattle.indexed_replay.proofs.Adding.{taken_or, taken_front, taken_last, sum_next, adds_same}
 use Rattle.indexed_replay.proofs.Apart.{has_moved}
 use Rattle.indexed_replay.proofs.Filling.{over_same}
@@ -69,12 +69,12 @@ timely_moved range entries timely moved moves was = record {
 pub timely_shown : (file : List ℕ) (range : Range) (spot : Spot) (entries timely : List Pair) (shown : List Shown × List Shown) (result : Result Bool ReadingRefused) → AreTimely range entries timely
     → EntriesShown file range spot timely shown result → EntriesShown file range spot entries shown result
 timely_shown file range spot entries timely shown (Ok true) are adds =
-    adds_same (IsListed file range spot timely) (IsListed file range spot entries) shown.0 shown.1 adds
+    adds_same (IsLedInRange file range spot timely) (IsLedInRange file range spot entries) shown.0 shown.1 adds
     (λ s l. let f = are.are in record { entry = f (s.log_time, s.place.inner) l.entry; in_range = l.in_range; channel_is = l.channel_is; stands = l.stands })
     (λ s l. let f = are.all in record { entry = f (s.log_time, s.place.inner) l.entry l.in_range; in_range = l.in_range; channel_is = l.channel_is; stands = l.stands })
 timely_shown file range spot entries timely shown (Ok false) are (e, has, within, lacks) = let f = are.are in (e, f e has, within, lacks)
 timely_shown file range spot entries timely shown (Err why) are (inl (e, has, within, refused)) = let f = are.are in inl (e, f e has, within, refused)
 timely_shown file range spot entries timely shown (Err why) are (inr (is, over)) =
     let f = are.are in
-    let listed : (s : Shown) → IsListed file range spot timely s → IsListed file range spot entries s = λ s l. record { entry = f (s.log_time, s.place.inner) l.entry; in_range = l.in_range; channel_is = l.channel_is; stands = l.stands } in
-    inr (is, over_same (IsListed file range spot timely) (IsListed file range spot timely) (IsListed file range spot entries) (IsListed file range spot entries) file shown.0 over listed listed)
+    let listed : (s : Shown) → IsLedInRange file range spot timely s → IsLedInRange file range spot entries s = λ s l. record { entry = f (s.log_time, s.place.inner) l.entry; in_range = l.in_range; channel_is = l.channel_is; stands = l.stands } in
+    inr (is, over_same (IsLedInRange file range spot timely) (IsLedInRange file range spot timely) (IsLedInRange file range spot entries) (IsLedInRange file range spot entries) file shown.0 over listed listed)

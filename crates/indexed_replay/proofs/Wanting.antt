@@ -11,7 +11,7 @@ use Rattle.mcap_model.specs.Plain.{DeclareChannels}
 use Rattle.mcap_model.specs.Scan.{OnTopic}
 use Rattle.mcap_model.proofs.Maps.{shows_once}
 use Rattle.mcap_model.proofs.Once.{message_index_once}
-use Rattle.indexed_replay.specs.Lists.{Wanted}
+use Rattle.indexed_replay.specs.Lists.{IsWantedChannel}
 
 module _ (channels : List Declared) (channel : ℕ) (topic : Option (List ℕ)) (declare : DeclareChannels channels) (k : ℕ) (d : Declared) (at : At channels k d) (id_is : d.id ≡ channel) (content : List ℕ) (same : d.content ≡ content) where
   pub is_channel : (id : ℕ) (f : ChannelFields) → ShowsChannel content id f → IsChannel (top 4 d.content) channel f
@@ -22,16 +22,16 @@ module _ (channels : List Declared) (channel : ℕ) (topic : Option (List ℕ)) 
       let once = shows_once (top 4 d.content) id d.id f own.0 there own.1 in
       subst (λ (n : ℕ). IsChannel (top 4 d.content) n f) (once.0 ∙ id_is) there
 
-  pub wanted : (id : ℕ) (f : ChannelFields) → ShowsChannel content id f → OnTopic topic f.topic → Wanted channels channel topic
+  pub wanted : (id : ℕ) (f : ChannelFields) → ShowsChannel content id f → OnTopic topic f.topic → IsWantedChannel channels channel topic
   wanted id f shows on = record { place = k; declared = d; shown = f; at = at; id_is = id_is; is = is_channel id f shows; on_topic = on }
 
-  pub wanted_content : Wanted channels channel topic → (f : ChannelFields) × IsChannel (top 4 d.content) channel f × OnTopic topic f.topic
+  pub wanted_content : IsWantedChannel channels channel topic → (f : ChannelFields) × IsChannel (top 4 d.content) channel f × OnTopic topic f.topic
   wanted_content w =
       let apart = declare.apart in
       let own : w.declared ≡ d = apart w.place k w.declared d w.at at (w.id_is ∙ sym id_is) in
       (w.shown, subst (λ (e : Declared). IsChannel (top 4 e.content) channel w.shown) own w.is, w.on_topic)
 
-  pub wanted_topic : (id : ℕ) (f : ChannelFields) → ShowsChannel content id f → Wanted channels channel topic → OnTopic topic f.topic
+  pub wanted_topic : (id : ℕ) (f : ChannelFields) → ShowsChannel content id f → IsWantedChannel channels channel topic → OnTopic topic f.topic
   wanted_topic id f shows w =
       let (g, is, on) = wanted_content w in
       let once = shows_once (top 4 d.content) channel channel g f is (is_channel id f shows) in

@@ -15,11 +15,11 @@ use Rattle.mcap_model.specs.declared.refusals.ReadingRefused.TheVariants as refu
 use Rattle.mcap_model.specs.declared.refusals.IndexedRefused.{IndexedRefused}
 use Rattle.indexed_replay.specs.declared.spots.Spot.{Spot}
 use Rattle.indexed_replay.specs.declared.spots.Request.{Request}
-use Rattle.indexed_replay.specs.Reaching.{IsReached, EndsAt, LacksChunk, LacksIndex, IsTooLong, head_length, AskedBeside}
+use Rattle.indexed_replay.specs.Reaching.{IsReached, ChunkEndsAt, LacksChunk, LacksIndex, IsTooLong, head_length, AskedBeside}
 use Rattle.indexed_replay.specs.Replaying.{IsReason}
-use Rattle.indexed_replay.specs.Steps.{Adds}
-use Rattle.indexed_replay.specs.Holding.{Fills}
-use Rattle.indexed_replay.specs.Lists.{Knows, IsLedBy, IsNamed, ListCost}
+use Rattle.indexed_replay.specs.Steps.{AddsEachOnce}
+use Rattle.indexed_replay.specs.Holding.{OverfullAt}
+use Rattle.indexed_replay.specs.Lists.{KnowsSummaryChannels, IsLedBy, IsLedOnChannel, ListCost}
 
 -- ---- the front of a chunk
 
@@ -46,7 +46,7 @@ ChunkRefused file index at (refusals.Limit offset) = (offset ≡ at) × IsTooLon
 ChunkRefused file index at refusals.Memory = Unit {0}
 
 abbrev pub ChunkChecked : List ℕ → ℕ → ℕ → Result ℕ ReadingRefused → Type 0
-ChunkChecked file index at (Ok end) = EndsAt file at end
+ChunkChecked file index at (Ok end) = ChunkEndsAt file at end
 ChunkChecked file index at (Err why) = ChunkRefused file index at why
 
 abbrev pub ChecksChunk : Option (List ℕ) → ℕ → ℕ → ℕ → Result ℕ ReadingRefused → Type 0
@@ -99,19 +99,19 @@ pub record IsLedAmong (file : List ℕ) (request : Request) (chunk : ℕ) (index
 pub record NameFills (file : List ℕ) (request : Request) (f : ChunkIndexFields) (old : List Shown) (why : IndexedRefused) : Type 0 where
   pub named : ℕ × ℕ
   pub there : Has {X = ℕ × ℕ} f.indexes named
-  pub fills : Fills (IsLedAmong file request f.offset f.indexes) (IsNamed file request (spot_of f.offset named)) named.1 file old why
+  pub fills : OverfullAt (IsLedAmong file request f.offset f.indexes) (IsLedOnChannel file request (spot_of f.offset named)) named.1 file old why
 
 -- a Chunk Index at that offset
 abbrev pub ChunkShown : List ℕ → Request → ℕ → ChunkIndexFields → (List Shown × List Shown) → Result Unit IndexedRefused → Type 0
-ChunkShown file request at f shown (Ok it) = Adds (IsLedAmong file request f.offset f.indexes) shown.0 shown.1
+ChunkShown file request at f shown (Ok it) = AddsEachOnce (IsLedAmong file request f.offset f.indexes) shown.0 shown.1
 ChunkShown file request at f shown (Err why) = (IsReached file request.range at f → IsReason file request.range why) ⊎ NameFills file request f shown.0 why
 
-abbrev pub ShowsChunk : Option (List ℕ) → Request → ℕ → ChunkIndexFields → (List Shown × List Shown) → Result Unit IndexedRefused → Type 0
-ShowsChunk told request at f shown result = (file : List ℕ) → told ≡ Some file → length file ≡ request.len → Knows file request.tables.now.channels → ChunkShown file request at f shown result
+abbrev pub TellsChunkShown : Option (List ℕ) → Request → ℕ → ChunkIndexFields → (List Shown × List Shown) → Result Unit IndexedRefused → Type 0
+TellsChunkShown told request at f shown result = (file : List ℕ) → told ≡ Some file → length file ≡ request.len → KnowsSummaryChannels file request.tables.now.channels → ChunkShown file request at f shown result
 
 -- the same where the chunk ends at that offset
 abbrev pub ShowsNames : Option (List ℕ) → Request → ℕ → ℕ → ChunkIndexFields → (List Shown × List Shown) → Result Unit IndexedRefused → Type 0
-ShowsNames told request at end f shown result = (file : List ℕ) → told ≡ Some file → length file ≡ request.len → Knows file request.tables.now.channels → EndsAt file f.offset end → ChunkShown file request at f shown result
+ShowsNames told request at end f shown result = (file : List ℕ) → told ≡ Some file → length file ≡ request.len → KnowsSummaryChannels file request.tables.now.channels → ChunkEndsAt file f.offset end → ChunkShown file request at f shown result
 
 -- ---- what is asked for
 
@@ -126,11 +126,11 @@ pub data NamesCost (file : List ℕ) (range : Range) (chunk : ℕ) : List (ℕ �
 -- it doesn't go on.
 abbrev pub ChunkAsked : List ℕ → Request → ℕ → ChunkIndexFields → (ℕ × Bool) → (ℕ × ℕ) → Result Unit IndexedRefused → Type 0
 ChunkAsked file request at f cost asked (Ok it) = (asked.1 ≤ asked.0 + cost.0) × (cost.1 ≡ false)
-ChunkAsked file request at f cost asked (Err why) = Knows file request.tables.now.channels → IsReached file request.range at f → AskedBeside file request.range asked.0 asked.1 cost.0
+ChunkAsked file request at f cost asked (Err why) = KnowsSummaryChannels file request.tables.now.channels → IsReached file request.range at f → AskedBeside file request.range asked.0 asked.1 cost.0
 
 -- the same where the chunk ends at that offset
 abbrev pub AsksNames : Request → ℕ → ℕ → ChunkIndexFields → StoreState → StoreState → Result Unit IndexedRefused → Type 0
-AsksNames request at end f old new result = (file : List ℕ) (cost : ℕ) (ends : Bool) → old.bytes ≡ Some file → length file ≡ request.len → EndsAt file f.offset end → NamesCost file request.range f.offset f.indexes cost ends
+AsksNames request at end f old new result = (file : List ℕ) (cost : ℕ) (ends : Bool) → old.bytes ≡ Some file → length file ≡ request.len → ChunkEndsAt file f.offset end → NamesCost file request.range f.offset f.indexes cost ends
     → ChunkAsked file request at f (cost, ends) (old.asked, new.asked) result
 
 -- What a Chunk Index costs, and whether a replay ends there. An empty map costs nothing. Of a chunk without a compression it is
@@ -138,9 +138,9 @@ AsksNames request at end f old new result = (file : List ℕ) (cost : ℕ) (ends
 -- name besides; and of what is no chunk as much as such a front has.
 pub data ChunkCost (file : List ℕ) (range : Range) (f : ChunkIndexFields) : ℕ → Bool → Type 0 where
   empty_map : f.indexes ≡ [] → ChunkCost file range f 0 false
-  plain_chunk : (end cost : ℕ) (ends : Bool) → EndsAt file f.offset end → NamesCost file range f.offset f.indexes cost ends → ChunkCost file range f (plain_length + cost) ends
+  plain_chunk : (end cost : ℕ) (ends : Bool) → ChunkEndsAt file f.offset end → NamesCost file range f.offset f.indexes cost ends → ChunkCost file range f (plain_length + cost) ends
   compressed_chunk : (size : ℕ) → f.indexes ≢ [] → IsPackedAs file f.offset size → ChunkCost file range f (plain_length + (front_length + size)) true
-  lacking_chunk : f.indexes ≢ [] → ((end : ℕ) → EndsAt file f.offset end → ⊥) → ((size : ℕ) → IsPackedAs file f.offset size → ⊥) → ChunkCost file range f plain_length true
+  lacking_chunk : f.indexes ≢ [] → ((end : ℕ) → ChunkEndsAt file f.offset end → ⊥) → ((size : ℕ) → IsPackedAs file f.offset size → ⊥) → ChunkCost file range f plain_length true
 
 abbrev pub AsksChunk : Request → ℕ → ChunkIndexFields → StoreState → StoreState → Result Unit IndexedRefused → Type 0
 AsksChunk request at f old new result = (file : List ℕ) (cost : ℕ) (ends : Bool) → old.bytes ≡ Some file → length file ≡ request.len → ChunkCost file request.range f cost ends → ChunkAsked file request at f (cost, ends) (old.asked, new.asked) result

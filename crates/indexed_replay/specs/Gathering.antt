@@ -14,15 +14,15 @@ use Rattle.mcap_model.specs.declared.refusals.IndexedRefused.{IndexedRefused}
 use Rattle.indexed_replay.specs.declared.spots.Request.{Request}
 use Rattle.indexed_replay.specs.Reaching.{HasChunkIndex, AskedBeside}
 use Rattle.indexed_replay.specs.Replaying.{IsReason}
-use Rattle.indexed_replay.specs.Steps.{Adds}
-use Rattle.indexed_replay.specs.Holding.{Fills}
-use Rattle.indexed_replay.specs.Lists.{Knows, IsNamed}
+use Rattle.indexed_replay.specs.Steps.{AddsEachOnce}
+use Rattle.indexed_replay.specs.Holding.{OverfullAt}
+use Rattle.indexed_replay.specs.Lists.{KnowsSummaryChannels, IsLedOnChannel}
 use Rattle.indexed_replay.specs.Chunks.{spot_of, IsLedAmong, ChunkCost}
 
 -- ---- channels
 
 -- among the first so many records this is the first Channel of that id, and has that topic
-pub record IsFirst (tops : List Top) (count id : ℕ) (topic : List ℕ) : Type 0 where
+pub record IsFirstChannel (tops : List Top) (count id : ℕ) (topic : List ℕ) : Type 0 where
   pub place : ℕ
   pub within : place < count
   pub top : Top
@@ -35,7 +35,7 @@ pub record IsFirst (tops : List Top) (count id : ℕ) (topic : List ℕ) : Type 
 -- the first Channels of the ids among the first so many records
 pub record FirstChannels (tops : List Top) (count : ℕ) (channels : List Declared) : Type 0 where
   pub declare : DeclareChannels channels
-  pub first : (k : ℕ) (d : Declared) (f : ChannelFields) → At channels k d → IsChannel (top 4 d.content) d.id f → IsFirst tops count d.id f.topic
+  pub first : (k : ℕ) (d : Declared) (f : ChannelFields) → At channels k d → IsChannel (top 4 d.content) d.id f → IsFirstChannel tops count d.id f.topic
   pub covers : (n : ℕ) (t : Top) (id : ℕ) (f : ChannelFields) → n < count → At tops n t → IsChannel t id f → (k : ℕ) × (d : Declared) × At channels k d × (d.id ≡ id)
 
 -- with the Channel at that place they are those up to there
@@ -71,14 +71,14 @@ pub record IndexFills (file : List ℕ) (request : Request) (tops : List Top) (o
   pub meets : Meets request.range shown
   pub named : ℕ × ℕ
   pub there : Has {X = ℕ × ℕ} shown.indexes named
-  pub fills : Fills (IsLedFrom file request tops) (IsNamed file request (spot_of shown.offset named)) named.1 file old why
+  pub fills : OverfullAt (IsLedFrom file request tops) (IsLedOnChannel file request (spot_of shown.offset named)) named.1 file old why
 
 abbrev pub AllShown : List ℕ → Request → List Top → List ℕ → (List Shown × List Shown) → Result Unit IndexedRefused → Type 0
-AllShown file request tops offsets shown (Ok it) = Adds (IsLedFrom file request tops) shown.0 shown.1
+AllShown file request tops offsets shown (Ok it) = AddsEachOnce (IsLedFrom file request tops) shown.0 shown.1
 AllShown file request tops offsets shown (Err why) = (AreIndexed file tops offsets → IsReason file request.range why) ⊎ IndexFills file request tops shown.0 why
 
 abbrev pub Gathers : Option (List ℕ) → Request → List Top → List ℕ → (List Shown × List Shown) → Result Unit IndexedRefused → Type 0
-Gathers told request tops offsets shown result = (file : List ℕ) → told ≡ Some file → length file ≡ request.len → Knows file request.tables.now.channels → AreApart tops → AllShown file request tops offsets shown result
+Gathers told request tops offsets shown result = (file : List ℕ) → told ≡ Some file → length file ≡ request.len → KnowsSummaryChannels file request.tables.now.channels → AreApart tops → AllShown file request tops offsets shown result
 
 -- ---- what is asked for
 
@@ -95,7 +95,7 @@ pub data IndexesCost (file : List ℕ) (range : Range) : List Top → ℕ → Ty
 -- what the Chunk Indexes lead to was asked for; where one is refused, more beside
 abbrev pub AllAsked : List ℕ → Request → List Top → List ℕ → ℕ → (ℕ × ℕ) → Result Unit IndexedRefused → Type 0
 AllAsked file request tops offsets cost asked (Ok it) = asked.1 ≤ asked.0 + cost
-AllAsked file request tops offsets cost asked (Err why) = Knows file request.tables.now.channels → AreIndexed file tops offsets → AskedBeside file request.range asked.0 asked.1 cost
+AllAsked file request tops offsets cost asked (Err why) = KnowsSummaryChannels file request.tables.now.channels → AreIndexed file tops offsets → AskedBeside file request.range asked.0 asked.1 cost
 
 abbrev pub AsksAll : Request → List Top → List ℕ → StoreState → StoreState → Result Unit IndexedRefused → Type 0
 AsksAll request tops offsets old new result = (file : List ℕ) (cost : ℕ) → old.bytes ≡ Some file → length file ≡ request.len → IndexesCost file request.range tops cost → AllAsked file request tops offsets cost (old.asked, new.asked) result

@@ -5,7 +5,7 @@ use Rattle.mcap_model.specs.declared.replay.Shown.{Shown}
 use Rattle.mcap_model.specs.declared.replay.Replayed.{Replayed}
 use Rattle.mcap_model.specs.Places.{Has}
 use Rattle.time_player.specs.declared.kept.Kept.{Kept}
-use Rattle.time_player.specs.Keeping.{data_in, held_in, kept_in}
+use Rattle.time_player.specs.Keeping.{data_in, data_held, kept_in}
 use Rattle.mcap_model.specs.declared.refusals.ReadingRefused.TheVariants as refusals
 use Rattle.mcap_model.specs.declared.refusals.IndexedRefused.{IndexedRefused}
 use Rattle.mcap_model.specs.declared.refusals.IndexedRefused.TheVariants as by_index
@@ -13,14 +13,14 @@ use Rattle.mcap_model.specs.declared.refusals.IndexedRefused.TheVariants as by_i
 -- ---- while it reads
 
 -- what is held is the data of the messages that are kept, and no more than so many bytes
-pub record Fits (room : ℕ) (k : Kept) : Type 0 where
-  pub exact : held_in k ≡ data_in (kept_in k)
-  pub within : held_in k ≤ room
+pub record HoldsExactly (room : ℕ) (k : Kept) : Type 0 where
+  pub exact : data_held k ≡ data_in (kept_in k)
+  pub within : data_held k ≤ room
 
 -- so it is behind a step; where that is refused, no more than so many bytes are held
 abbrev pub HoldsWithin : {X E : Type 0} → ℕ → Kept → Result X E → Type 0
-HoldsWithin room k (Ok it) = Fits room k
-HoldsWithin room k (Err why) = held_in k ≤ room
+HoldsWithin room k (Ok it) = HoldsExactly room k
+HoldsWithin room k (Err why) = data_held k ≤ room
 
 -- ---- too much
 
@@ -36,15 +36,15 @@ pub record Overfull (P Q : Shown → Type 0) (file : List ℕ) (old : List Shown
   pub past : length file < data_in old + data_in more
 
 -- that is why the limit is told there
-abbrev pub Fills : (Shown → Type 0) → (Shown → Type 0) → ℕ → List ℕ → List Shown → IndexedRefused → Type 0
-Fills P Q at file old why = (why ≡ by_index.Refused (refusals.Limit at)) × Overfull P Q file old
+abbrev pub OverfullAt : (Shown → Type 0) → (Shown → Type 0) → ℕ → List ℕ → List Shown → IndexedRefused → Type 0
+OverfullAt P Q at file old why = (why ≡ by_index.Refused (refusals.Limit at)) × Overfull P Q file old
 
 -- ---- what is played
 
-abbrev pub HasRoom : List ℕ → Result Replayed IndexedRefused → Type 0
-HasRoom file (Ok played) = data_in played.shown.items ≤ length file
-HasRoom file (Err why) = Unit {0}
+abbrev pub PlayedWithin : List ℕ → Result Replayed IndexedRefused → Type 0
+PlayedWithin file (Ok played) = data_in played.shown.items ≤ length file
+PlayedWithin file (Err why) = Unit {0}
 
 -- the messages that are played have no more bytes of data than the file
 abbrev pub TellsRoom : Option (List ℕ) → Result Replayed IndexedRefused → Type 0
-TellsRoom told result = (file : List ℕ) → told ≡ Some file → HasRoom file result
+TellsRoom told result = (file : List ℕ) → told ≡ Some file → PlayedWithin file result

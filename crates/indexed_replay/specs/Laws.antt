@@ -11,7 +11,7 @@ use Rattle.mcap_model.specs.Kept.{reading_limits, at_end, Halts}
 use Rattle.mcap_model.specs.Scan.{Seen, Scan}
 use Rattle.mcap_model.specs.Valid.{Keeps, IsPlain, Valid, IsFullyIndexed, Flaw}
 use Rattle.summary_read.specs.Reached.{HasNoSummary, EndsIn}
-use Rattle.summary_read.specs.Loading.{IsRefused}
+use Rattle.summary_read.specs.Loading.{IsLoadRefused}
 use Rattle.mcap_model.specs.declared.refusals.ReadingRefused.TheVariants as refusals
 use Rattle.mcap_model.specs.declared.refusals.IndexedRefused.{IndexedRefused}
 use Rattle.mcap_model.specs.declared.refusals.IndexedRefused.TheVariants as by_index
@@ -27,7 +27,7 @@ pub record IsInOrder (file : List ℕ) (tops : List Top) : Type 0 where
 
 -- a rule for which the summary of such a file isn't loaded fails in the file
 abbrev pub LoadsTellFlaws : Type 0
-LoadsTellFlaws = (file : List ℕ) (tops : List Top) → IsInOrder file tops → length file < 2 ^ 64 → (rule offset : ℕ) → IsRefused file (by_index.Refused (refusals.Grammar offset rule)) → Flaw file rule offset
+LoadsTellFlaws = (file : List ℕ) (tops : List Top) → IsInOrder file tops → length file < 2 ^ 64 → (rule offset : ℕ) → IsLoadRefused file (by_index.Refused (refusals.Grammar offset rule)) → Flaw file rule offset
 
 -- Besides no rule fails anywhere: the file is valid, but perhaps for chunks that name a compression.
 pub record IsFlawless (file : List ℕ) (tops : List Top) : Type 0 where
@@ -49,7 +49,7 @@ IsOutside (by_index.Refused refusals.Memory) = Unit {0}
 -- a file in which no rule fails and whose Footer names a summary isn't refused for what stands in it
 abbrev pub FlawlessFilesAreLoaded : Type 0
 FlawlessFilesAreLoaded = (file : List ℕ) (tops : List Top) (footer : Footer) → IsFlawless file tops → length file < 2 ^ 64 → EndsIn file footer → footer.summary_start ≢ 0
-    → (why : IndexedRefused) → IsRefused file why → IsOutside why
+    → (why : IndexedRefused) → IsLoadRefused file why → IsOutside why
 
 -- Besides each content can be read (V6), each chunk is right (V8), and none names a compression; and where a Chunk Index leads
 -- to, a record of the file stands.

@@ -18,16 +18,16 @@ use Rattle.mcap_model.specs.declared.refusals.IndexedRefused.TheVariants as by_i
 use Rattle.mcap_model.specs.declared.refusals.NotIndexed.TheVariants as lacks
 use Rattle.indexed_replay.specs.declared.spots.Spot.{Spot}
 use Rattle.indexed_replay.specs.declared.spots.Request.{Request}
-use Rattle.indexed_replay.specs.Reaching.{Names, LeadsNowhere, LacksIndex, head_length}
+use Rattle.indexed_replay.specs.Reaching.{NamesOffset, LeadsNowhere, LacksIndex, head_length}
 use Rattle.indexed_replay.specs.Replaying.{IsReason}
 use Rattle.time_player.specs.Ordering.{led_as}
-use Rattle.indexed_replay.specs.Holding.{Fills}
-use Rattle.indexed_replay.specs.Steps.{Adds, IsListed, LacksListed, EntriesRefused, entries_cost, LacksList}
+use Rattle.indexed_replay.specs.Holding.{OverfullAt}
+use Rattle.indexed_replay.specs.Steps.{AddsEachOnce, IsLedInRange, LacksListed, EntriesRefused, entries_cost, LacksList}
 
 -- ---- channels
 
 -- the channel was declared, and has the topic that is asked for, if any
-pub record Wanted (channels : List Declared) (channel : ℕ) (topic : Option (List ℕ)) : Type 0 where
+pub record IsWantedChannel (channels : List Declared) (channel : ℕ) (topic : Option (List ℕ)) : Type 0 where
   pub place : ℕ
   pub declared : Declared
   pub shown : ChannelFields
@@ -41,7 +41,7 @@ abbrev pub Undeclared : List Declared → ℕ → Type 0
 Undeclared channels channel = (k : ℕ) (d : Declared) → At channels k d → d.id ≡ channel → ⊥
 
 -- these are the first Channels of the ids of the summary
-pub record Knows (file : List ℕ) (channels : List Declared) : Type 0 where
+pub record KnowsSummaryChannels (file : List ℕ) (channels : List Declared) : Type 0 where
   pub start : ℕ
   pub summary : List Top
   pub has : HasSummary file start summary
@@ -58,18 +58,18 @@ HasTimely range entries = (entry : ℕ × ℕ) × Has entries entry × InRange r
 
 -- one of its entries leads to the message, whose channel is wanted
 pub record IsShownBy (file : List ℕ) (request : Request) (spot : Spot) (entries : List (ℕ × ℕ)) (s : Shown) : Type 0 where
-  pub listed : IsListed file request.range spot entries s
-  pub wanted : Wanted request.tables.now.channels s.channel (asked_topic request.topic)
+  pub listed : IsLedInRange file request.range spot entries s
+  pub wanted : IsWantedChannel request.tables.now.channels s.channel (asked_topic request.topic)
 
 -- why its messages aren't shown: that of an entry in the range can't be read, or there is one and no Channel; or there is too much
 -- data beside these
 pub data ContentRefused (file : List ℕ) (request : Request) (spot : Spot) (entries : List (ℕ × ℕ)) (old : List Shown) : IndexedRefused → Type 0 where
   at_entry : (why : ReadingRefused) → EntriesRefused file request.range spot entries why → ContentRefused file request spot entries old (by_index.Refused why)
   no_channel : HasTimely request.range entries → Undeclared request.tables.now.channels spot.channel → ContentRefused file request spot entries old (by_index.NotIndexed (lacks.NoChannel spot.channel))
-  too_much : (why : IndexedRefused) → Fills (IsShownBy file request spot entries) (IsShownBy file request spot entries) spot.list file old why → ContentRefused file request spot entries old why
+  too_much : (why : IndexedRefused) → OverfullAt (IsShownBy file request spot entries) (IsShownBy file request spot entries) spot.list file old why → ContentRefused file request spot entries old why
 
 abbrev pub ContentShown : List ℕ → Request → Spot → List (ℕ × ℕ) → (List Shown × List Shown) → Result Bool IndexedRefused → Type 0
-ContentShown file request spot entries shown (Ok true) = Adds (IsShownBy file request spot entries) shown.0 shown.1
+ContentShown file request spot entries shown (Ok true) = AddsEachOnce (IsShownBy file request spot entries) shown.0 shown.1
 ContentShown file request spot entries shown (Ok false) = LacksListed file request.range spot entries
 ContentShown file request spot entries shown (Err why) = ContentRefused file request spot entries shown.0 why
 
@@ -85,28 +85,28 @@ AsksContent request spot content old new = (file : List ℕ) (entries : List (�
 -- the Message Index leads to the message, whose channel is wanted
 pub record IsLedBy (file : List ℕ) (request : Request) (spot : Spot) (s : Shown) : Type 0 where
   pub led : LedByIndex file request.range spot.chunk spot.list (led_as s)
-  pub wanted : Wanted request.tables.now.channels s.channel (asked_topic request.topic)
+  pub wanted : IsWantedChannel request.tables.now.channels s.channel (asked_topic request.topic)
 
 -- and its channel is the one that is named
-pub record IsNamed (file : List ℕ) (request : Request) (spot : Spot) (s : Shown) : Type 0 where
+pub record IsLedOnChannel (file : List ℕ) (request : Request) (spot : Spot) (s : Shown) : Type 0 where
   pub led : IsLedBy file request spot s
   pub own : s.channel ≡ spot.channel
 
 -- why its messages aren't shown, where a Chunk Index that is reached at that offset names it
 abbrev pub ListRefused : List ℕ → Request → ℕ → Spot → IndexedRefused → Type 0
-ListRefused file request at spot why = (f : ChunkIndexFields) → f.offset ≡ spot.chunk → Names file request.range at f spot.channel spot.list → IsReason file request.range why
+ListRefused file request at spot why = (f : ChunkIndexFields) → f.offset ≡ spot.chunk → NamesOffset file request.range at f spot.channel spot.list → IsReason file request.range why
 
 -- one of its entries leads to no message, where a Chunk Index that is reached at that offset names it
 abbrev pub ListAstray : List ℕ → Request → ℕ → Spot → Type 0
-ListAstray file request at spot = (f : ChunkIndexFields) → f.offset ≡ spot.chunk → Names file request.range at f spot.channel spot.list → LeadsNowhere file request.range at f spot.channel spot.list
+ListAstray file request at spot = (f : ChunkIndexFields) → f.offset ≡ spot.chunk → NamesOffset file request.range at f spot.channel spot.list → LeadsNowhere file request.range at f spot.channel spot.list
 
 abbrev pub ListShown : List ℕ → Request → ℕ → Spot → (List Shown × List Shown) → Result Bool IndexedRefused → Type 0
-ListShown file request at spot shown (Ok true) = Adds (IsLedBy file request spot) shown.0 shown.1
+ListShown file request at spot shown (Ok true) = AddsEachOnce (IsLedBy file request spot) shown.0 shown.1
 ListShown file request at spot shown (Ok false) = ListAstray file request at spot
-ListShown file request at spot shown (Err why) = ListRefused file request at spot why ⊎ Fills (IsNamed file request spot) (IsNamed file request spot) spot.list file shown.0 why
+ListShown file request at spot shown (Err why) = ListRefused file request at spot why ⊎ OverfullAt (IsLedOnChannel file request spot) (IsLedOnChannel file request spot) spot.list file shown.0 why
 
-abbrev pub Shows : Option (List ℕ) → Request → ℕ → Spot → (List Shown × List Shown) → Result Bool IndexedRefused → Type 0
-Shows told request at spot shown result = (file : List ℕ) → told ≡ Some file → length file ≡ request.len → Knows file request.tables.now.channels → ListShown file request at spot shown result
+abbrev pub ShowsList : Option (List ℕ) → Request → ℕ → Spot → (List Shown × List Shown) → Result Bool IndexedRefused → Type 0
+ShowsList told request at spot shown result = (file : List ℕ) → told ≡ Some file → length file ≡ request.len → KnowsSummaryChannels file request.tables.now.channels → ListShown file request at spot shown result
 
 -- What its reading asks for: all of it and the messages in the range; or all of what stands there as a Message Index, which
 -- isn't one of that channel; or the head of what else stands there.
@@ -119,9 +119,9 @@ abbrev pub AsksList : Request → Spot → StoreState → StoreState → Type 0
 AsksList request spot old new = (file : List ℕ) (cost : ℕ) → old.bytes ≡ Some file → length file ≡ request.len → ListCost file request.range spot cost → new.asked ≤ old.asked + cost
 
 -- it is there, unless its messages aren't shown
-abbrev pub IsFound : List ℕ → Spot → Result Bool IndexedRefused → Type 0
-IsFound file spot (Ok it) = LacksIndex file spot.channel spot.list → ⊥
-IsFound file spot (Err why) = Unit {0}
+abbrev pub IsListFound : List ℕ → Spot → Result Bool IndexedRefused → Type 0
+IsListFound file spot (Ok it) = LacksIndex file spot.channel spot.list → ⊥
+IsListFound file spot (Err why) = Unit {0}
 
 abbrev pub FindsList : Option (List ℕ) → ℕ → Spot → Result Bool IndexedRefused → Type 0
-FindsList told len spot result = (file : List ℕ) → told ≡ Some file → length file ≡ len → IsFound file spot result
+FindsList told len spot result = (file : List ℕ) → told ≡ Some file → length file ≡ len → IsListFound file spot result

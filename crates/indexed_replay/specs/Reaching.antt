@@ -11,7 +11,7 @@ use Rattle.mcap_model.specs.Kept.{NamesCompression}
 use Rattle.mcap_model.specs.Scan.{Seen, InRange}
 use Rattle.mcap_model.specs.Whole.{AreShort, offset_among}
 use Rattle.mcap_model.specs.Led.{HasSummary, IsThere, LedByIndex, Led, Meets}
-use Rattle.summary_read.specs.Reached.{HasNoSummary, StartsAt, Fails, Passes}
+use Rattle.summary_read.specs.Reached.{HasNoSummary, SummaryStartsAt, FailsLoading, Passes}
 use Rattle.summary_read.specs.Parts.{of_kind, first_of_kind}
 use Rattle.mcap_model.specs.declared.refusals.NotIndexed.{NotIndexed}
 use Rattle.mcap_model.specs.declared.refusals.NotIndexed.TheVariants as lacks
@@ -35,13 +35,13 @@ pub record IsReached (file : List ℕ) (range : Range) (at : ℕ) (f : ChunkInde
   pub meets : Meets range f
 
 -- its map has this offset for that channel
-pub record Names (file : List ℕ) (range : Range) (at : ℕ) (f : ChunkIndexFields) (channel offset : ℕ) : Type 0 where
+pub record NamesOffset (file : List ℕ) (range : Range) (at : ℕ) (f : ChunkIndexFields) (channel offset : ℕ) : Type 0 where
   pub reached : IsReached file range at f
   pub named : Has {X = ℕ × ℕ} f.indexes (channel, offset)
 
 -- there stands a Message Index of that channel, with this log time and offset, and the log time lies in the range
 pub record LeadsTo (file : List ℕ) (range : Range) (at : ℕ) (f : ChunkIndexFields) (channel offset : ℕ) (entry : ℕ × ℕ) : Type 0 where
-  pub names : Names file range at f channel offset
+  pub names : NamesOffset file range at f channel offset
   pub list : Top
   pub entries : List (ℕ × ℕ)
   pub there : IsThere file offset list
@@ -64,7 +64,7 @@ abbrev pub LacksChunk : List ℕ → ℕ → Type 0
 LacksChunk file offset = (t : Top) (g : ChunkFields) → IsThere file offset t → IsChunk t g → ⊥
 
 -- a chunk that names no compression stands at the first offset and ends at the other
-pub record EndsAt (file : List ℕ) (offset end : ℕ) : Type 0 where
+pub record ChunkEndsAt (file : List ℕ) (offset end : ℕ) : Type 0 where
   pub chunk : Top
   pub there : IsThere file offset chunk
   pub kind : chunk.op ≡ 6
@@ -75,7 +75,7 @@ pub record EndsAt (file : List ℕ) (offset end : ℕ) : Type 0 where
 -- Indexes.
 pub record IsElsewhere (file : List ℕ) (f : ChunkIndexFields) (offset : ℕ) : Type 0 where
   pub end : ℕ
-  pub ends : EndsAt file f.offset end
+  pub ends : ChunkEndsAt file f.offset end
   pub outside : (offset < end) ⊎ (end + f.indexes_size ≤ offset)
 
 -- no Message Index of that channel stands at that offset
@@ -94,13 +94,13 @@ pub record IndexesStand (file : List ℕ) (from to : ℕ) : Type 0 where
 -- what stands at that offset is a Message Index of the chunk: behind the chunk stand Message Indexes alone up to there
 pub record IsOwn (file : List ℕ) (f : ChunkIndexFields) (offset : ℕ) : Type 0 where
   pub end : ℕ
-  pub ends : EndsAt file f.offset end
+  pub ends : ChunkEndsAt file f.offset end
   pub stand : IndexesStand file end offset
 
 -- it isn't
 pub record IsApart (file : List ℕ) (f : ChunkIndexFields) (offset : ℕ) : Type 0 where
   pub end : ℕ
-  pub ends : EndsAt file f.offset end
+  pub ends : ChunkEndsAt file f.offset end
   pub apart : IndexesStand file end offset → ⊥
 
 -- no message of that channel and of the entry's log time stands at the entry's offset behind the first 49 bytes of a chunk
@@ -118,17 +118,17 @@ pub record LeadsNowhere (file : List ℕ) (range : Range) (at : ℕ) (f : ChunkI
 -- The rule of that number fails at that offset: on the ends of the file or on its summary; at a Chunk Index that leads to
 -- no Chunk, or to one to which an earlier one leads, or whose map leads to no Message Index of a channel, to another place than
 -- behind the chunk, or to one that isn't the chunk's (V12); or at a Message Index of the chunk with an entry in the range that leads to no message (V9).
-pub data Breaks (file : List ℕ) (range : Range) : ℕ → ℕ → Type 0 where
-  at_loading : (rule offset : ℕ) → Fails file rule offset → Breaks file range rule offset
-  second_index : (first at : ℕ) → first < at → AreOfOne file first at → Breaks file range 12 at
-  no_chunk : (at : ℕ) (f : ChunkIndexFields) → IsReached file range at f → LacksChunk file f.offset → Breaks file range 12 at
-  no_index : (at : ℕ) (f : ChunkIndexFields) (channel offset : ℕ) → Names file range at f channel offset → LacksIndex file channel offset → Breaks file range 12 at
-  index_elsewhere : (at : ℕ) (f : ChunkIndexFields) (channel offset : ℕ) → Names file range at f channel offset → IsElsewhere file f offset → Breaks file range 12 at
-  index_apart : (at : ℕ) (f : ChunkIndexFields) (channel offset : ℕ) → Names file range at f channel offset → IsApart file f offset → Breaks file range 12 at
-  no_message : (at : ℕ) (f : ChunkIndexFields) (channel offset : ℕ) → LeadsNowhere file range at f channel offset → IsOwn file f offset → Breaks file range 9 offset
+pub data BreaksByIndex (file : List ℕ) (range : Range) : ℕ → ℕ → Type 0 where
+  at_loading : (rule offset : ℕ) → FailsLoading file rule offset → BreaksByIndex file range rule offset
+  second_index : (first at : ℕ) → first < at → AreOfOne file first at → BreaksByIndex file range 12 at
+  no_chunk : (at : ℕ) (f : ChunkIndexFields) → IsReached file range at f → LacksChunk file f.offset → BreaksByIndex file range 12 at
+  no_index : (at : ℕ) (f : ChunkIndexFields) (channel offset : ℕ) → NamesOffset file range at f channel offset → LacksIndex file channel offset → BreaksByIndex file range 12 at
+  index_elsewhere : (at : ℕ) (f : ChunkIndexFields) (channel offset : ℕ) → NamesOffset file range at f channel offset → IsElsewhere file f offset → BreaksByIndex file range 12 at
+  index_apart : (at : ℕ) (f : ChunkIndexFields) (channel offset : ℕ) → NamesOffset file range at f channel offset → IsApart file f offset → BreaksByIndex file range 12 at
+  no_message : (at : ℕ) (f : ChunkIndexFields) (channel offset : ℕ) → LeadsNowhere file range at f channel offset → IsOwn file f offset → BreaksByIndex file range 9 offset
 
 -- the chunk of a Chunk Index that is reached stands at that offset, and names that compression
-pub record IsPacked (file : List ℕ) (range : Range) (offset : ℕ) (name : List ℕ) : Type 0 where
+pub record ReachesPacked (file : List ℕ) (range : Range) (offset : ℕ) (name : List ℕ) : Type 0 where
   pub at : ℕ
   pub index : ChunkIndexFields
   pub reached : IsReached file range at index
@@ -159,19 +159,19 @@ pub record IsTooMuch (file : List ℕ) (range : Range) (offset : ℕ) : Type 0 w
   pub at : ℕ
   pub index : ChunkIndexFields
   pub channel : ℕ
-  pub names : Names file range at index channel offset
+  pub names : NamesOffset file range at index channel offset
   pub led : LedByIndex file range index.offset offset last
 
 -- A limit is passed on the ends of the file or in its summary; or a record whose content is past the limit stands where a
 -- Chunk Index, its map or an entry leads, or behind the chunk in front of a Message Index that is named; or with a message of a
 -- Message Index there is more data than in the file.
-pub data PassesLimit (file : List ℕ) (range : Range) : ℕ → Type 0 where
-  while_loading : (offset : ℕ) → Passes file offset → PassesLimit file range offset
-  at_chunk : (at : ℕ) (f : ChunkIndexFields) (offset : ℕ) → IsReached file range at f → f.offset ≡ offset → IsTooLong file offset → PassesLimit file range offset
-  at_index : (at : ℕ) (f : ChunkIndexFields) (channel offset : ℕ) → Names file range at f channel offset → IsTooLong file offset → PassesLimit file range offset
-  behind_chunk : (at : ℕ) (f : ChunkIndexFields) (channel list end offset : ℕ) → Names file range at f channel list → EndsAt file f.offset end → IndexesStand file end offset → offset < list → IsTooLong file offset → PassesLimit file range offset
-  at_message : (at : ℕ) (f : ChunkIndexFields) (channel list offset : ℕ) (entry : ℕ × ℕ) → LeadsTo file range at f channel list entry → offset ≡ f.offset + 49 + entry.1 → IsTooLong file offset → PassesLimit file range offset
-  too_much_data : (offset : ℕ) → IsTooMuch file range offset → PassesLimit file range offset
+pub data LeadsPastLimit (file : List ℕ) (range : Range) : ℕ → Type 0 where
+  while_loading : (offset : ℕ) → Passes file offset → LeadsPastLimit file range offset
+  at_chunk : (at : ℕ) (f : ChunkIndexFields) (offset : ℕ) → IsReached file range at f → f.offset ≡ offset → IsTooLong file offset → LeadsPastLimit file range offset
+  at_index : (at : ℕ) (f : ChunkIndexFields) (channel offset : ℕ) → NamesOffset file range at f channel offset → IsTooLong file offset → LeadsPastLimit file range offset
+  behind_chunk : (at : ℕ) (f : ChunkIndexFields) (channel list end offset : ℕ) → NamesOffset file range at f channel list → ChunkEndsAt file f.offset end → IndexesStand file end offset → offset < list → IsTooLong file offset → LeadsPastLimit file range offset
+  at_message : (at : ℕ) (f : ChunkIndexFields) (channel list offset : ℕ) (entry : ℕ × ℕ) → LeadsTo file range at f channel list entry → offset ≡ f.offset + 49 + entry.1 → IsTooLong file offset → LeadsPastLimit file range offset
+  too_much_data : (offset : ℕ) → IsTooMuch file range offset → LeadsPastLimit file range offset
 
 -- ---- what is asked for
 
@@ -183,7 +183,7 @@ head_length = 9
 -- Message Indexes directly behind the chunk and of one record more.
 pub data Beside (file : List ℕ) (range : Range) : ℕ → Type 0 where
   nothing : Beside file range 0
-  heads : (at : ℕ) (f : ChunkIndexFields) (channel offset end place : ℕ) → LeadsNowhere file range at f channel offset → EndsAt file f.offset end → (walked : IndexesStand file end place) → Beside file range (head_length * length walked.indexes + head_length)
+  heads : (at : ℕ) (f : ChunkIndexFields) (channel offset end place : ℕ) → LeadsNowhere file range at f channel offset → ChunkEndsAt file f.offset end → (walked : IndexesStand file end place) → Beside file range (head_length * length walked.indexes + head_length)
 
 -- from the one count on no more is asked for up to the other than the cost, and what is asked for beside
 abbrev pub AskedBeside : List ℕ → Range → ℕ → ℕ → ℕ → Type 0
@@ -227,7 +227,7 @@ pub record LacksChannel (file : List ℕ) (range : Range) (id : ℕ) : Type 0 wh
 
 abbrev pub IsNotIndexed : List ℕ → Range → NotIndexed → Type 0
 IsNotIndexed file range lacks.NoSummary = HasNoSummary file
-IsNotIndexed file range lacks.NoStatistics = (start : ℕ) × (summary : List Top) × StartsAt file start × HasSummary file start summary × Each (λ t. t.op ≢ 11) summary
+IsNotIndexed file range lacks.NoStatistics = (start : ℕ) × (summary : List Top) × SummaryStartsAt file start × HasSummary file start summary × Each (λ t. t.op ≢ 11) summary
 IsNotIndexed file range (lacks.ChunkCount stated found) = CountsDiffer file stated found
 IsNotIndexed file range (lacks.NoMessageIndex chunk) = NamesNone file range chunk
 IsNotIndexed file range (lacks.NoChannel id) = LacksChannel file range id

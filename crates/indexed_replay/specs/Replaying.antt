@@ -17,16 +17,16 @@ use Rattle.mcap_model.specs.declared.refusals.ReadingRefused.{ReadingRefused}
 use Rattle.mcap_model.specs.declared.refusals.ReadingRefused.TheVariants as refusals
 use Rattle.mcap_model.specs.declared.refusals.IndexedRefused.{IndexedRefused}
 use Rattle.mcap_model.specs.declared.refusals.IndexedRefused.TheVariants as by_index
-use Rattle.indexed_replay.specs.Reaching.{AreOfOne, IsNotIndexed, Breaks, IsPacked, PassesLimit}
+use Rattle.indexed_replay.specs.Reaching.{AreOfOne, IsNotIndexed, BreaksByIndex, ReachesPacked, LeadsPastLimit}
 
 -- ---- what is answered
 
 -- why what the summary leads to isn't read
 abbrev pub IsUnread : List ℕ → Range → ReadingRefused → Type 0
 IsUnread file range (refusals.Fault faults) = Unit {0}
-IsUnread file range (refusals.Grammar offset rule) = Breaks file range rule offset
-IsUnread file range (refusals.Compressed offset name) = IsPacked file range offset name
-IsUnread file range (refusals.Limit offset) = PassesLimit file range offset
+IsUnread file range (refusals.Grammar offset rule) = BreaksByIndex file range rule offset
+IsUnread file range (refusals.Compressed offset name) = ReachesPacked file range offset name
+IsUnread file range (refusals.Limit offset) = LeadsPastLimit file range offset
 IsUnread file range refusals.Memory = Unit {0}
 
 -- why a replay is refused
@@ -45,8 +45,8 @@ FileIsLed file range topic (Ok played) = IsLed file range topic played
 FileIsLed file range topic (Err why) = IsReason file range why
 
 -- where the store tells its bytes, these are the file
-abbrev pub Plays : Option (List ℕ) → Range → Option (List ℕ) → Result Replayed IndexedRefused → Type 0
-Plays told range topic result = (file : List ℕ) → told ≡ Some file → FileIsLed file range topic result
+abbrev pub PlaysIndexed : Option (List ℕ) → Range → Option (List ℕ) → Result Replayed IndexedRefused → Type 0
+PlaysIndexed told range topic result = (file : List ℕ) → told ≡ Some file → FileIsLed file range topic result
 
 -- ---- what is played
 
@@ -61,13 +61,13 @@ pub record StatesChunks (file : List ℕ) : Type 0 where
   pub is : IsStatistics statistics shown
   pub agree : shown.chunks ≡ length (of_kind 8 summary)
 
-abbrev pub PlaysAll : List ℕ → Result Replayed IndexedRefused → Type 0
-PlaysAll file (Ok played) = StatesChunks file
-PlaysAll file (Err why) = Unit {0}
+abbrev pub PlayedStatesChunks : List ℕ → Result Replayed IndexedRefused → Type 0
+PlayedStatesChunks file (Ok played) = StatesChunks file
+PlayedStatesChunks file (Err why) = Unit {0}
 
 -- no file is played whose summary lacks the index of a chunk
 abbrev pub TellsChunks : Option (List ℕ) → Result Replayed IndexedRefused → Type 0
-TellsChunks told result = (file : List ℕ) → told ≡ Some file → PlaysAll file result
+TellsChunks told result = (file : List ℕ) → told ≡ Some file → PlayedStatesChunks file result
 
 -- no chunk has two Chunk Indexes
 abbrev pub HaveOneIndex : List ℕ → Type 0
@@ -116,18 +116,18 @@ PlaysScan told range topic result = (file : List ℕ) (tops : List Top) (end : �
 -- ---- faults
 
 -- a fault comes where the store failed, and has the count; otherwise the count stands still
-abbrev pub RefusalCause : ℕ → ℕ → ReadingRefused → Type 0
-RefusalCause before now (refusals.Fault faults) = RisesOnce before now × (faults ≡ now)
-RefusalCause before now (refusals.Grammar offset rule) = now ≡ before
-RefusalCause before now (refusals.Compressed offset name) = now ≡ before
-RefusalCause before now (refusals.Limit offset) = now ≡ before
-RefusalCause before now refusals.Memory = now ≡ before
+abbrev pub RefusedReplayCause : ℕ → ℕ → ReadingRefused → Type 0
+RefusedReplayCause before now (refusals.Fault faults) = RisesOnce before now × (faults ≡ now)
+RefusedReplayCause before now (refusals.Grammar offset rule) = now ≡ before
+RefusedReplayCause before now (refusals.Compressed offset name) = now ≡ before
+RefusedReplayCause before now (refusals.Limit offset) = now ≡ before
+RefusedReplayCause before now refusals.Memory = now ≡ before
 
 abbrev pub ReadingCause : {P : Type 0} → ℕ → ℕ → Result P ReadingRefused → Type 0
 ReadingCause before now (Ok it) = now ≡ before
-ReadingCause before now (Err why) = RefusalCause before now why
+ReadingCause before now (Err why) = RefusedReplayCause before now why
 
 abbrev pub ReplayCause : {P : Type 0} → ℕ → ℕ → Result P IndexedRefused → Type 0
 ReplayCause before now (Ok played) = now ≡ before
 ReplayCause before now (Err (by_index.NotIndexed why)) = now ≡ before
-ReplayCause before now (Err (by_index.Refused why)) = RefusalCause before now why
+ReplayCause before now (Err (by_index.Refused why)) = RefusedReplayCause before now why

@@ -20,7 +20,7 @@ use Rattle.indexed_replay.specs.declared.fronts.Front.{Front}
 use Rattle.indexed_replay.specs.declared.fronts.Front.TheVariants as fronts
 use Rattle.indexed_replay.specs.declared.spots.Spot.{Spot}
 use Rattle.indexed_replay.specs.Reaching.{LacksIndex, LacksMessage, IsTooLong, head_length}
-use Rattle.indexed_replay.specs.Holding.{Fills}
+use Rattle.indexed_replay.specs.Holding.{OverfullAt}
 
 -- ---- the front of a record
 
@@ -46,15 +46,15 @@ FrontIs file at out (Ok fronts.Absent) = LacksRecord file at (length out)
 FrontIs file at out (Err why) = Unit {0}
 
 -- the record lies within so many bytes, and has at least so many
-abbrev pub IsInside : ℕ → ℕ → ℕ → Result Front Failed → Type 0
-IsInside len at size (Ok (fronts.Whole head)) = (at + 9 + head.len ≤ len) × (size ≤ 9 + head.len)
-IsInside len at size (Ok fronts.Long) = Unit {0}
-IsInside len at size (Ok fronts.Absent) = Unit {0}
-IsInside len at size (Err why) = Unit {0}
+abbrev pub RecordLiesWithin : ℕ → ℕ → ℕ → Result Front Failed → Type 0
+RecordLiesWithin len at size (Ok (fronts.Whole head)) = (at + 9 + head.len ≤ len) × (size ≤ 9 + head.len)
+RecordLiesWithin len at size (Ok fronts.Long) = Unit {0}
+RecordLiesWithin len at size (Ok fronts.Absent) = Unit {0}
+RecordLiesWithin len at size (Err why) = Unit {0}
 
 -- where the store tells a file of that length
-abbrev pub TellsFront : Option (List ℕ) → ℕ → ℕ → List ℕ → Result Front Failed → Type 0
-TellsFront told len at out result = (file : List ℕ) → told ≡ Some file → length file ≡ len → FrontIs file at out result
+abbrev pub TellsRecordFront : Option (List ℕ) → ℕ → ℕ → List ℕ → Result Front Failed → Type 0
+TellsRecordFront told len at out result = (file : List ℕ) → told ≡ Some file → length file ≡ len → FrontIs file at out result
 
 -- ---- a message
 
@@ -62,14 +62,14 @@ abbrev pub place_in : ℕ → ℕ → Place
 place_in chunk inner = record { top = chunk; inner = inner }
 
 -- an entry of that channel leads to the message
-pub record IsFound (file : List ℕ) (chunk channel : ℕ) (entry : ℕ × ℕ) (s : Shown) : Type 0 where
+pub record IsLedByEntry (file : List ℕ) (chunk channel : ℕ) (entry : ℕ × ℕ) (s : Shown) : Type 0 where
   pub place : s.place ≡ place_in chunk entry.1
   pub channel_is : s.channel ≡ channel
   pub time : s.log_time ≡ entry.0
   pub stands : IsInChunk file chunk (led_as s)
 
 -- just the messages with that property are added, each once
-pub record Adds (P : Shown → Type 0) (old new : List Shown) : Type 0 where
+pub record AddsEachOnce (P : Shown → Type 0) (old new : List Shown) : Type 0 where
   pub more : List Shown
   pub added : new ≡ old ++ more
   pub are : (s : Shown) → Has more s → P s
@@ -86,9 +86,9 @@ EntryRefused file chunk entry refusals.Memory = Unit {0}
 
 -- the message of an entry is added; or none stands there; or why it can't be read, or isn't, since the data is too much
 abbrev pub MessageIs : List ℕ → Spot → ℕ × ℕ → (List Shown × List Shown) → Result Bool ReadingRefused → Type 0
-MessageIs file spot entry shown (Ok true) = Adds (IsFound file spot.chunk spot.channel entry) shown.0 shown.1
+MessageIs file spot entry shown (Ok true) = AddsEachOnce (IsLedByEntry file spot.chunk spot.channel entry) shown.0 shown.1
 MessageIs file spot entry shown (Ok false) = LacksMessage file spot.chunk spot.channel entry
-MessageIs file spot entry shown (Err why) = EntryRefused file spot.chunk entry why ⊎ Fills (IsFound file spot.chunk spot.channel entry) (IsFound file spot.chunk spot.channel entry) spot.list file shown.0 (by_index.Refused why)
+MessageIs file spot entry shown (Err why) = EntryRefused file spot.chunk entry why ⊎ OverfullAt (IsLedByEntry file spot.chunk spot.channel entry) (IsLedByEntry file spot.chunk spot.channel entry) spot.list file shown.0 (by_index.Refused why)
 
 abbrev pub TellsMessage : Option (List ℕ) → ℕ → Spot → ℕ × ℕ → (List Shown × List Shown) → Result Bool ReadingRefused → Type 0
 TellsMessage told len spot entry shown result = (file : List ℕ) → told ≡ Some file → length file ≡ len → MessageIs file spot entry shown result
@@ -103,7 +103,7 @@ AsksMessage len at old new = (file : List ℕ) → old.bytes ≡ Some file → l
 -- ---- the entries of a Message Index
 
 -- one of the entries is in the range and leads to the message
-pub record IsListed (file : List ℕ) (range : Range) (spot : Spot) (entries : List (ℕ × ℕ)) (s : Shown) : Type 0 where
+pub record IsLedInRange (file : List ℕ) (range : Range) (spot : Spot) (entries : List (ℕ × ℕ)) (s : Shown) : Type 0 where
   pub entry : Has {X = ℕ × ℕ} entries (s.log_time, s.place.inner)
   pub in_range : InRange range s.log_time
   pub channel_is : s.channel ≡ spot.channel
@@ -119,9 +119,9 @@ EntriesRefused file range spot entries why = (entry : ℕ × ℕ) × Has entries
 
 -- the messages of the entries are added; or one of them isn't there; or why one can't be read, or isn't
 abbrev pub EntriesShown : List ℕ → Range → Spot → List (ℕ × ℕ) → (List Shown × List Shown) → Result Bool ReadingRefused → Type 0
-EntriesShown file range spot entries shown (Ok true) = Adds (IsListed file range spot entries) shown.0 shown.1
+EntriesShown file range spot entries shown (Ok true) = AddsEachOnce (IsLedInRange file range spot entries) shown.0 shown.1
 EntriesShown file range spot entries shown (Ok false) = LacksListed file range spot entries
-EntriesShown file range spot entries shown (Err why) = EntriesRefused file range spot entries why ⊎ Fills (IsListed file range spot entries) (IsListed file range spot entries) spot.list file shown.0 (by_index.Refused why)
+EntriesShown file range spot entries shown (Err why) = EntriesRefused file range spot entries why ⊎ OverfullAt (IsLedInRange file range spot entries) (IsLedInRange file range spot entries) spot.list file shown.0 (by_index.Refused why)
 
 abbrev pub TellsEntries : Option (List ℕ) → ℕ → Range → Spot → List (ℕ × ℕ) → (List Shown × List Shown) → Result Bool ReadingRefused → Type 0
 TellsEntries told len range spot entries shown result = (file : List ℕ) → told ≡ Some file → length file ≡ len → EntriesShown file range spot entries shown result
@@ -134,11 +134,11 @@ abbrev pub entries_cost : List ℕ → Range → ℕ → List (ℕ × ℕ) → �
 entries_cost file range chunk entries = sum_by (entry_cost file range chunk) entries
 
 -- an entry doesn't come behind another, by offset and then by time
-abbrev pub NotBehind : ℕ × ℕ → ℕ × ℕ → Type 0
-NotBehind e d = (e.1 < d.1) ⊎ ((e.1 ≡ d.1) × (e.0 ≤ d.0))
+abbrev pub EntryNotBehind : ℕ × ℕ → ℕ × ℕ → Type 0
+EntryNotBehind e d = (e.1 < d.1) ⊎ ((e.1 ≡ d.1) × (e.0 ≤ d.0))
 
 abbrev pub EntriesAscend : List (ℕ × ℕ) → Type 0
-EntriesAscend entries = AllPairs NotBehind entries
+EntriesAscend entries = AllPairs EntryNotBehind entries
 
 -- These are the entries in the range, in some order, and reading their messages asks for what that of all entries does.
 pub record AreTimely (range : Range) (entries timely : List (ℕ × ℕ)) : Type 0 where

@@ -2,7 +2,7 @@
 ghost use Rattle.std.specs.Prelude.{◌≤◌};
 ghost use Rattle.mcap_io.specs.Stores.{StoreStays};
 ghost use Rattle.indexed_replay.specs.Belonging.{AsksHeads, JudgesAstray, TellsWalk};
-ghost use Rattle.indexed_replay.specs.Replaying.{RefusalCause, ReadingCause};
+ghost use Rattle.indexed_replay.specs.Replaying.{RefusedReplayCause, ReadingCause};
 
 use crate::fronts::{Front, read_front};
 use mcap_io::{Failed, Store};
@@ -60,7 +60,7 @@ pub(crate) fn refuse_astray<T: Store>(
 ) -> ReadingRefused
     requires { len ≤ (T.state store.old).known }
     ensures told { JudgesAstray (T.state store.old).bytes len at end list result }
-    ensures cause { RefusalCause (T.state store.old).faults (T.state store.new).faults result }
+    ensures cause { RefusedReplayCause (T.state store.old).faults (T.state store.new).faults result }
     ensures stays { StoreStays (T.state store.old) (T.state store.new) }
     ensures asks { AsksHeads len end (T.state store.old) (T.state store.new) }
 {

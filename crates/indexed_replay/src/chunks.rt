@@ -2,10 +2,10 @@
 ghost use Rattle.std.specs.Prelude.{◌+◌, ◌^◌, ◌<◌, ◌≤◌};
 ghost use Rattle.mcap_io.specs.Stores.{StoreStays};
 ghost use Rattle.rec_index.specs.Parsed.{chunk_index_fields};
-ghost use Rattle.indexed_replay.specs.Replaying.{ReadingCause, RefusalCause, ReplayCause};
+ghost use Rattle.indexed_replay.specs.Replaying.{ReadingCause, RefusedReplayCause, ReplayCause};
 ghost use Rattle.indexed_replay.specs.Reaching.{head_length};
-ghost use Rattle.indexed_replay.specs.Holding.{Fits, HoldsWithin};
-ghost use Rattle.indexed_replay.specs.Chunks.{AsksChunk, AsksFront, AsksNames, ChecksChunk, NamesPack, ShowsChunk, ShowsNames, front_length};
+ghost use Rattle.indexed_replay.specs.Holding.{HoldsExactly, HoldsWithin};
+ghost use Rattle.indexed_replay.specs.Chunks.{AsksChunk, AsksFront, AsksNames, ChecksChunk, NamesPack, TellsChunkShown, ShowsNames, front_length};
 ghost use Rattle.time_player.specs.Keeping.{kept_in};
 
 use crate::belonging::refuse_astray;
@@ -41,7 +41,7 @@ fn refuse_packed<T: Store>(
     requires fits { offset + head_length + len < 2 ^ 64 }
     requires known { offset + head_length + len ≤ (T.state store.old).known }
     ensures told { NamesPack (T.state store.old).bytes index offset len name_length result }
-    ensures cause { RefusalCause (T.state store.old).faults (T.state store.new).faults result }
+    ensures cause { RefusedReplayCause (T.state store.old).faults (T.state store.new).faults result }
     ensures stays { StoreStays (T.state store.old) (T.state store.new) }
     ensures asks { (T.state store.new).asked ≤ (T.state store.old).asked + (front_length + name_length) }
 {
@@ -134,7 +134,7 @@ fn show_names<T: Store>(
     shown: &mut Kept,
 ) -> Result<(), IndexedRefused>
     requires known { request.now.len ≤ (T.state store.old).known }
-    requires fits { Fits request.now.len shown.old }
+    requires fits { HoldsExactly request.now.len shown.old }
     ensures told { ShowsNames (T.state store.old).bytes request.now at end (chunk_index_fields index.now) (kept_in shown.old, kept_in shown.new) result }
     ensures holds { HoldsWithin request.now.len shown.new result }
     ensures cause { ReplayCause (T.state store.old).faults (T.state store.new).faults result }
@@ -178,8 +178,8 @@ pub(crate) fn show_chunk<T: Store>(
     shown: &mut Kept,
 ) -> Result<(), IndexedRefused>
     requires known { request.now.len ≤ (T.state store.old).known }
-    requires fits { Fits request.now.len shown.old }
-    ensures told { ShowsChunk (T.state store.old).bytes request.now at (chunk_index_fields index.now) (kept_in shown.old, kept_in shown.new) result }
+    requires fits { HoldsExactly request.now.len shown.old }
+    ensures told { TellsChunkShown (T.state store.old).bytes request.now at (chunk_index_fields index.now) (kept_in shown.old, kept_in shown.new) result }
     ensures holds { HoldsWithin request.now.len shown.new result }
     ensures cause { ReplayCause (T.state store.old).faults (T.state store.new).faults result }
     ensures stays { StoreStays (T.state store.old) (T.state store.new) }

@@ -2,7 +2,7 @@
 ghost use Rattle.std.specs.Prelude.{◌≡◌, ◌<◌, ◌≤◌, ℕ, length, false, true, Some, slice_get, IfOk, OnErr};
 ghost use Rattle.mcap_io.specs.Stores.{StoreStays};
 ghost use Rattle.indexed_replay.specs.Replaying.{ReadingCause};
-ghost use Rattle.indexed_replay.specs.Holding.{Fits, HoldsWithin};
+ghost use Rattle.indexed_replay.specs.Holding.{HoldsExactly, HoldsWithin};
 ghost use Rattle.indexed_replay.specs.Steps.{AreTimely, AsksEntries, EntriesAscend, TellsEntries};
 ghost use Rattle.indexed_replay.specs.Lists.{HasTimely};
 ghost use Rattle.time_player.specs.Keeping.{kept_in};
@@ -68,7 +68,7 @@ fn show_each<T: Store>(
 ) -> Result<bool, ReadingRefused>
     requires known { len ≤ (T.state store.old).known }
     requires ascend { EntriesAscend entries.now }
-    requires fits { Fits len shown.old }
+    requires fits { HoldsExactly len shown.old }
     ensures told { TellsEntries (T.state store.old).bytes len range spot entries.now (kept_in shown.old, kept_in shown.new) result }
     ensures holds { HoldsWithin len shown.new result }
     ensures cause { ReadingCause (T.state store.old).faults (T.state store.new).faults result }
@@ -105,7 +105,7 @@ pub(crate) fn show_entries<T: Store>(
     shown: &mut Kept,
 ) -> Result<bool, ReadingRefused>
     requires known { len ≤ (T.state store.old).known }
-    requires fits { Fits len shown.old }
+    requires fits { HoldsExactly len shown.old }
     ensures told { TellsEntries (T.state store.old).bytes len range spot entries.now (kept_in shown.old, kept_in shown.new) result }
     ensures holds { HoldsWithin len shown.new result }
     ensures cause { ReadingCause (T.state store.old).faults (T.state store.new).faults result }

@@ -1,8 +1,8 @@
 //! The front of a record that stands at an offset of a store.
 ghost use Rattle.std.specs.Prelude.{◌≤◌, length};
 ghost use Rattle.mcap_io.specs.Outside.{HasCause};
-ghost use Rattle.summary_read.specs.Steps.{Takes};
-ghost use Rattle.indexed_replay.specs.Steps.{IsInside, TellsFront};
+ghost use Rattle.summary_read.specs.Steps.{AsksAtMost};
+ghost use Rattle.indexed_replay.specs.Steps.{RecordLiesWithin, TellsRecordFront};
 
 use mcap_io::{Failed, Store};
 use mcap_wire::{CONTENT_LIMIT, Head, take_head};
@@ -28,10 +28,10 @@ pub(crate) fn read_front<T: Store>(
 ) -> Result<Front, Failed>
     requires known { len ≤ (T.state store.old).known }
     requires head { 9 ≤ length out.old }
-    ensures told { TellsFront (T.state store.old).bytes len at out.new result }
-    ensures inside { IsInside len at (length out.old) result }
+    ensures told { TellsRecordFront (T.state store.old).bytes len at out.new result }
+    ensures inside { RecordLiesWithin len at (length out.old) result }
     ensures cause { HasCause (T.state store.old).faults (T.state store.new).faults result }
-    ensures takes { Takes (T.state store.old) (T.state store.new) (length out.old) }
+    ensures takes { AsksAtMost (T.state store.old) (T.state store.new) (length out.old) }
 {
     let size = out.len() as u64;
     if at > len || len - at < size {

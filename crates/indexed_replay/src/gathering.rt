@@ -5,7 +5,7 @@ ghost use Rattle.rec_index.specs.Parsed.{chunk_index_fields};
 ghost use Rattle.mcap_model.specs.Led.{Meets};
 ghost use Rattle.indexed_replay.specs.Replaying.{ReplayCause};
 ghost use Rattle.indexed_replay.specs.Gathering.{AsksAll, Gathers};
-ghost use Rattle.indexed_replay.specs.Holding.{Fits, HoldsWithin};
+ghost use Rattle.indexed_replay.specs.Holding.{HoldsExactly, HoldsWithin};
 ghost use Rattle.time_player.specs.Keeping.{kept_in};
 
 use crate::chunks::show_chunk;
@@ -37,7 +37,7 @@ pub(crate) fn gather<T: Store>(
     shown: &mut Kept,
 ) -> Result<(), IndexedRefused>
     requires known { request.now.len ≤ (T.state store.old).known }
-    requires fits { Fits request.now.len shown.old }
+    requires fits { HoldsExactly request.now.len shown.old }
     ensures holds { HoldsWithin request.now.len shown.new result }
     ensures told { Gathers (T.state store.old).bytes request.now loaded.now.chunk_indexes loaded.now.chunk_index_offsets (kept_in shown.old, kept_in shown.new) result }
     ensures cause { ReplayCause (T.state store.old).faults (T.state store.new).faults result }

@@ -4,9 +4,9 @@ ghost use Rattle.mcap_io.specs.Stores.{StoreStays};
 ghost use Rattle.rec_index.specs.Records.{ShowsMessageIndex};
 ghost use Rattle.mcap_model.specs.Plain.{asked_topic, DeclareChannels};
 ghost use Rattle.indexed_replay.specs.Replaying.{ReadingCause, ReplayCause};
-ghost use Rattle.indexed_replay.specs.Holding.{Fits, HoldsWithin};
+ghost use Rattle.indexed_replay.specs.Holding.{HoldsExactly, HoldsWithin};
 ghost use Rattle.indexed_replay.specs.Steps.{AsksListAt, TellsIndex, TellsList};
-ghost use Rattle.indexed_replay.specs.Lists.{AsksContent, AsksList, FindsList, HasTimely, Shows, ShowsContent, Undeclared, Wanted};
+ghost use Rattle.indexed_replay.specs.Lists.{AsksContent, AsksList, FindsList, HasTimely, ShowsList, ShowsContent, Undeclared, IsWantedChannel};
 ghost use Rattle.time_player.specs.Keeping.{kept_in};
 
 use crate::entries::show_entries;
@@ -101,7 +101,7 @@ fn is_index_of(content: &[u8], channel: u16) -> bool
 
 // Whether the summary has a Channel of that id, and the first one has the topic that is asked for, if one is.
 fn is_wanted(tables: &Tables, channel: u16, topic: Option<&Text>) -> bool
-    ensures { DeclareChannels tables.now.channels → IsTrue result ↔ Wanted tables.now.channels channel (asked_topic topic.entry) }
+    ensures { DeclareChannels tables.now.channels → IsTrue result ↔ IsWantedChannel tables.now.channels channel (asked_topic topic.entry) }
 {
     let content = match tables.channels.find(channel) {
         Some(content) => content,
@@ -159,7 +159,7 @@ fn show_content<T: Store>(
 ) -> Result<bool, IndexedRefused>
     requires known { request.now.len ≤ (T.state store.old).known }
     requires is { (entries : List (ℕ × ℕ)) × ShowsMessageIndex content.now spot.channel entries }
-    requires fits { Fits request.now.len shown.old }
+    requires fits { HoldsExactly request.now.len shown.old }
     ensures told { ShowsContent (T.state store.old).bytes request.now spot content.now (kept_in shown.old, kept_in shown.new) result }
     ensures holds { HoldsWithin request.now.len shown.new result }
     ensures cause { ReplayCause (T.state store.old).faults (T.state store.new).faults result }
@@ -202,8 +202,8 @@ pub(crate) fn show_list<T: Store>(
     shown: &mut Kept,
 ) -> Result<bool, IndexedRefused>
     requires known { request.now.len ≤ (T.state store.old).known }
-    requires fits { Fits request.now.len shown.old }
-    ensures told { Shows (T.state store.old).bytes request.now at spot (kept_in shown.old, kept_in shown.new) result }
+    requires fits { HoldsExactly request.now.len shown.old }
+    ensures told { ShowsList (T.state store.old).bytes request.now at spot (kept_in shown.old, kept_in shown.new) result }
     ensures holds { HoldsWithin request.now.len shown.new result }
     ensures found { FindsList (T.state store.old).bytes request.now.len spot result }
     ensures cause { ReplayCause (T.state store.old).faults (T.state store.new).faults result }

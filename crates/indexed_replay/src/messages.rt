@@ -2,7 +2,7 @@
 ghost use Rattle.std.specs.Prelude.{◌+◌, ◌≤◌};
 ghost use Rattle.mcap_io.specs.Stores.{StoreStays};
 ghost use Rattle.indexed_replay.specs.Replaying.{ReadingCause};
-ghost use Rattle.indexed_replay.specs.Holding.{Fits, HoldsWithin};
+ghost use Rattle.indexed_replay.specs.Holding.{HoldsExactly, HoldsWithin};
 ghost use Rattle.indexed_replay.specs.Steps.{AsksMessage, TellsMessage};
 ghost use Rattle.time_player.specs.Keeping.{kept_in};
 
@@ -27,7 +27,7 @@ pub(crate) fn add_message<T: Store>(
     shown: &mut Kept,
 ) -> Result<bool, ReadingRefused>
     requires known { len ≤ (T.state store.old).known }
-    requires fits { Fits len shown.old }
+    requires fits { HoldsExactly len shown.old }
     ensures told { TellsMessage (T.state store.old).bytes len spot entry (kept_in shown.old, kept_in shown.new) result }
     ensures holds { HoldsWithin len shown.new result }
     ensures cause { ReadingCause (T.state store.old).faults (T.state store.new).faults result }

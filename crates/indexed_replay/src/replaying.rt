@@ -5,7 +5,7 @@ ghost use Rattle.mcap_model.specs.Plain.{asked_topic};
 ghost use Rattle.indexed_replay.specs.Apart.{HaveOne};
 ghost use Rattle.indexed_replay.specs.Holding.{TellsRoom};
 ghost use Rattle.indexed_replay.specs.Played.{AsksBound, AsksIndexed, AsksLoaded, AsksUnloaded, CountsJudged, PlaysLoaded};
-ghost use Rattle.indexed_replay.specs.Replaying.{Plays, PlaysScan, ReplayCause, TellsChunks, TellsNoSummary, TellsOneIndex};
+ghost use Rattle.indexed_replay.specs.Replaying.{PlaysIndexed, PlaysScan, ReplayCause, TellsChunks, TellsNoSummary, TellsOneIndex};
 
 use crate::channels::take_channels;
 use crate::gathering::gather;
@@ -96,7 +96,7 @@ pub fn replay_kept<T: Store>(
     range: Range,
     topic: Option<&Text>,
 ) -> Result<KeptReplay, IndexedRefused>
-    ensures plays { Plays (T.state store.old).bytes range (asked_topic topic.entry) result }
+    ensures plays { PlaysIndexed (T.state store.old).bytes range (asked_topic topic.entry) result }
     ensures counted { TellsChunks (T.state store.old).bytes result }
     ensures apart { TellsOneIndex (T.state store.old).bytes result }
     ensures room { TellsRoom (T.state store.old).bytes result }
@@ -140,7 +140,7 @@ pub fn replay_indexed<T: Store>(
     range: Range,
     topic: Option<&Text>,
 ) -> Result<Replayed, IndexedRefused>
-    ensures plays { Plays (T.state store.old).bytes range (asked_topic topic.entry) result }
+    ensures plays { PlaysIndexed (T.state store.old).bytes range (asked_topic topic.entry) result }
     ensures counted { TellsChunks (T.state store.old).bytes result }
     ensures apart { TellsOneIndex (T.state store.old).bytes result }
     ensures room { TellsRoom (T.state store.old).bytes result }

@@ -14,6 +14,6 @@ room_in (stores.Kept kept) = vec_capacity kept
 room_in (stores.Counted count) = most_counted
 
 -- it has these members, or their number
-abbrev pub Has : {X : Type 0} → Store X → List X → Type 0
-Has (stores.Kept kept) items = kept.items ≡ items
-Has (stores.Counted count) items = (count ≡ length items) × (count ≤ most_counted)
+abbrev pub HasMembers : {X : Type 0} → Store X → List X → Type 0
+HasMembers (stores.Kept kept) items = kept.items ≡ items
+HasMembers (stores.Counted count) items = (count ≡ length items) × (count ≤ most_counted)

@@ -23,11 +23,11 @@ impl<T> Model for Listing<T> {
 
     ghost Value = { Listed T };
 
-    ghost use Rattle.listing.specs.Stores.{is_kept, room_in, Has};
+    ghost use Rattle.listing.specs.Stores.{is_kept, room_in, HasMembers};
 
     ghost view = { λ l. record { items = l.trace.items; kept = is_kept l.store; capacity = room_in l.store } };
 
-    ghost invariant = { λ l. Has l.store l.trace.items };
+    ghost invariant = { λ l. HasMembers l.store l.trace.items };
 }
 
 impl<T: Drop> Listing<T> {

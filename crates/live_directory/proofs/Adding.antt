@@ -8,7 +8,7 @@ use Rattle.logbook.specs.Pages.{Cell, cell, keeps, no_nib, step, Moves, Goes}
 use Rattle.live_entry.specs.Following.{EntriesFollow}
 use Rattle.live_directory.specs.declared.front.Added.{Added}
 use Rattle.live_directory.specs.Published.{end_of, entries_of, IsHistory}
-use Rattle.live_directory.specs.Rules.{IsKept, Adds}
+use Rattle.live_directory.specs.Rules.{IsBookOf, AddsBatch}
 use Rattle.live_directory.proofs.Beginnings.{prefix_whole}
 use Rattle.live_directory.proofs.Histories.{history_after}
 
@@ -21,7 +21,7 @@ module _ {X : Type 0} (tells : X → Option (List ℕ)) where
 
   pub adds_goes : (log v : List (Added X)) (e : Added X) (old : ℕ) → length v ≡ old → end_of v ≡ None → EntriesFollow tells (entries_of v ++ e.entries) → IsHistory tells log → IsPrefix v log
       → (b : Bool) → (length log == old) ≡ b
-      → Goes (IsKept tells) shown moved 0 (v, (no_nib, None)) (λ n. either (n == old) (old + 1) n) (Adds tells (step 0 old (old + 1) e) (v, (no_nib, None))) ((length log, true) ∷ (0, true) ∷ []) log
+      → Goes (IsBookOf tells) shown moved 0 (v, (no_nib, None)) (λ n. either (n == old) (old + 1) n) (AddsBatch tells (step 0 old (old + 1) e) (v, (no_nib, None))) ((length log, true) ∷ (0, true) ∷ []) log
   adds_goes log v e old len may next legal pre true is =
       let here : length log ≡ old = grind (arith, nat_tests) in
       let same : v ≡ log = prefix_whole v log pre (omega arith) in
@@ -50,7 +50,7 @@ module _ {X : Type 0} (tells : X → Option (List ℕ)) where
       )
 
   pub adds_moves : (v : List (Added X)) (e : Added X) (old : ℕ) → length v ≡ old → end_of v ≡ None → EntriesFollow tells (entries_of v ++ e.entries)
-      → Moves (IsKept tells) shown moved 0 (v, (no_nib, None)) (λ n. either (n == old) (old + 1) n) (Adds tells (step 0 old (old + 1) e) (v, (no_nib, None)))
+      → Moves (IsBookOf tells) shown moved 0 (v, (no_nib, None)) (λ n. either (n == old) (old + 1) n) (AddsBatch tells (step 0 old (old + 1) e) (v, (no_nib, None)))
   adds_moves v e old len may next cs log kept pre away =
-      let P : List Cell → Type 0 = λ c. (0 < length c) × ((cell c 0).1 ≡ true) × Goes (IsKept tells) shown moved 0 (v, (no_nib, None)) (λ n. either (n == old) (old + 1) n) (Adds tells (step 0 old (old + 1) e) (v, (no_nib, None))) c log in
+      let P : List Cell → Type 0 = λ c. (0 < length c) × ((cell c 0).1 ≡ true) × Goes (IsBookOf tells) shown moved 0 (v, (no_nib, None)) (λ n. either (n == old) (old + 1) n) (AddsBatch tells (step 0 old (old + 1) e) (v, (no_nib, None))) c log in
       subst P (sym kept.words) (omega arith, refl, adds_goes log v e old len may next kept.legal pre (length log == old) refl)

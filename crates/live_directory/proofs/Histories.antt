@@ -9,7 +9,7 @@ use Rattle.live_entry.specs.declared.entry.Entry.{Entry}
 use Rattle.live_entry.specs.Following.{EntriesFollow}
 use Rattle.mcap_model.specs.declared.ends.End.{End}
 use Rattle.live_directory.specs.declared.front.Added.{Added}
-use Rattle.live_directory.specs.Published.{entries_of, end_or, end_of, EndsLast, AlwaysFollow, IsHistory, front_of, AtLeast}
+use Rattle.live_directory.specs.Published.{entries_of, end_or, end_of, EndsLast, AlwaysFollow, IsHistory, published_front, AtLeast}
 
 pub when_true : (P Q : Type 0) (b : Bool) → b ≡ true → MatchBool b P Q → P
 when_true P Q true e p = p
@@ -75,17 +75,17 @@ module _ {X : Type 0} where
     pub history_after : (v : List (Added X)) (t : Added X) → end_of v ≡ None → EntriesFollow tells (entries_of v ++ t.entries) → IsHistory tells v → IsHistory tells (v ++ t ∷ [])
     history_after v t unsealed next h = record { ends = ends_after v t unsealed; follow = follow_after v t h.follow next }
 
-  pub front_after : (v : List (Added X)) (t : Added X) → end_of v ≡ None → front_of (v ++ t ∷ []) ≡ record { blocks = length (entries_of v) + length t.entries; end = t.end }
+  pub front_after : (v : List (Added X)) (t : Added X) → end_of v ≡ None → published_front (v ++ t ∷ []) ≡ record { blocks = length (entries_of v) + length t.entries; end = t.end }
   front_after v t unsealed =
       let blocks : length (entries_of (v ++ t ∷ [])) ≡ length (entries_of v) + length t.entries = ap length (entries_of_snoc v t) ∙ length-append (entries_of v) t.entries in
       λ i. record { blocks = blocks i; end = end_of_snoc v t unsealed i }
 
-  pub front_grows : (tells : X → Option (List ℕ)) (a b : List (Added X)) → IsPrefix a b → IsHistory tells b → AtLeast (front_of a) (front_of b)
+  pub front_grows : (tells : X → Option (List ℕ)) (a b : List (Added X)) → IsPrefix a b → IsHistory tells b → AtLeast (published_front a) (published_front b)
   front_grows tells a b p h =
       let whole : b ≡ a ++ p.0 = sym p.1 in
       let count : length (entries_of b) ≡ length (entries_of a) + length (entries_of p.0) = ap (λ (w : List (Added X)). length (entries_of w)) whole ∙ (ap length (entries_of-append a p.0) ∙ length-append (entries_of a) (entries_of p.0)) in record {
         blocks = omega (arith, count);
-        stays = λ end is. ap front_of (whole ∙ (ap (λ (r : List (Added X)). a ++ r) (h.ends a p.0 end whole is) ∙ append-nil a));
+        stays = λ end is. ap published_front (whole ∙ (ap (λ (r : List (Added X)). a ++ r) (h.ends a p.0 end whole is) ∙ append-nil a));
       }
 
 -- both ways out of a call

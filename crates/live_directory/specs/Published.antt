@@ -6,8 +6,8 @@ use Rattle.mcap_model.specs.declared.ends.End.{End}
 use Rattle.live_directory.specs.declared.front.Added.{Added}
 use Rattle.live_directory.specs.declared.front.Front.{Front}
 
-abbrev pub added : {X : Type 0} → List (Entry X) → Option End → Added X
-added entries end = record { entries = entries; end = end }
+abbrev pub added_batch : {X : Type 0} → List (Entry X) → Option End → Added X
+added_batch entries end = record { entries = entries; end = end }
 
 -- all entries, in their order
 abbrev pub entries_of : {X : Type 0} → List (Added X) → List (Entry X)
@@ -36,8 +36,8 @@ pub record IsHistory {X : Type 0} (tells : X → Option (List ℕ)) (history : L
   pub ends : EndsLast history
   pub follow : AlwaysFollow tells history
 
-abbrev pub front_of : {X : Type 0} → List (Added X) → Front
-front_of history = record { blocks = length (entries_of history); end = end_of history }
+abbrev pub published_front : {X : Type 0} → List (Added X) → Front
+published_front history = record { blocks = length (entries_of history); end = end_of history }
 
 -- the second front has no fewer blocks, and where the first has an end it is the first
 pub record AtLeast (before now : Front) : Type 0 where

@@ -5,7 +5,7 @@ use Rattle.live_entry.specs.declared.entry.Entry.{Entry}
 use Rattle.live_directory.specs.declared.front.Added.{Added}
 use Rattle.live_directory.specs.declared.front.Front.{Front}
 use Rattle.live_directory.specs.declared.visit.Visits.{Visits}
-use Rattle.live_directory.specs.Published.{entries_of, front_of, AtLeast}
+use Rattle.live_directory.specs.Published.{entries_of, published_front, AtLeast}
 use Rattle.live_directory.specs.Visits.{no_visits, one_visit}
 use Rattle.mcap_wire.specs.declared.faults.Memory.{Memory}
 
@@ -28,17 +28,17 @@ pub record AreUnread {X : Type 0} (readers : List (ReaderState X)) (count : ℕ)
 -- it knows all that it knew, and holds what it held
 pub record Learns {X : Type 0} (before now : ReaderState X) : Type 0 where
   pub grows : IsPrefix before.known now.known
-  pub rises : AtLeast (front_of before.known) (front_of now.known)
+  pub rises : AtLeast (published_front before.known) (published_front now.known)
   pub held : now.entries ≡ before.entries
 
 -- it entered once, and all that it found then it knows and holds; there is no more that it knows
 pub record Refreshes {X : Type 0} (before now : ReaderState X) (front : Front) : Type 0 where
   pub entered : now.entered ≡ suc before.entered
-  pub front_is : front ≡ front_of now.found
+  pub front_is : front ≡ published_front now.found
   pub known : now.known ≡ now.found
   pub entries : now.entries ≡ entries_of now.found
   pub grows : IsPrefix before.known now.known
-  pub rises : AtLeast (front_of before.known) front
+  pub rises : AtLeast (published_front before.known) front
 
 -- what is known of the enterings of a reader that isn't reading
 abbrev pub visits_in : {R X : Type 0} → (R → Visits X) → Option R → Visits X

@@ -5,7 +5,7 @@ use Rattle.live_entry.specs.declared.entry.Entry.{Entry}
 use Rattle.mcap_model.specs.declared.ends.End.{End}
 use Rattle.live_directory.specs.declared.front.Added.{Added}
 use Rattle.live_directory.specs.declared.front.Batch.{Batch}
-use Rattle.live_directory.specs.Published.{added, entries_of, end_of}
+use Rattle.live_directory.specs.Published.{added_batch, entries_of, end_of}
 
 -- The history that readers find, the entries that are pending, and whether memory lacked in publishing.
 pub record DirectoryState (X : Type 0) : Type 0 where
@@ -18,7 +18,7 @@ empty_directory = record { shown = []; pending = []; short = false }
 
 -- these entries were published behind all others
 pub record Publishes {X : Type 0} (before now : DirectoryState X) (entries : List (Entry X)) (note : List (Added X)) : Type 0 where
-  pub shown : now.shown ≡ before.shown ++ added entries None ∷ []
+  pub shown : now.shown ≡ before.shown ++ added_batch entries None ∷ []
   pub pending : now.pending ≡ []
   pub short : now.short ≡ false
   pub unsealed : end_of now.shown ≡ None
@@ -55,8 +55,8 @@ pub record OutboxState (X : Type 0) : Type 0 where
   pub unlisted : List (Added X)
 
 -- all that the history has
-abbrev pub history_of : {X : Type 0} → OutboxState X → List (Added X)
-history_of o = o.shown ++ (o.behind ++ o.listed)
+abbrev pub outbox_history : {X : Type 0} → OutboxState X → List (Added X)
+outbox_history o = o.shown ++ (o.behind ++ o.listed)
 
 -- all that readers don't find
 abbrev pub unseen : {X : Type 0} → OutboxState X → List (Added X)
@@ -93,4 +93,4 @@ at_most_one (Some x) = x ∷ []
 -- a batch or none
 abbrev pub at_most_batch : {X : Type 0} → Option (Batch X) → List (Added X)
 at_most_batch None = []
-at_most_batch (Some b) = added b.entries.items b.end ∷ []
+at_most_batch (Some b) = added_batch b.entries.items b.end ∷ []

@@ -1,6 +1,6 @@
 //! Which directory it is.
 ghost use Rattle.std.specs.Prelude.{◌≡◌, []};
-ghost use Rattle.live_directory.specs.Rules.{head_of};
+ghost use Rattle.live_directory.specs.Rules.{named_book};
 
 use crate::front::{Added, Front};
 use crate::note::{Law, Note, Pages};
@@ -25,7 +25,7 @@ pub struct Opened<X: Extent> {
     /// What is seen of it, which is nothing yet, and its book.
     pub seen: Seen<Added<X>, u64, Law>,
     ghost empty: { seen.log ≡ [] },
-    ghost head_is: { head ≡ head_of seen.book },
+    ghost head_is: { head ≡ named_book seen.book },
 }
 
 impl<X: Extent> Opened<X> {

@@ -2,8 +2,8 @@
 ghost use Rattle.std.specs.Prelude.{◌≡◌, ◌+◌, ◌<◌, ◌^◌, ◌++◌, ◌∷◌, [], None, length, MatchBool};
 ghost use mathlib.Core.List.{IsPrefix};
 ghost use Rattle.live_entry.specs.Following.{EntriesFollow};
-ghost use Rattle.live_directory.specs.Published.{added, entries_of, end_of, IsHistory, front_of};
-ghost use Rattle.live_directory.specs.Rules.{head_of};
+ghost use Rattle.live_directory.specs.Published.{added_batch, entries_of, end_of, IsHistory, published_front};
+ghost use Rattle.live_directory.specs.Rules.{named_book};
 
 use crate::front::{Added, Batch, Front};
 use crate::naming::Naming;
@@ -17,9 +17,9 @@ pub struct Law;
 impl<X: Extent> Rule<Added<X>, u64> for Law {
     ghost use Rattle.std.specs.Prelude.{[]};
     ghost use base.Fml.{ftrue};
-    ghost use Rattle.live_directory.specs.Rules.{IsKept};
+    ghost use Rattle.live_directory.specs.Rules.{IsBookOf};
 
-    ghost holds = { λ cells log. IsKept X.tells cells log };
+    ghost holds = { λ cells log. IsBookOf X.tells cells log };
 
     ghost first = { [] };
 
@@ -45,16 +45,16 @@ impl<X> Gain<Added<X>, u64> for Nothing {
 struct Add;
 
 impl<X: Extent> Play<Added<X>, u64> for Add {
-    ghost use Rattle.live_directory.specs.Rules.{Adds};
+    ghost use Rattle.live_directory.specs.Rules.{AddsBatch};
 
-    ghost then = { Adds X.tells };
+    ghost then = { AddsBatch X.tells };
 }
 
 impl<X> Plain<Batch<X>, Added<X>, u64> for Add {
     ghost use Rattle.std.specs.Prelude.{None};
-    ghost use Rattle.live_directory.specs.Published.{added};
+    ghost use Rattle.live_directory.specs.Published.{added_batch};
 
-    ghost ask = { λ batch. added batch.entries.items batch.end };
+    ghost ask = { λ batch. added_batch batch.entries.items batch.end };
 
     ghost state = { λ batch. None };
 }
@@ -64,12 +64,12 @@ impl<X> Plain<Batch<X>, Added<X>, u64> for Add {
 pub struct Pages<X: Extent, J: Naming> {
     head: Word<Added<X>, u64, Law>,
     of: PhantomData<J>,
-    ghost head_is: { head ≡ head_of J.book },
+    ghost head_is: { head ≡ named_book J.book },
 }
 
 impl<X: Extent, J: Naming> Pages<X, J> {
     pub(crate) fn new(head: Word<Added<X>, u64, Law>) -> Pages<X, J>
-        requires { head ≡ head_of J.book }
+        requires { head ≡ named_book J.book }
     {
         Pages {
             head,
@@ -90,13 +90,13 @@ pub struct Note<X: Extent, J: Naming> {
 impl<X: Extent, J: Naming> Model for Note<X, J> {
     ghost use Rattle.std.specs.Prelude.{◌≡◌, List, length};
     ghost use Rattle.live_directory.specs.declared.front.Added.{Added};
-    ghost use Rattle.live_directory.specs.Published.{IsHistory, front_of};
+    ghost use Rattle.live_directory.specs.Published.{IsHistory, published_front};
 
     ghost Value = { List (Added X) };
 
     ghost view = { λ k. k.seen.log };
 
-    ghost invariant = { λ k. (k.count ≡ length k.seen.log) × (k.front ≡ front_of k.seen.log) × (k.seen.book ≡ J.book) × IsHistory X.tells k.seen.log };
+    ghost invariant = { λ k. (k.count ≡ length k.seen.log) × (k.front ≡ published_front k.seen.log) × (k.seen.book ≡ J.book) × IsHistory X.tells k.seen.log };
 }
 
 impl<X: Extent, J: Naming> Note<X, J> {
@@ -126,7 +126,7 @@ impl<X: Extent, J: Naming> Note<X, J> {
 
     /// How many blocks it has, and its end.
     pub fn front(&self) -> Front
-        ensures front { result ≡ front_of self.now }
+        ensures front { result ≡ published_front self.now }
         ensures history { IsHistory X.tells self.now }
     {
         self.front
@@ -172,7 +172,7 @@ impl<X: Extent, J: Naming> Note<X, J> {
     pub(crate) fn add(&mut self, pages: &Pages<X, J>, batch: &Batch<X>) -> bool
         requires unsealed { end_of self.old ≡ None }
         requires follow { EntriesFollow X.tells (entries_of self.old ++ batch.now.entries.items) }
-        ensures { MatchBool result (self.new ≡ self.old ++ added batch.now.entries.items batch.now.end ∷ []) (self.new ≡ self.old) }
+        ensures { MatchBool result (self.new ≡ self.old ++ added_batch batch.now.entries.items batch.now.end ∷ []) (self.new ≡ self.old) }
     {
         let (Some(blocks), true) = (
             self.front.blocks.checked_add(batch.entries.len() as u64),

@@ -1,8 +1,8 @@
 //! The batches of a writer on their way: into the history, into the log of the two copies, and to the readers.
 ghost use Rattle.std.specs.Prelude.{◌≡◌, ◌≤◌, ◌↔◌, ◌++◌, ◌∷◌, [], drop, None, IfOk, IsTrue, MatchResult};
 ghost use Rattle.live_entry.specs.Following.{EntriesFollow};
-ghost use Rattle.live_directory.specs.Published.{added, entries_of, end_of, IsHistory};
-ghost use Rattle.live_directory.specs.Writing.{OutboxState, history_of, Waits, EndAdded, EndWaits};
+ghost use Rattle.live_directory.specs.Published.{added_batch, entries_of, end_of, IsHistory};
+ghost use Rattle.live_directory.specs.Writing.{OutboxState, outbox_history, Waits, EndAdded, EndWaits};
 
 use crate::front::{Added, Batch};
 use crate::naming::Naming;
@@ -77,15 +77,15 @@ impl<X: Extent, J: Naming> Outbox<X, J> {
 
     /// All that the history has.
     pub(crate) fn note(&self) -> Note<X, J>
-        ensures note { result ≡ history_of self.now }
+        ensures note { result ≡ outbox_history self.now }
     {
         self.known.same()
     }
 
     /// Its end.
     pub(crate) fn end(&self) -> Option<End>
-        ensures end { result ≡ end_of (history_of self.now) }
-        ensures history { IsHistory X.tells (history_of self.now) }
+        ensures end { result ≡ end_of (outbox_history self.now) }
+        ensures history { IsHistory X.tells (outbox_history self.now) }
     {
         self.known.front().end
     }
@@ -100,11 +100,11 @@ impl<X: Extent, J: Naming> Outbox<X, J> {
     /// Hands a batch to the history and to the log; where memory lacks it waits.
     pub(crate) fn hand_in(&mut self, batch: Batch<X>) -> Result<(), Memory>
         requires none_waits { (self.old.listed ≡ []) × (self.old.unlisted ≡ []) }
-        requires unsealed { end_of (history_of self.old) ≡ None }
-        requires follow { EntriesFollow X.tells (entries_of (history_of self.old) ++ batch.entries.items) }
+        requires unsealed { end_of (outbox_history self.old) ≡ None }
+        requires follow { EntriesFollow X.tells (entries_of (outbox_history self.old) ++ batch.entries.items) }
         ensures { MatchResult result
-            (λ _. self.new ≡ record { shown = self.old.shown; behind = self.old.behind ++ added batch.entries.items batch.end ∷ []; listed = []; unlisted = [] })
-            (λ _. Waits self.old self.new (added batch.entries.items batch.end)) }
+            (λ _. self.new ≡ record { shown = self.old.shown; behind = self.old.behind ++ added_batch batch.entries.items batch.end ∷ []; listed = []; unlisted = [] })
+            (λ _. Waits self.old self.new (added_batch batch.entries.items batch.end)) }
     {
         if !self.known.add(&self.pages, &batch) {
             self.unlisted = Some(batch);

@@ -3,7 +3,7 @@ ghost use Rattle.std.specs.Prelude.{◌≡◌, ◌≤◌, ◌++◌, [], suc, len
 ghost use mathlib.Core.List.{IsPrefix};
 ghost use Rattle.left_right.specs.Sides.{view};
 ghost use Rattle.live_entry.specs.Following.{EntriesFollow};
-ghost use Rattle.live_directory.specs.Published.{entries_of, front_of, AtLeast, IsHistory};
+ghost use Rattle.live_directory.specs.Published.{entries_of, published_front, AtLeast, IsHistory};
 ghost use Rattle.live_directory.specs.Visits.{no_visits, one_visit};
 ghost use Rattle.live_directory.specs.Reading.{ReaderState, Learns, Refreshes, Visited, Tries, unread};
 
@@ -164,8 +164,8 @@ impl<X: Extent, J: Naming> Reader<X, J> {
     /// What is published: at least what this reader knew, and what it finds where it is let in at once.
     pub fn front(&mut self) -> Front
         ensures learns { Learns self.old self.new }
-        ensures front { result ≡ front_of self.new.known }
-        ensures rises { AtLeast (front_of self.old.known) result }
+        ensures front { result ≡ published_front self.new.known }
+        ensures rises { AtLeast (published_front self.old.known) result }
     {
         let Some(place) = self.place.take() else {
             return self.known.front();
@@ -180,7 +180,7 @@ impl<X: Extent, J: Naming> Reader<X, J> {
     pub fn learn(&mut self, note: &Note<X, J>)
         ensures learns { Learns self.old self.new }
         ensures learnt { IsPrefix note.now self.new.known }
-        ensures rises { AtLeast (front_of note.now) (front_of self.new.known) }
+        ensures rises { AtLeast (published_front note.now) (published_front self.new.known) }
     {
         self.known = self.known.longer(note);
     }

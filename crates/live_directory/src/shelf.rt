@@ -1,6 +1,6 @@
 //! What is published, of which there are two copies.
 ghost use Rattle.std.specs.Prelude.{◌≡◌, ◌-◌, [], ◌∷◌, ◌++◌, length, drop, IfOk, MatchResult};
-ghost use Rattle.live_directory.specs.Published.{added};
+ghost use Rattle.live_directory.specs.Published.{added_batch};
 
 use crate::front::{Added, Batch};
 use crate::naming::Naming;
@@ -24,19 +24,19 @@ pub struct Shelved<X: Extent, J: Naming> {
 impl<X: Extent, J: Naming> Model for Shelved<X, J> {
     ghost use Rattle.std.specs.Prelude.{◌≡◌, ◌-◌, [], ◌∷◌, length, drop};
     ghost use Rattle.live_directory.specs.declared.front.Added.{Added};
-    ghost use Rattle.live_directory.specs.Published.{added};
+    ghost use Rattle.live_directory.specs.Published.{added_batch};
 
     ghost Value = { Added X };
 
-    ghost view = { λ s. added s.batch.entries.items s.batch.end };
+    ghost view = { λ s. added_batch s.batch.entries.items s.batch.end };
 
-    ghost invariant = { λ s. drop (length s.known - 1) s.known ≡ added s.batch.entries.items s.batch.end ∷ [] };
+    ghost invariant = { λ s. drop (length s.known - 1) s.known ≡ added_batch s.batch.entries.items s.batch.end ∷ [] };
 }
 
 impl<X: Extent, J: Naming> Shelved<X, J> {
     pub(crate) fn new(alloc: Global, batch: Batch<X>, known: Note<X, J>) -> Shelved<X, J>
-        requires { drop (length known - 1) known ≡ added batch.entries.items batch.end ∷ [] }
-        ensures { result ≡ added batch.entries.items batch.end }
+        requires { drop (length known - 1) known ≡ added_batch batch.entries.items batch.end ∷ [] }
+        ensures { result ≡ added_batch batch.entries.items batch.end }
     {
         Shelved {
             alloc,

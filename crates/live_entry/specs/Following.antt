@@ -26,7 +26,7 @@ abbrev pub stretch_tops : Stretch → List Top
 stretch_tops s = s.chunk ∷ s.indexes
 
 -- a channel has a message among the records
-pub record HasMessage (records : List Top) (channel : ℕ) : Type 0 where
+pub record HasMessageOn (records : List Top) (channel : ℕ) : Type 0 where
   pub place : ℕ
   pub top : Top
   pub message : MessageFields
@@ -34,7 +34,7 @@ pub record HasMessage (records : List Top) (channel : ℕ) : Type 0 where
   pub is : IsMessage top channel message
 
 -- one of the records is a Message Index of that channel
-pub record HasIndex (records : List Top) (channel : ℕ) : Type 0 where
+pub record HasMessageIndex (records : List Top) (channel : ℕ) : Type 0 where
   pub place : ℕ
   pub top : Top
   pub entries : List (ℕ × ℕ)
@@ -46,8 +46,8 @@ pub record IsStretch (bytes : List ℕ) (s : Stretch) : Type 0 where
   pub spelled_as : bytes ≡ spelled (stretch_tops s)
   pub chunk : s.chunk.op ≡ 6
   pub indexes : Each (λ t. t.op ≡ 7) s.indexes
-  pub each : (channel : ℕ) → HasMessage (inner_tops s.chunk) channel → HasIndex s.indexes channel
-  pub only : (channel : ℕ) → HasIndex s.indexes channel → HasMessage (inner_tops s.chunk) channel
+  pub each : (channel : ℕ) → HasMessageOn (inner_tops s.chunk) channel → HasMessageIndex s.indexes channel
+  pub only : (channel : ℕ) → HasMessageIndex s.indexes channel → HasMessageOn (inner_tops s.chunk) channel
 
 -- all their records
 abbrev pub all_tops : List Stretch → List Top

@@ -12,12 +12,12 @@ use Rattle.mcap_model.proofs.Unpacking.{chunks_are_opened}
 use Rattle.live_entry.specs.declared.entry.Entry.{Entry}
 use Rattle.live_entry.specs.Following.{Stretch, IsStretch, HasNumbers, stretch_tops}
 use Rattle.live_replay.specs.Keeping.{IsAmong, Gains}
-use Rattle.live_replay.specs.Blocks.{StandsBehind, HasTime}
+use Rattle.live_replay.specs.Blocks.{MayStandBehind, HasTime}
 use Rattle.live_replay.proofs.Gaining.{nothing_gained}
 use Rattle.live_replay.proofs.Stretches.{chunk_fits}
 use Rattle.live_replay.proofs.Apart.{in_chunk}
 
-module _ {X : Type 0} (e : Entry X) (bytes : List ℕ) (s : Stretch) (range : Range) (at : ℕ) (first : Top) (more : List Top) (tables : Tables) (stretch : IsStretch bytes s) (numbers : HasNumbers e s) (stands : StandsBehind first more (stretch_tops s) tables) where
+module _ {X : Type 0} (e : Entry X) (bytes : List ℕ) (s : Stretch) (range : Range) (at : ℕ) (first : Top) (more : List Top) (tables : Tables) (stretch : IsStretch bytes s) (numbers : HasNumbers e s) (stands : MayStandBehind first more (stretch_tops s) tables) where
   logged : (r : Shown) → IsAmong range (placed_from at (stretch_tops s)) r → LogsAt (inner_tops s.chunk) r.log_time
   logged r among =
       let has = in_chunk at bytes s among.placed stretch among.there in

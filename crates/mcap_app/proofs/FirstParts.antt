@@ -50,9 +50,9 @@ use Rattle.mcap_recover.specs.Recovering.{recovered_options, TellsHalt}
 use Rattle.command_base.specs.Ran.{Scene, counts_in, AnyRose}
 use Rattle.output_commands.specs.declared.recovering.Recovery.{Recovery}
 use Rattle.output_commands.specs.declared.recovering.Recovery.TheVariants as recoveries
-use Rattle.output_commands.specs.Recover.{HoldsRecovered, Decides, RecoversFile}
+use Rattle.output_commands.specs.Recover.{HoldsRecovered, RecoveryDecides, RecoversFile}
 use Rattle.record_command.specs.Record.{AreAllowed, back_sources}
-use Rattle.mcap_app.specs.Laws.{IsChunkSize, IsFirstPart, IsWithin, first_records, KeepsFirst, RecoversFirst, PassesLimit, RecordingsLeaveFirstParts, RecordingsAreRecovered}
+use Rattle.mcap_app.specs.Laws.{IsChunkSize, IsFirstPart, FitsWritingLimits, records_in_pieces, KeepsFirst, RecoversFirst, PassesWritingLimit, RecordingsLeaveFirstParts, RecordingsAreRecovered}
 use Rattle.mcap_app.proofs.Recordings.{Recording, of_records}
 use Rattle.mcap_app.proofs.Unrepeated.{unrepeated}
 use Rattle.mcap_app.proofs.Sound.{IsExact, found_sound}
@@ -87,8 +87,8 @@ keeps_first : (options : FileOptions) (history : List Rec) (part : List ℕ) →
 keeps_first options history part are front =
     let pieces = pieces_of options.chunk history in
     let n = front.piece_count in
-    let firsts = firsts_recorded (first_records options history n) (flat_map piece_records (drop n pieces)) history (pieces_part n pieces ∙ pieces_hold options.chunk history) are in
-    let same : front.first ≡ first_records options history n = front.first_is ∙ unrepeated (first_records options history n) firsts.numbered in
+    let firsts = firsts_recorded (records_in_pieces options history n) (flat_map piece_records (drop n pieces)) history (pieces_part n pieces ∙ pieces_hold options.chunk history) are in
+    let same : front.first ≡ records_in_pieces options history n = front.first_is ∙ unrepeated (records_in_pieces options history n) firsts.numbered in
     record {
       keeps = record { front = front; none = front.kept_is ∙ take_none front.extra_count [] refl; records = same };
       are = subst AreRecorded (sym same) firsts;
@@ -112,7 +112,7 @@ new_readable options history part chunk front text few size = elim (cases_lt (le
 ]
 
 -- a file of recorded records that is within the limits
-abbrev closed_so : (options : FileOptions) (history : List Rec) → AreRecorded history → IsWithin options history
+abbrev closed_so : (options : FileOptions) (history : List Rec) → AreRecorded history → FitsWritingLimits options history
     → IsClosedFile options history (length (blocks_in (pieces_of options.chunk history))) (length (file_of options [] history))
 closed_so options history are within = record { numbered = are.numbered; kept = are.kept; within = within; blocks_are = refl; bytes_are = refl }
 
@@ -141,7 +141,7 @@ cut_short at whys.Limit halt n is same = absurd (subst (λ (h : Halt). SameHalt 
 -- ---- a limit of writing
 
 limit_passed : (options : FileOptions) (history : List Rec) (opened now : Option (List ℕ)) (blocks bytes : ℕ) (written : Written) → StopsAt options [] history opened now (stops.Limit blocks bytes) written
-    → IsWithin options history → ⊥
+    → FitsWritingLimits options history → ⊥
 limit_passed options history opened now blocks bytes written stop within =
     let pieces = pieces_of options.chunk history in
     let n = stop.place + 1 - 1 in
@@ -185,7 +185,7 @@ module _ (options : FileOptions) (history : List Rec) (part : List ℕ) (recorde
       let no_extra : holds.extras ≡ [] = extras ∙ keeps.none in
       let file_is : file_of (recovered_options holds.profile chunk) holds.extras holds.history ≡ file =
       ap (λ (p : List ℕ). file_of (recovered_options p chunk) holds.extras holds.history) profiles ∙ no_extras keeps.front.profile chunk holds.extras [] holds.history keeps.front.first no_extra histories in
-      let within : IsWithin new_options keeps.front.first =
+      let within : FitsWritingLimits new_options keeps.front.first =
       subst (λ (l : List ℕ). Holds blocks (length l)) file_is
       (subst (λ (l : List Rec). Holds (length (blocks_in (pieces_of (Some chunk) l))) (length (file_of (recovered_options holds.profile chunk) holds.extras holds.history))) histories holds.within) in
       let readable = new_readable options history part chunk keeps.front text few size in
@@ -222,7 +222,7 @@ module _ (options : FileOptions) (history : List Rec) (part : List ℕ) (recorde
       at_either [] is none some = none is
       at_either (t ∷ ts) is none some = some (λ e. let apart : t ∷ ts ≡ [] = sym is ∙ e in absurd cc)
 
-  passes : (blocks bytes status : ℕ) (it : RecoversFile chunk input output later last status) → it.recovery ≡ recoveries.Refused (refusals.Stopped (stops.Limit blocks bytes)) → PassesLimit options history chunk part
+  passes : (blocks bytes status : ℕ) (it : RecoversFile chunk input output later last status) → it.recovery ≡ recoveries.Refused (refusals.Stopped (stops.Limit blocks bytes)) → PassesWritingLimit options history chunk part
   passes blocks bytes status it is =
       let all = reached chunk input output later.world last.world it.entries it.recovery (Err (refusals.Stopped (stops.Limit blocks bytes))) it.comes is (λ e. absurd cc) in
       let unwritten = all.recovers in
@@ -232,9 +232,9 @@ module _ (options : FileOptions) (history : List Rec) (part : List ℕ) (recorde
       (keeps, limit_passed new_options keeps.front.first all.live.held all.stored.held blocks bytes unwritten.written stopped)
 
   abbrev Comes : ℕ → Type 0
-  Comes status = ((status ≡ 0) × RecoversFirst options history chunk part output later last) ⊎ (((status ≡ 4) × PassesLimit options history chunk part) ⊎ (status ≡ 5))
+  Comes status = ((status ≡ 0) × RecoversFirst options history chunk part output later last) ⊎ (((status ≡ 4) × PassesWritingLimit options history chunk part) ⊎ (status ≡ 5))
 
-  comes : (status : ℕ) (it : RecoversFile chunk input output later last status) (recovery : Recovery) → it.recovery ≡ recovery → V1 part → Decides part recovery status → Comes status
+  comes : (status : ℕ) (it : RecoversFile chunk input output later last status) (recovery : Recovery) → it.recovery ≡ recovery → V1 part → RecoveryDecides part recovery status → Comes status
   comes status it recoveries.Unopened is begins decided = absurd decided
   comes status it (recoveries.Made r) is begins decided = inl (decided.1, recovers_first status it decided.1)
   comes status it (recoveries.Refused refusals.NoMagic) is begins decided = absurd (decided.0 begins)
@@ -255,7 +255,7 @@ begins_so profile more = (framed 1 (header_text (record { profile = profile; lib
 
 pub first_left : (options : RecordOptions) (out : List ℕ) (old new : WorldState) (r : Report) (status : ℕ) (told now : Told) → (it : Recording options out old new r status) → old.told ≡ Some told → new.told ≡ Some now
     → it.live_kept ≡ true → (it.recorded.history ≡ [] → ⊥)
-    → ((part : List ℕ) × (now.names out ≡ Some part) × IsFirstPart options.file it.recorded.history part) × (r.writer.end ≡ ends.Closed → IsWithin options.file it.recorded.history)
+    → ((part : List ℕ) × (now.names out ≡ Some part) × IsFirstPart options.file it.recorded.history part) × (r.writer.end ≡ ends.Closed → FitsWritingLimits options.file it.recorded.history)
 first_left options out old new r status told now it here tells well some =
     let history = it.recorded.history in
     let holds = it.file told now here tells in
@@ -264,7 +264,7 @@ first_left options out old new r status told now it here tells well some =
       | inl (text, stands, size, prefix) ↦ (text, stands, record { part_is = prefix; magic = subst V1 (same_Some (front_bytes options.file.profile ++ begun.0) text (sym begun.1 ∙ stands)) (begins_so options.file.profile begun.0) })
       | inr (same, unwell) ↦ absurd (both_ways it.live_kept unwell well)
     ] in
-    let within : r.writer.end ≡ ends.Closed → IsWithin options.file history = λ closed.
+    let within : r.writer.end ≡ ends.Closed → FitsWritingLimits options.file history = λ closed.
     let file = (closed_file options it.before it.after r it.recorded closed).0 in
     let few = file.within.few in
     let small = file.within.small in
@@ -272,11 +272,11 @@ first_left options out old new r status told now it here tells well some =
     (part, within)
 
 pub first_recovered : FrontsAreRepaired → (options : RecordOptions) (before after : Sides) (r : Report) → AreAllowed options → IsUtf8 options.file.profile
-    → (recorded : Recorded options before after r) → IsWithin options.file recorded.history
+    → (recorded : Recorded options before after r) → FitsWritingLimits options.file recorded.history
     → (part : List ℕ) → IsFirstPart options.file recorded.history part
     → (chunk : ℕ) (input output : List ℕ) (later last : Scene) (status : ℕ) (told : Told) → IsChunkSize chunk → later.world.told ≡ Some told → told.names input ≡ Some part
     → RecoversFile chunk input output later last status → (AnyRose (counts_in later) (counts_in last) → ⊥)
-    → ((status ≡ 0) × RecoversFirst options.file recorded.history chunk part output later last) ⊎ (((status ≡ 4) × PassesLimit options.file recorded.history chunk part) ⊎ (status ≡ 5))
+    → ((status ≡ 0) × RecoversFirst options.file recorded.history chunk part output later last) ⊎ (((status ≡ 4) × PassesWritingLimit options.file recorded.history chunk part) ⊎ (status ≡ 5))
 first_recovered fronts_are_repaired options before after r allowed text recorded within part first chunk input output later last status told size here there recovers quiet =
     let history = recorded.history in
     let are : AreRecorded history = record { numbered = recorded.assembled.numbered; kept = recorded.kept } in

@@ -41,9 +41,9 @@ use Rattle.command_base.specs.Printing.{TellsAll}
 use Rattle.command_base.specs.Ran.{Scene, kept, has_failed, named_when, failed_names}
 use Rattle.output_commands.specs.declared.merging.Merging.{Merging}
 use Rattle.output_commands.specs.declared.merging.Merging.TheVariants as mergings
-use Rattle.output_commands.specs.SomeInputs.{entry_of}
+use Rattle.output_commands.specs.SomeInputs.{input_entry}
 use Rattle.output_commands.specs.SomeOutput.{was_written}
-use Rattle.output_commands.specs.Merge.{HoldsBytes, HoldsMerged, Reached, unopened_so, some_refused, merging_of, IsMerging, merged_line, ending_of, MergesFiles}
+use Rattle.output_commands.specs.Merge.{HoldsBytes, HoldsMerged, Reached, unopened_so, some_refused, merging_of, IsMerging, merged_line, ending_of_merging, MergesFiles}
 use Rattle.mcap_app.specs.Laws.{IsChunkSize, MergesAreSound}
 
 -- ---- the inputs are good lists
@@ -150,7 +150,7 @@ reached chunk inputs out old new entries merging m (inr (result, same, it)) is =
 same_text : (a b : List ℕ) → was_written a ≡ was_written b → a ≡ b
 same_text a b e = cc
 
-line_of : (inputs : List (List ℕ)) (merging : Merging) (text : List ℕ) → ending_of inputs merging ≡ was_written text → (m : Merged) × (merging ≡ mergings.Made m) × (text ≡ merged_line (length inputs) m)
+line_of : (inputs : List (List ℕ)) (merging : Merging) (text : List ℕ) → ending_of_merging inputs merging ≡ was_written text → (m : Merged) × (merging ≡ mergings.Made m) × (text ≡ merged_line (length inputs) m)
 line_of inputs mergings.Unopened text e = absurd cc
 line_of inputs (mergings.Made m) text e = (m, refl, sym (same_text (merged_line (length inputs) m) text e))
 line_of inputs (mergings.Refused (merges.Halted input (readings.Fault faults))) text e = absurd cc
@@ -219,7 +219,7 @@ made chunk inputs out old new told status it here zero_is =
     let left = it.ran.ran.leaves told here in
     let (files, there) = files_there old.world told inputs all.given here all.tells in
     let entry : Opening = kept kinds.Live out (record { well = all.live_kept; faults = all.stored.faults; left = None; asked = 0 }) in
-    let well = well_kept out all.live_kept all.stored.faults (last_unnamed (map entry_of all.kept_inputs) entry (ap failed_names (sym all.kept_are) ∙ none)) in
+    let well = well_kept out all.live_kept all.stored.faults (last_unnamed (map input_entry all.kept_inputs) entry (ap failed_names (sym all.kept_are) ∙ none)) in
     record {
       merged = m;
       is = is;

@@ -10,7 +10,7 @@ use Rattle.recorder.specs.Recorded.{Sides, sides, Recorded}
 use Rattle.watching.specs.declared.report.WatchReport.{WatchReport}
 use Rattle.command_base.specs.Ran.{Scene, counts_in, world_faults}
 use Rattle.record_command.specs.declared.watched_answer.WatchedCounts.{WatchedCounts}
-use Rattle.record_command.specs.Record.{entry_of, live_entry, back_sources, OutputHolds, Records}
+use Rattle.record_command.specs.Record.{feed_entry, live_entry, back_sources, OutputHolds, Records}
 use Rattle.record_command.specs.Sinks.{sink_entry}
 use Rattle.record_command.specs.Watched.{requested}
 use Rattle.record_command.specs.WatchedAnswer.{watched_counts_in, AnyCountRose, EndsBeside, RecordsWatched}
@@ -46,8 +46,8 @@ records_well options out feeds old new r status it zero_is =
     let is = it.reported r refl in
     let risen = calm (counts_in old) (counts_in new) (Some r) it.lacked status it.ended zero_is in
     let counts = it.ran.counts.world ∙ ap (λ (es : List Opening). added old.world.faults (world_faults es)) is.kept_are in
-    let total = world_faults-append (map entry_of is.kept_feeds) (live_entry out is.live_now is.live_kept ∷ []) in
-    kept_well old.world.faults new.world.faults (world_faults (map entry_of is.kept_feeds)) is.live_kept (omega (arith, counts, total)) (λ rose. risen (inl rose))
+    let total = world_faults-append (map feed_entry is.kept_feeds) (live_entry out is.live_now is.live_kept ∷ []) in
+    kept_well old.world.faults new.world.faults (world_faults (map feed_entry is.kept_feeds)) is.live_kept (omega (arith, counts, total)) (λ rose. risen (inl rose))
 
 abbrev pub of_records : (options : RecordOptions) (out : List ℕ) (feeds : List (List ℕ)) (old new : Scene) (r : Report) (status : ℕ) → Records options out feeds old new (Some r) status → Recording options out old.world new.world r status
 of_records options out feeds old new r status it = record {
@@ -78,17 +78,17 @@ watched_still options range out watches feeds old new r status it zero_is rose =
     watched_calm (watched_counts_in old) (watched_counts_in new) (Some r) it.reports it.lacked status it.ended zero_is (inl (inl rose))
 
 pub watched_total : (options : RecordOptions) (range : Range) (out : List ℕ) (watches feeds : List (List ℕ)) (old new : Scene) (r : Report) (status : ℕ) → (it : RecordsWatched (requested options range out watches feeds) old new (Some r) status)
-    → new.world.faults ≡ added old.world.faults (world_faults (map entry_of (it.reported r refl).kept_feeds) + world_faults (map sink_entry (it.reported r refl).kept_sinks) + (if (it.reported r refl).live_kept then 0 else 1))
+    → new.world.faults ≡ added old.world.faults (world_faults (map feed_entry (it.reported r refl).kept_feeds) + world_faults (map sink_entry (it.reported r refl).kept_sinks) + (if (it.reported r refl).live_kept then 0 else 1))
 watched_total options range out watches feeds old new r status it =
     let is = it.reported r refl in
     let counts = it.counts.kept.world ∙ ap (λ (es : List Opening). added old.world.faults (world_faults es)) is.kept_are in
-    let total = world_faults-append (map entry_of is.kept_feeds) (live_entry out is.live_now is.live_kept ∷ map sink_entry is.kept_sinks) in
+    let total = world_faults-append (map feed_entry is.kept_feeds) (live_entry out is.live_now is.live_kept ∷ map sink_entry is.kept_sinks) in
     omega (arith, counts, total)
 
 pub watched_well : (options : RecordOptions) (range : Range) (out : List ℕ) (watches feeds : List (List ℕ)) (old new : Scene) (r : Report) (status : ℕ) → (it : RecordsWatched (requested options range out watches feeds) old new (Some r) status) → status ≡ 0 → (it.reported r refl).live_kept ≡ true
 watched_well options range out watches feeds old new r status it zero_is =
     let is = it.reported r refl in
-    kept_well old.world.faults new.world.faults (world_faults (map entry_of is.kept_feeds) + world_faults (map sink_entry is.kept_sinks)) is.live_kept (watched_total options range out watches feeds old new r status it) (watched_still options range out watches feeds old new r status it zero_is)
+    kept_well old.world.faults new.world.faults (world_faults (map feed_entry is.kept_feeds) + world_faults (map sink_entry is.kept_sinks)) is.live_kept (watched_total options range out watches feeds old new r status it) (watched_still options range out watches feeds old new r status it zero_is)
 
 abbrev pub of_watched : (options : RecordOptions) (range : Range) (out : List ℕ) (watches feeds : List (List ℕ)) (old new : Scene) (r : Report) (status : ℕ) → RecordsWatched (requested options range out watches feeds) old new (Some r) status → Recording options out old.world new.world r status
 of_watched options range out watches feeds old new r status it = record {

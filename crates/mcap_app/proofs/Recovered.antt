@@ -24,12 +24,12 @@ use Rattle.command_base.specs.Ran.{Scene, kept, failed_so, named_when, failed_na
 use Rattle.output_commands.specs.declared.recovering.Recovery.{Recovery}
 use Rattle.output_commands.specs.declared.recovering.Recovery.TheVariants as recoveries
 use Rattle.output_commands.specs.OneOutput.{was_written}
-use Rattle.output_commands.specs.Recover.{HoldsRecovered, Reached, IsRefusal, recovery_of, IsRecovery, recovered_line, unread_ending, stopped_ending, ending_of, RecoversFile}
+use Rattle.output_commands.specs.Recover.{HoldsRecovered, BothReached, RefusesRecovery, recovery_of, IsRecovery, recovered_line, unread_ending, stopped_ending, ending_of_recovery, RecoversFile}
 use Rattle.mcap_app.specs.Laws.{RecoveriesAreSound}
 
 -- ---- what it came to
 
-refused_so : (entries : List Opening) (recovery : Recovery) → IsRefusal entries recovery → (recovery ≡ recoveries.Unopened) ⊎ (recovery ≡ recoveries.Refused lacks)
+refused_so : (entries : List Opening) (recovery : Recovery) → RefusesRecovery entries recovery → (recovery ≡ recoveries.Unopened) ⊎ (recovery ≡ recoveries.Refused lacks)
 refused_so [] recovery is = inr is
 refused_so (entry ∷ []) recovery (inl is) = inl is.1
 refused_so (entry ∷ []) recovery (inr is) = inr is.1
@@ -51,12 +51,12 @@ same_result (Err why) (Err other) e = cc
 
 -- both names were given, unless memory lacked
 pub reached : (chunk : ℕ) (input out : List ℕ) (old new : WorldState) (entries : List Opening) (recovery : Recovery) (result : Result Recovered RecoverRefused) → IsRecovery chunk input out old new entries recovery → recovery ≡ recovery_of result
-    → (result ≡ Err lacks → ⊥) → Reached chunk input out old new entries result
+    → (result ≡ Err lacks → ⊥) → BothReached chunk input out old new entries result
 reached chunk input out old new entries recovery result (inl (refusal, unreached)) is enough = elim (refused_so entries recovery refusal) [
   | inl unopened ↦ absurd (opened_both result (sym is ∙ unopened))
   | inr memory ↦ absurd (enough (lacks_memory result (sym is ∙ memory)))
 ]
-reached chunk input out old new entries recovery result (inr (answer, same, it)) is enough = subst (Reached chunk input out old new entries) (same_result answer result (sym same ∙ is)) it
+reached chunk input out old new entries recovery result (inr (answer, same, it)) is enough = subst (BothReached chunk input out old new entries) (same_result answer result (sym same ∙ is)) it
 
 -- ---- both names were kept
 
@@ -73,7 +73,7 @@ well_kept input out source false faults none = absurd (some_last (named_when (fa
 same_text : (a b : List ℕ) → was_written a ≡ was_written b → a ≡ b
 same_text a b e = cc
 
-line_of : (input : List ℕ) (recovery : Recovery) (text : List ℕ) → ending_of input recovery ≡ was_written text → (r : Recovered) × (recovery ≡ recoveries.Made r) × (text ≡ recovered_line r)
+line_of : (input : List ℕ) (recovery : Recovery) (text : List ℕ) → ending_of_recovery input recovery ≡ was_written text → (r : Recovered) × (recovery ≡ recoveries.Made r) × (text ≡ recovered_line r)
 line_of input recoveries.Unopened text e = absurd cc
 line_of input (recoveries.Made r) text e = (r, refl, sym (same_text (recovered_line r) text e))
 line_of input (recoveries.Refused refusals.NoMagic) text e = absurd cc

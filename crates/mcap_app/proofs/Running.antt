@@ -17,7 +17,7 @@ use Rattle.file_commands.proofs.Followings.{indexed_not_two}
 use Rattle.output_commands.proofs.Recoveries.{recovers_not_two}
 use Rattle.output_commands.proofs.Merges.{merges_not_two}
 use Rattle.generate_command.proofs.Statuses.{generates_not_two}
-use Rattle.generate_command.specs.Making.{AreAllowed}
+use Rattle.generate_command.specs.Making.{OptionsAllowed}
 use Rattle.record_command.specs.Record.{Records}
 use Rattle.record_command.specs.Watched.{requested}
 use Rattle.record_command.specs.WatchedAnswer.{RecordsWatched}
@@ -136,7 +136,7 @@ allowed words (commands.Merge out inputs chunk) derives =
 allowed words (commands.Generate seed feeds messages out) derives = let amounts = derives.behind.amounts.feeds_are in (amounts.above, amounts.below)
 
 -- and so are those of a generation
-pub generate_allowed : AreAllowed generate_options
+pub generate_allowed : OptionsAllowed generate_options
 generate_allowed = record {
   some = omega arith;
   small = omega arith;

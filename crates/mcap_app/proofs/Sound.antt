@@ -12,7 +12,7 @@ use Rattle.mcap_model.specs.Kept.{Halt, HaltsAt, Halts, SameHalt, reading_limits
 use Rattle.mcap_model.specs.File.{file_of}
 use Rattle.mcap_model.specs.Places.{At, Each}
 use Rattle.mcap_model.specs.Fields.{IsFooter}
-use Rattle.mcap_model.specs.Summary.{footer_fields}
+use Rattle.mcap_model.specs.Summary.{footer_of_offsets}
 use Rattle.mcap_model.specs.Valid.{IsFullyIndexed}
 use Rattle.mcap_model.specs.Laws.{CanBeWritten}
 use Rattle.rec_data.specs.declared.owned.Rec.{Rec}
@@ -29,12 +29,12 @@ use Rattle.mcap_model.proofs.Fronts.{fronts_keep_whole}
 use Rattle.mcap_model.proofs.Flaws.{flaws_exclude_validity}
 use Rattle.recorder.specs.declared.options.RecordOptions.{RecordOptions}
 use Rattle.recorder.specs.declared.report.Report.{Report}
-use Rattle.recorder.specs.Laws.{ReadsAs, IsSound}
+use Rattle.recorder.specs.Laws.{ReadsAs, IsSoundFile}
 use Rattle.recorder.proofs.Validity.{recordings_are_valid}
 use Rattle.mcap_io.specs.declared.outside.OpenRefused.TheVariants as open_refusals
 use Rattle.mcap_model.specs.declared.refusals.ReadingRefused.{ReadingRefused}
 use Rattle.mcap_model.specs.declared.refusals.ReadingRefused.TheVariants as refusals
-use Rattle.file_check.specs.Checking.{IsSo, HaltsBefore, MeetsLimit}
+use Rattle.file_check.specs.Checking.{IsSo, HaltsBefore, MeetsReadingLimit}
 use Rattle.file_check.proofs.RealLimits.{limits_are_real}
 use Rattle.command_base.specs.declared.file_reading.Reading.{Reading}
 use Rattle.command_base.specs.declared.file_reading.Reading.TheVariants as readings
@@ -84,7 +84,7 @@ reads_on file tops end halts halt other (inner, others, is, found) =
 -- ---- a file without chunks
 
 no_foot : IsFooter (footer_top 0 0 0) 0 0 0
-no_foot = record { kind = refl; layout = footer_shown (footer_fields 0 0 0) (omega arith) (omega arith) (omega arith) }
+no_foot = record { kind = refl; layout = footer_shown (footer_of_offsets 0 0 0) (omega arith) (omega arith) (omega arith) }
 
 no_tail : Each IsTail []
 no_tail k t there = absurd (at_none k t there)
@@ -119,7 +119,7 @@ unindexed options history written none full = unindexed_at options.profile optio
 
 -- a file that is sound, and not fully indexed where there are no chunks
 pub record IsExact (options : FileOptions) (file : List ℕ) : Type 0 where
-  pub sound : IsSound options file
+  pub sound : IsSoundFile options file
   pub plain : options.chunk ≡ None → IsFullyIndexed file → ⊥
 
 plain_said : (chunk : Option ℕ) (file : List ℕ) → ((size : ℕ) → chunk ≡ Some size → IsFullyIndexed file) → (IsFullyIndexed file → ⊥) → chunk ≡ None
@@ -137,7 +137,7 @@ verdict_ends chunk (verdicts.Plain n) answer said why = why
 verdict_ends chunk (verdicts.Flawed rule offset) answer said why = absurd said
 
 -- a file whose records are within the limits of reading meets none
-meets_none : (options : FileOptions) (file : List ℕ) (offset : ℕ) → IsSound options file → MeetsLimit file offset → ⊥
+meets_none : (options : FileOptions) (file : List ℕ) (offset : ℕ) → IsSoundFile options file → MeetsReadingLimit file offset → ⊥
 meets_none options file offset sound meets =
     let (tops, valid) = sound.valid in
     let past = limits_are_real file tops offset valid.v4 meets in

@@ -35,13 +35,13 @@ use Rattle.watching.specs.declared.report.WatchReport.{WatchReport}
 use Rattle.watching.specs.Text.{sealed_by, end_line, WatchText}
 use Rattle.watching.specs.Watching.{unwritten, written_by}
 use Rattle.watched_recording.specs.Watched.{Watch}
-use Rattle.watched_recording.specs.Files.{FrontReplay, WritesOfFile, TellsFile, IsWatchedFile}
+use Rattle.watched_recording.specs.Files.{FrontReplay, WritesOfFile, TellsWatchFile, IsWatchedFile}
 use Rattle.command_base.specs.Ran.{world_faults}
-use Rattle.record_command.specs.Record.{entry_of}
+use Rattle.record_command.specs.Record.{feed_entry}
 use Rattle.record_command.specs.Sinks.{SinkKept, sink_entry}
 use Rattle.record_command.specs.Watched.{EndsSo, IsCalm}
 use Rattle.record_command.proofs.Whole.{at_map, map_at}
-use Rattle.mcap_app.specs.WatchedLaws.{HoldsMessages, WatchFilesHoldMessages}
+use Rattle.mcap_app.specs.WatchedLaws.{HoldsWatchedMessages, WatchFilesHoldMessages}
 use Rattle.mcap_app.proofs.Recordings.{watched_still, watched_total, of_watched}
 
 -- ---- the file up to its last block
@@ -93,7 +93,7 @@ module _ (options : FileOptions) (history : List Rec) (blocks bytes size : ℕ) 
       section_flat options [] history (stand_of options [] history readable.profile back numbered (λ n t at. absurd (at_none n t at)) can)
 
   -- its text, behind the lines of fronts
-  messages_held : (range : Range) (fronts : List ℕ) (text : List ℕ) → WatchText (FrontReplay options range history) blocks fronts (sealed_by ends.Closed) text → HoldsMessages range history blocks (Some text)
+  messages_held : (range : Range) (fronts : List ℕ) (text : List ℕ) → WatchText (FrontReplay options range history) blocks fronts (sealed_by ends.Closed) text → HoldsWatchedMessages range history blocks (Some text)
   messages_held range fronts text wrote =
       let (count, lines, replays, last) = wrote.last_is in
       let same : replays.tops ≡ tops = kept_once (front_of options history blocks) replays.tops tops replays.kept front_kept in
@@ -121,7 +121,7 @@ is_calm live viewed sealed w e whole ends = subst (EndsSo live viewed sealed w) 
 wrote_all : (options : FileOptions) (range : Range) (history : List Rec) (writer : WriterReport) (w : Watch) → IsWatchedFile options range history writer w → w.view ≡ Some 0 → w.report.end ≡ watch_ends.Whole → w.before.took ≡ Some []
     → (text : List ℕ) × WatchText (FrontReplay options range history) writer.blocks w.report.fronts.items (sealed_by writer.end) text × (w.now.took ≡ Some text)
 wrote_all options range history writer w told view whole empty =
-    let seen : TellsFile options range history writer w (Some 0) = subst (λ (v : Option ℕ). TellsFile options range history writer w v) view told in
+    let seen : TellsWatchFile options range history writer w (Some 0) = subst (λ (v : Option ℕ). TellsWatchFile options range history writer w v) view told in
     let wrote = subst (λ (e : WatchEnd). WritesOfFile options range history writer (unwritten w.before 0) (written_by w.now 0 w.report) e) whole seen in
     let (text, is, took) = wrote.1 [] empty in
     (text, is, took)
@@ -146,8 +146,8 @@ nothing_added before now (suc n) others live is quiet = absurd (quiet (omega (ar
 
 -- ---- the law
 
-held_there : (range : Range) (history : List Rec) (blocks : ℕ) (file : Option (List ℕ)) (lines : List ℕ) → file ≡ Some lines → HoldsMessages range history blocks (Some lines) → HoldsMessages range history blocks file
-held_there range history blocks file lines same holds = subst (HoldsMessages range history blocks) (sym same) holds
+held_there : (range : Range) (history : List Rec) (blocks : ℕ) (file : Option (List ℕ)) (lines : List ℕ) → file ≡ Some lines → HoldsWatchedMessages range history blocks (Some lines) → HoldsWatchedMessages range history blocks file
+held_there range history blocks file lines same holds = subst (HoldsWatchedMessages range history blocks) (sym same) holds
 
 pub watch_files_hold_messages : WatchFilesHoldMessages
 watch_files_hold_messages options range size out watches feeds old new r told now allowed text some it here tells n name at =
@@ -168,7 +168,7 @@ watch_files_hold_messages options range size out watches feeds old new r told no
     let wrote_closed = subst (λ (e : End). WatchText (FrontReplay options.file range history) r.writer.blocks w.report.fronts.items (sealed_by e) lines) closed wrote in
     let holds = messages_held options.file history r.writer.blocks r.writer.bytes size readable file some range w.report.fronts.items lines wrote_closed in
     let still = watched_still options range out watches feeds old new r 0 it refl in
-    let none = nothing_added old.world.faults new.world.faults (world_faults (map sink_entry is.kept_sinks)) (world_faults (map entry_of is.kept_feeds)) is.live_kept (watched_total options range out watches feeds old new r 0 it) still in
+    let none = nothing_added old.world.faults new.world.faults (world_faults (map sink_entry is.kept_sinks)) (world_faults (map feed_entry is.kept_feeds)) is.live_kept (watched_total options range out watches feeds old new r 0 it) still in
     let well = none_failed is.kept_sinks none n k at_k in
     let placed : now.names k.name ≡ Some lines = elim (is.placed told now here tells n k at_k lines (ap (λ (s : SinkState). s.took) back_is ∙ took)) [
       | inl stands ↦ stands

@@ -25,7 +25,7 @@ use Rattle.recorder.specs.declared.report.Report.{Report}
 use Rattle.command_base.specs.Printing.{TellsAll}
 use Rattle.command_base.specs.Ran.{Scene, counts_in, AnyRose}
 use Rattle.recorder.specs.declared.options.RecordOptions.{RecordOptions}
-use Rattle.recorder.specs.Laws.{IsSound}
+use Rattle.recorder.specs.Laws.{IsSoundFile}
 use Rattle.mcap_recover.specs.declared.answers.Recovered.{Recovered}
 use Rattle.mcap_recover.specs.declared.answers.Why.TheVariants as whys
 use Rattle.mcap_recover.specs.Recovering.{recovered_options}
@@ -151,8 +151,8 @@ pub record IsFirstPart (options : FileOptions) (history : List Rec) (part : List
   pub magic : V1 part
 
 -- that file is within the limits of writing
-abbrev pub IsWithin : FileOptions → List Rec → Type 0
-IsWithin options history = Holds (length (blocks_in (pieces_of options.chunk history))) (length (file_of options [] history))
+abbrev pub FitsWritingLimits : FileOptions → List Rec → Type 0
+FitsWritingLimits options history = Holds (length (blocks_in (pieces_of options.chunk history))) (length (file_of options [] history))
 
 -- A recording in a world that tells, whatever its end, of which a record was accepted and the output was kept, leaves such a part
 -- under the output's name; and where its writer closed, its file is within the limits.
@@ -160,18 +160,18 @@ abbrev pub RecordingsLeaveFirstParts : Type 0
 RecordingsLeaveFirstParts = (options : RecordOptions) (out : List ℕ) (feeds : List (List ℕ)) (old new : Scene) (r : Report) (answer : ℕ) (told now : Told) → (it : Records options out feeds old new (Some r) answer)
     → old.world.told ≡ Some told → new.world.told ≡ Some now → (it.reported r refl).live_kept ≡ true → ((it.reported r refl).recorded.history ≡ [] → ⊥)
     → ((part : List ℕ) × (now.names out ≡ Some part) × IsFirstPart options.file (it.reported r refl).recorded.history part)
-    × (r.writer.end ≡ ends.Closed → IsWithin options.file (it.reported r refl).recorded.history)
+    × (r.writer.end ≡ ends.Closed → FitsWritingLimits options.file (it.reported r refl).recorded.history)
 
 -- the records of the first so many pieces of the file of a history
-abbrev pub first_records : FileOptions → List Rec → ℕ → List Rec
-first_records options history pieces = flat_map piece_records (take pieces (pieces_of options.chunk history))
+abbrev pub records_in_pieces : FileOptions → List Rec → ℕ → List Rec
+records_in_pieces options history pieces = flat_map piece_records (take pieces (pieces_of options.chunk history))
 
 -- What repairing makes of a first part of a file without extras: of the history just the records of those pieces that are whole
 -- there, unchanged.
 pub record KeepsFirst (options : FileOptions) (history : List Rec) (part : List ℕ) : Type 0 where
   pub front : FrontIsRepaired options [] history part
   pub none : front.kept ≡ []
-  pub records : front.first ≡ first_records options history front.piece_count
+  pub records : front.first ≡ records_in_pieces options history front.piece_count
 
 -- the options of the new file, and the file
 abbrev pub new_options : {options : FileOptions} {history : List Rec} {part : List ℕ} → ℕ → KeepsFirst options history part → FileOptions
@@ -193,7 +193,7 @@ pub record RecoversFirst (options : FileOptions) (history : List Rec) (chunk : �
   pub told : Told
   pub tells : new.world.told ≡ Some told
   pub there : told.names out ≡ Some (new_file chunk keeps)
-  pub sound : IsSound (new_options chunk keeps) (new_file chunk keeps)
+  pub sound : IsSoundFile (new_options chunk keeps) (new_file chunk keeps)
   pub recovered : Recovered
   pub messages : recovered.messages ≡ length (filter is_message keeps.front.first)
   pub records : recovered.records ≡ length keeps.front.first
@@ -205,18 +205,18 @@ pub record RecoversFirst (options : FileOptions) (history : List Rec) (chunk : �
   pub checked : IsFoundIndexed chunk out new
 
 -- that file would pass a limit of writing
-abbrev pub PassesLimit : FileOptions → List Rec → ℕ → List ℕ → Type 0
-PassesLimit options history chunk part = (keeps : KeepsFirst options history part)
-    × (IsWithin (new_options chunk keeps) keeps.front.first → ⊥)
+abbrev pub PassesWritingLimit : FileOptions → List Rec → ℕ → List ℕ → Type 0
+PassesWritingLimit options history chunk part = (keeps : KeepsFirst options history part)
+    × (FitsWritingLimits (new_options chunk keeps) keeps.front.first → ⊥)
 
 -- A recording, whatever its end, whose file is within the limits; and a first part of that, as its writer left it, under whatever
 -- name of a world that tells. A recovery of that name, in which no count rises, leaves the file of just the records that are
 -- whole there; or that file would pass a limit; or memory lacked.
 abbrev pub RecordingsAreRecovered : Type 0
 RecordingsAreRecovered = (options : RecordOptions) (out : List ℕ) (feeds : List (List ℕ)) (old new : Scene) (r : Report) (answer : ℕ) → AreAllowed options → IsUtf8 options.file.profile
-    → (it : Records options out feeds old new (Some r) answer) → IsWithin options.file (it.reported r refl).recorded.history
+    → (it : Records options out feeds old new (Some r) answer) → FitsWritingLimits options.file (it.reported r refl).recorded.history
     → (part : List ℕ) → IsFirstPart options.file (it.reported r refl).recorded.history part
     → (chunk : ℕ) (input output : List ℕ) (later last : Scene) (status : ℕ) (told : Told) → IsChunkSize chunk → later.world.told ≡ Some told → told.names input ≡ Some part
     → RecoversFile chunk input output later last status → (AnyRose (counts_in later) (counts_in last) → ⊥)
     → ((status ≡ 0) × RecoversFirst options.file (it.reported r refl).recorded.history chunk part output later last)
-    ⊎ (((status ≡ 4) × PassesLimit options.file (it.reported r refl).recorded.history chunk part) ⊎ (status ≡ 5))
+    ⊎ (((status ≡ 4) × PassesWritingLimit options.file (it.reported r refl).recorded.history chunk part) ⊎ (status ≡ 5))

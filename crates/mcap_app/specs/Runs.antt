@@ -15,7 +15,7 @@ use Rattle.file_commands.specs.Cat.{selection, Cats}
 use Rattle.file_commands.specs.Indexed.{IndexedCats}
 use Rattle.mcap_wire.specs.Limits.{chunk_size_limit}
 use Rattle.output_commands.specs.Recover.{RecoversFile}
-use Rattle.output_commands.specs.SomeOutput.{AreFew as AreFewInputs}
+use Rattle.output_commands.specs.SomeOutput.{InputsAreFew as AreFewInputs}
 use Rattle.output_commands.specs.Merge.{MergesFiles}
 use Rattle.command_words.specs.Commands.{feed_limit, usual_chunk_size, usual_limit, watch_names, watcher_limit}
 use Rattle.recorder.specs.declared.options.RecordOptions.{RecordOptions}

@@ -21,7 +21,7 @@ use Rattle.record_command.specs.WatchedAnswer.{RecordsWatched}
 use Rattle.file_commands.specs.Cat.{Cats}
 use Rattle.file_commands.specs.Check.{FileChecks}
 use Rattle.output_commands.specs.Recover.{RecoversFile}
-use Rattle.mcap_app.specs.Laws.{everything, PrintsHistory, PrintsSound, IsChunkSize, IsFirstPart, IsWithin, RecoversFirst, PassesLimit}
+use Rattle.mcap_app.specs.Laws.{everything, PrintsHistory, PrintsSound, IsChunkSize, IsFirstPart, FitsWritingLimits, RecoversFirst, PassesWritingLimit}
 
 -- A recording with watchers that has the status 0 in a world that tells, and then a printing of its output there, in which no
 -- count rises: it prints the messages of the recording's history, or memory lacked for that.
@@ -46,26 +46,26 @@ WatchedRecordingsLeaveFirstParts = (options : RecordOptions) (range : Range) (ou
     → (it : RecordsWatched (requested options range out watches feeds) old new (Some r) answer) → old.world.told ≡ Some told → new.world.told ≡ Some now
     → (it.reported r refl).live_kept ≡ true → ((it.reported r refl).recorded.history ≡ [] → ⊥)
     → ((part : List ℕ) × (now.names out ≡ Some part) × IsFirstPart options.file (it.reported r refl).recorded.history part)
-    × (r.writer.end ≡ ends.Closed → IsWithin options.file (it.reported r refl).recorded.history)
+    × (r.writer.end ≡ ends.Closed → FitsWritingLimits options.file (it.reported r refl).recorded.history)
 
 -- A recording with watchers, whatever its end, whose file is within the limits; and a first part of that under whatever name of a
 -- world that tells. A recovery of that name, in which no count rises, leaves the file of just the records that are whole there; or
 -- that file would pass a limit; or memory lacked.
 abbrev pub WatchedRecordingsAreRecovered : Type 0
 WatchedRecordingsAreRecovered = (options : RecordOptions) (range : Range) (out : List ℕ) (watches feeds : List (List ℕ)) (old new : Scene) (r : Report) (answer : ℕ) → AreAllowed options → IsUtf8 options.file.profile
-    → (it : RecordsWatched (requested options range out watches feeds) old new (Some r) answer) → IsWithin options.file (it.reported r refl).recorded.history
+    → (it : RecordsWatched (requested options range out watches feeds) old new (Some r) answer) → FitsWritingLimits options.file (it.reported r refl).recorded.history
     → (part : List ℕ) → IsFirstPart options.file (it.reported r refl).recorded.history part
     → (chunk : ℕ) (input output : List ℕ) (later last : Scene) (status : ℕ) (told : Told) → IsChunkSize chunk → later.world.told ≡ Some told → told.names input ≡ Some part
     → RecoversFile chunk input output later last status → (AnyRose (counts_in later) (counts_in last) → ⊥)
     → ((status ≡ 0) × RecoversFirst options.file (it.reported r refl).recorded.history chunk part output later last)
-    ⊎ (((status ≡ 4) × PassesLimit options.file (it.reported r refl).recorded.history chunk part) ⊎ (status ≡ 5))
+    ⊎ (((status ≡ 4) × PassesWritingLimit options.file (it.reported r refl).recorded.history chunk part) ⊎ (status ≡ 5))
 
 -- ---- watch files
 
 -- Behind some lines, those of fronts, a watch file holds the line of the end, with the numbers of the file's blocks and of the
 -- messages of the range, and the lines of these: of all messages of a history that lie in the range, in the order of log time and
 -- place. They are those of records whose flat records are the history's; so their topics and their order are.
-pub record HoldsMessages (range : Range) (history : List Rec) (blocks : ℕ) (file : Option (List ℕ)) : Type 0 where
+pub record HoldsWatchedMessages (range : Range) (history : List Rec) (blocks : ℕ) (file : Option (List ℕ)) : Type 0 where
   pub tops : List Top
   pub flat_are : flat tops ≡ flat_history history
   pub messages : List Seen
@@ -80,4 +80,4 @@ pub record HoldsMessages (range : Range) (history : List Rec) (blocks : ℕ) (fi
 abbrev pub WatchFilesHoldMessages : Type 0
 WatchFilesHoldMessages = (options : RecordOptions) (range : Range) (size : ℕ) (out : List ℕ) (watches feeds : List (List ℕ)) (old new : Scene) (r : Report) (told now : Told) → AreAllowed options → IsUtf8 options.file.profile → options.file.chunk ≡ Some size
     → (it : RecordsWatched (requested options range out watches feeds) old new (Some r) 0) → old.world.told ≡ Some told → new.world.told ≡ Some now
-    → Each (λ (name : List ℕ). HoldsMessages range (it.reported r refl).recorded.history r.writer.blocks (now.names name)) watches
+    → Each (λ (name : List ℕ). HoldsWatchedMessages range (it.reported r refl).recorded.history r.writer.blocks (now.names name)) watches

@@ -10,7 +10,7 @@ use Rattle.std.specs.Int.{to_le_bytes, w32}
 use lib.Lanes.{zip2}
 use lib.Bits.{xor_assoc, xor_self, xor_zero_r}
 use Rattle.mcap_crc.specs.Register.{shifted_by, register_after}
-use Rattle.mcap_crc.specs.Gather.{from_place, pending, StandsFor, turned}
+use Rattle.mcap_crc.specs.Gather.{from_place, pending, WindowLeaves, turned}
 use Rattle.mcap_crc.proofs.Register.{exchanged, xor_twice, shifted_by-xor, shifted_by-add, shifted_by_zero, register_after-append, register_after-cut}
 use Rattle.mcap_crc.proofs.Blocks.{number, register_number}
 use Rattle.mcap_crc.proofs.Folding.{first_byte, shifted_by_nothing, number-bytes_low_first, bytes_low_first-lt, register_after-start, register_after-xor}
@@ -64,7 +64,7 @@ mixed x b y1 y2 y3 =
 
 taken : (r b q x : ℕ) (rest : List ℕ) → length rest ≡ 2399 → q < 256
     → q ≡ bit_xor (bit_xor (bit_xor (bit_xor x b) (get_or (x ∷ rest) 712 0)) (get_or (x ∷ rest) 936 0)) (get_or (x ∷ rest) 1240 0)
-    → StandsFor r (x ∷ rest) → StandsFor (shifted_by 8 (bit_xor r b)) (rest ++ q ∷ [])
+    → WindowLeaves r (x ∷ rest) → WindowLeaves (shifted_by 8 (bit_xor r b)) (rest ++ q ∷ [])
 unfolding pending
 taken r b q x rest long small is stands =
     let old : List ℕ = x ∷ rest in
@@ -120,7 +120,7 @@ turned_at w at place k long here within is =
 pub taken_in : (r b at near middle far q : ℕ) (w : List ℕ) → length w ≡ 2400 → at < 2400 → q < 256
     → near ≡ (at + 712) % 2400 → middle ≡ (at + 936) % 2400 → far ≡ (at + 1240) % 2400
     → q ≡ bit_xor (bit_xor (bit_xor (bit_xor (get_or w at 0) b) (get_or w near 0)) (get_or w middle 0)) (get_or w far 0)
-    → StandsFor r (turned at w) → StandsFor (shifted_by 8 (bit_xor r b)) (turned (at + 1) (set w at q))
+    → WindowLeaves r (turned at w) → WindowLeaves (shifted_by 8 (bit_xor r b)) (turned (at + 1) (set w at q))
 taken_in r b at near middle far q w long here small near_is middle_is far_is is stands =
     let x : ℕ = get_or w at 0 in
     let rest : List ℕ = drop (suc at) w ++ take at w in
@@ -203,7 +203,7 @@ first_window r own small is =
     (λ i. four (all i) (first_place 712 2396 own long (omega arith) i) (first_place 936 2396 own long (omega arith) i) (first_place 1240 2396 own long (omega arith) i))
     ∙ xor_zero_r (bit_xor (shifted_by 19200 r) 0) ∙ xor_zero_r (shifted_by 19200 r)
 
-pub first_stands : (r : ℕ) (own : List ℕ) → r < 2 ^ 32 → own ≡ to_le_bytes w32 r → StandsFor r (own ++ drop 4 (replicate 2400 0))
+pub first_stands : (r : ℕ) (own : List ℕ) → r < 2 ^ 32 → own ≡ to_le_bytes w32 r → WindowLeaves r (own ++ drop 4 (replicate 2400 0))
 first_stands r own small is = ap (λ l. pending (own ++ l)) (drop_zeros 4 2400) ∙ first_window r own small is
 
 -- ---- the last bytes of a message
@@ -243,7 +243,7 @@ register_reaching place w = register_after-append 0 (drop place w) (replicate pl
 
 pub xored_on : (r : ℕ) (w m last : List ℕ) → length w ≡ 2400 → length m ≡ 2400 → length last ≡ 2400
     → ((k : ℕ) → k < 2400 → get_or last k 0 ≡ bit_xor (bit_xor (bit_xor (bit_xor (get_or w k 0) (get_or m k 0)) (get_or w (k + 712) 0)) (get_or w (k + 936) 0)) (get_or w (k + 1240) 0))
-    → StandsFor r w → register_after 0 last ≡ register_after r m
+    → WindowLeaves r w → register_after 0 last ≡ register_after r m
 unfolding pending
 xored_on r w m last long_w long_m long_last each stands =
     let long : (place : ℕ) → place ≤ 2400 → length (reaching place w) ≡ 2400 = λ place h. length-reaching place w (omega arith) ∙ long_w in

@@ -13,8 +13,8 @@ pending window =
     bit_xor (bit_xor (from_place 0 window) (from_place 712 window)) (bit_xor (from_place 936 window) (from_place 1240 window))
 
 -- the window stands for a message that leaves this register
-abbrev pub StandsFor : ℕ → List ℕ → Type 0
-StandsFor register window = pending window ≡ shifted_by 19200 register
+abbrev pub WindowLeaves : ℕ → List ℕ → Type 0
+WindowLeaves register window = pending window ≡ shifted_by 19200 register
 
 -- a window whose oldest byte stands at a place
 abbrev pub turned : ℕ → List ℕ → List ℕ

@@ -4,13 +4,13 @@
 //! last 2400 bytes were when they were made 0, and only the last bytes of a message are folded.
 ghost use Rattle.std.specs.Prelude.{◌≡◌, ℕ, ◌+◌, ◌≤◌, ◌%◌, take, drop, slice_index};
 ghost use Rattle.mcap_crc.specs.Register.{register_after};
-ghost use Rattle.mcap_crc.specs.Gather.{StandsFor, turned};
+ghost use Rattle.mcap_crc.specs.Gather.{WindowLeaves, turned};
 
 use crate::folded;
 
 /// A window that stands for a register before the first byte.
 fn begin(register: u32) -> [u8; 2400]
-    ensures { StandsFor register result }
+    ensures { WindowLeaves register result }
 {
     let mut window = [0; 2400];
     window[..4].copy_from_slice(&register.to_le_bytes());
@@ -36,8 +36,8 @@ fn take_in(
     requires near_is { near ≡ (at + 712) % 2400 }
     requires middle_is { middle ≡ (at + 936) % 2400 }
     requires far_is { far ≡ (at + 1240) % 2400 }
-    ensures { (register : ℕ) → StandsFor register (turned at window.old)
-        → StandsFor (register_after register (take count (drop at block.now))) (turned (at + count) window.new) }
+    ensures { (register : ℕ) → WindowLeaves register (turned at window.old)
+        → WindowLeaves (register_after register (take count (drop at block.now))) (turned (at + count) window.new) }
 {
     for i in 0..count {
         window[at + i] = window[at + i]
@@ -50,8 +50,8 @@ fn take_in(
 
 /// Takes as many bytes as the window has.
 fn turn(window: &mut [u8; 2400], block: &[u8; 2400])
-    ensures { (register : ℕ) → StandsFor register window.old
-        → StandsFor (register_after register block.now) window.new }
+    ensures { (register : ℕ) → WindowLeaves register window.old
+        → WindowLeaves (register_after register block.now) window.new }
 {
     take_in(window, block, 0, 1160, 712, 936, 1240);
     take_in(window, block, 1160, 304, 1872, 2096, 0);
@@ -70,7 +70,7 @@ fn with_zeros(window: &[u8; 2400]) -> [u8; 3640]
 
 /// The register after a window's message and `next`.
 fn end(window: &[u8; 2400], next: &[u8; 2400]) -> u32
-    ensures { (register : ℕ) → StandsFor register window.now → result ≡ register_after register next.now }
+    ensures { (register : ℕ) → WindowLeaves register window.now → result ≡ register_after register next.now }
 {
     let padded = with_zeros(window);
     let mut last = [0; 2400];

@@ -215,13 +215,13 @@ abbrev pub OthersSame : Names → Names → List ℕ → Type 0
 OthersSame all now name = (other : List ℕ) → (other ≡ name → ⊥) → now other ≡ all other
 
 -- what a keeping put under the name: the object's bytes; after a failure these, or what it held before
-abbrev pub Placed : Names → Names → List ℕ → List ℕ → Result Unit Failed → Type 0
-Placed all now name bytes (Ok it) = now name ≡ Some bytes
-Placed all now name bytes (Err why) = (now name ≡ Some bytes) ⊎ (now name ≡ all name)
+abbrev pub PlacedUnder : Names → Names → List ℕ → List ℕ → Result Unit Failed → Type 0
+PlacedUnder all now name bytes (Ok it) = now name ≡ Some bytes
+PlacedUnder all now name bytes (Err why) = (now name ≡ Some bytes) ⊎ (now name ≡ all name)
 
 pub record KeepsName (all now : Names) (name : List ℕ) (held : Option (List ℕ)) (result : Result Unit Failed) : Type 0 where
   pub others : OthersSame all now name
-  pub placed : (bytes : List ℕ) → held ≡ Some bytes → Placed all now name bytes result
+  pub placed : (bytes : List ℕ) → held ≡ Some bytes → PlacedUnder all now name bytes result
 
 -- where the world tells, it goes on telling: a source that is taken back is noted, and the names hold what they held
 abbrev pub KeepsSource : WorldState → WorldState → List ℕ → SourceState → Result Unit Failed → Type 0

@@ -13,7 +13,7 @@ use Rattle.mcap_model.specs.Fields.{IsHeader, MessageFields, IsMessage, IsChanne
 use Rattle.mcap_model.specs.Rules.{Agrees, stands_in_section}
 use Rattle.mcap_model.specs.History.{rec_top, channel_of, is_channel, without_repeats}
 use Rattle.mcap_model.specs.Blocks.{Piece, block, Logged, logged, logged_channels, entries_for, least, greatest, chunk_bytes, indexes_bytes, pieces_bytes, written_fields}
-use Rattle.mcap_model.specs.Summary.{Noted, Group, groups_of, of_kind, statistics_content, chunk_index_content, attachment_index_content, metadata_index_content, channels_of, written_index, indexed_attachment}
+use Rattle.mcap_model.specs.Summary.{Noted, Group, groups_of, extras_of_kind, statistics_content, chunk_index_content, attachment_index_content, metadata_index_content, channels_of, written_index, indexed_attachment}
 use Rattle.mcap_model.specs.File.{blocks_from, extras_from}
 use Rattle.mcap_model.specs.Whole.{StandsAt, InSummary, ChunkIndexIsRight, V12, AttachmentIndexIsRight, MetadataIndexIsRight, V13}
 use Rattle.mcap_model.specs.Valid.{Keeps, HasIndex, SummaryHasChannel}
@@ -157,17 +157,17 @@ module _ (header : Top) (ps : List Piece) (extras : List Top) (history : List Re
       (suc (m + k), here, omega (arith, bytes, parts, more, pieces, is))
 
   pub record IsExtraAt (op own : ℕ) (content : ℕ × Top → List ℕ) (j : ℕ) (t : Top) : Type 0 where
-    pub kind : IsOfKind (full_groups at n) op (map content (of_kind own n.extras)) j t
+    pub kind : IsOfKind (full_groups at n) op (map content (extras_of_kind own n.extras)) j t
     pub extra : ℕ × Top
-    pub at_extra : At (of_kind own n.extras) kind.i extra
+    pub at_extra : At (extras_of_kind own n.extras) kind.i extra
     pub is : t ≡ top_of op (content extra)
     pub own_kind : extra.1.op ≡ own
     pub stands : StandsAt tops extra.0 extra.1
     pub fits_there : IsExtra extra.1 × (extra.0 + length (top_bytes extra.1) < 2 ^ 64)
 
-  extra_at : (op own : ℕ) (content : ℕ × Top → List ℕ) (j : ℕ) (t : Top) → IsOfKind (full_groups at n) op (map content (of_kind own n.extras)) j t → IsExtraAt op own content j t
+  extra_at : (op own : ℕ) (content : ℕ × Top → List ℕ) (j : ℕ) (t : Top) → IsOfKind (full_groups at n) op (map content (extras_of_kind own n.extras)) j t → IsExtraAt op own content j t
   extra_at op own content j t k =
-      let (e, at_e, same) = at_map content (of_kind own n.extras) k.i k.content k.content_at in
+      let (e, at_e, same) = at_map content (extras_of_kind own n.extras) k.i k.content k.content_at in
       let (has, passes) = filter_passed (λ (x : ℕ × Top). x.1.op == own) n.extras k.i e at_e in
       let there = extras_are (body_at header + length (pieces_bytes ps)) extras has.0 e has.1 in
       record {
@@ -182,18 +182,18 @@ module _ (header : Top) (ps : List Piece) (extras : List Top) (history : List Re
 
   extras_up : (op own : ℕ) (content : ℕ × Top → List ℕ) (j m : ℕ) (t u : Top) → j < m → (a : IsExtraAt op own content j t) → (b : IsExtraAt op own content m u) → a.extra.0 < b.extra.0
   extras_up op own content j m t u less a b =
-      let rise = kinds_rise (full_groups at n) op (map content (of_kind own n.extras)) j m t u (full_apart at n) less a.kind b.kind in
+      let rise = kinds_rise (full_groups at n) op (map content (extras_of_kind own n.extras)) j m t u (full_apart at n) less a.kind b.kind in
       let ups = AllPairs-filter (λ (x y : ℕ × Top). x.0 < y.0) (λ x. x.1.op == own) n.extras (extras_rise (body_at header + length (pieces_bytes ps)) extras) in
-      pairs_at (λ (x y : ℕ × Top). x.0 < y.0) (of_kind own n.extras) ups a.kind.i b.kind.i a.extra b.extra rise a.at_extra b.at_extra
+      pairs_at (λ (x y : ℕ × Top). x.0 < y.0) (extras_of_kind own n.extras) ups a.kind.i b.kind.i a.extra b.extra rise a.at_extra b.at_extra
 
   attachment_at : (j : ℕ) (t : Top) → At summary j t → t.op ≡ 10 → IsExtraAt 10 9 attachment_index_content j t
-  attachment_at j t there kind = extra_at 10 9 attachment_index_content j t (of_kind_there (full_groups at n) 10 (map attachment_index_content (of_kind 9 n.extras))
-      (each_full (λ g. g.op ≡ 10 → g ≡ record { op = 10; contents = map attachment_index_content (of_kind 9 n.extras) }) at n (λ e. absurd (omega (arith, e))) (λ e. absurd (omega (arith, e))) (λ e. absurd (omega (arith, e))) (λ e. absurd (omega (arith, e))) (λ e. refl) (λ e. absurd (omega (arith, e))) (λ e. absurd (omega (arith, e))))
+  attachment_at j t there kind = extra_at 10 9 attachment_index_content j t (of_kind_there (full_groups at n) 10 (map attachment_index_content (extras_of_kind 9 n.extras))
+      (each_full (λ g. g.op ≡ 10 → g ≡ record { op = 10; contents = map attachment_index_content (extras_of_kind 9 n.extras) }) at n (λ e. absurd (omega (arith, e))) (λ e. absurd (omega (arith, e))) (λ e. absurd (omega (arith, e))) (λ e. absurd (omega (arith, e))) (λ e. refl) (λ e. absurd (omega (arith, e))) (λ e. absurd (omega (arith, e))))
       j t (full_at j t there) kind)
 
   metadata_at : (j : ℕ) (t : Top) → At summary j t → t.op ≡ 13 → IsExtraAt 13 12 metadata_index_content j t
-  metadata_at j t there kind = extra_at 13 12 metadata_index_content j t (of_kind_there (full_groups at n) 13 (map metadata_index_content (of_kind 12 n.extras))
-      (each_full (λ g. g.op ≡ 13 → g ≡ record { op = 13; contents = map metadata_index_content (of_kind 12 n.extras) }) at n (λ e. absurd (omega (arith, e))) (λ e. absurd (omega (arith, e))) (λ e. absurd (omega (arith, e))) (λ e. absurd (omega (arith, e))) (λ e. absurd (omega (arith, e))) (λ e. refl) (λ e. absurd (omega (arith, e))))
+  metadata_at j t there kind = extra_at 13 12 metadata_index_content j t (of_kind_there (full_groups at n) 13 (map metadata_index_content (extras_of_kind 12 n.extras))
+      (each_full (λ g. g.op ≡ 13 → g ≡ record { op = 13; contents = map metadata_index_content (extras_of_kind 12 n.extras) }) at n (λ e. absurd (omega (arith, e))) (λ e. absurd (omega (arith, e))) (λ e. absurd (omega (arith, e))) (λ e. absurd (omega (arith, e))) (λ e. absurd (omega (arith, e))) (λ e. refl) (λ e. absurd (omega (arith, e))))
       j t (full_at j t there) kind)
 
   attachment_is : (j : ℕ) (t : Top) (a : IsExtraAt 10 9 attachment_index_content j t) → (f : AttachmentFields) × IsAttachment a.extra.1 f

@@ -2,7 +2,7 @@
 use Rattle.std.proofs.Common.{◌≡◌, ℕ, zero, suc, ◌+◌, ◌^◌, ◌<◌, List, [], ◌∷◌, ◌++◌, length, Option, Some, refl, sym, ap, subst, inl, inr, ◌∙◌, arith}
 use Rattle.std.specs.Prelude.{All, IsUtf8}
 use Rattle.mcap_wire.specs.Layout.{le, number}
-use Rattle.mcap_wire.specs.Arrays.{IsEntry}
+use Rattle.mcap_wire.specs.Arrays.{EntryFits}
 use Rattle.mcap_wire.specs.Maps.{IsTextMap}
 use Rattle.mcap_wire.proofs.Numbers.{length-le}
 use Rattle.std.proofs.lemmas.List.{length-append}
@@ -103,7 +103,7 @@ entries_fit = row_shown message_index_kinds (message_index_values 1 ((10, 27) �
     small : length ((le 8 10 ++ le 8 27) ++ []) < 2 ^ 32
     small = omega (arith, length-append (le 8 10 ++ le 8 27) [], length-append (le 8 10) (le 8 27), length-le 8 10, length-le 8 27)
 
-    fit : All (IsEntry 8) ((10, 27) ∷ [])
+    fit : All (EntryFits 8) ((10, 27) ∷ [])
     fit zero d less = record { first_fits = omega arith; second_fits = omega arith }
     fit (suc k) d less = absurd (omega (arith, less))
 

@@ -14,7 +14,7 @@ use Rattle.mcap_model.specs.Fields.{StatisticsFields, IsStatistics, IsSummaryOff
 use Rattle.mcap_model.specs.Rules.{HasDataEnd, V3, V5, V6, V7}
 use Rattle.mcap_model.specs.Whole.{offset_of, InSummary, V2, V5Behind, NamesSummary, IsInPlace, V11, AreIds, StatisticsAreRight, V14, V15, V16, V17, IsGroup}
 use Rattle.mcap_model.specs.Valid.{Keeps, Valid, FullyIndexed}
-use Rattle.mcap_model.specs.Summary.{summary_text, footer_fields}
+use Rattle.mcap_model.specs.Summary.{summary_text, footer_of_offsets}
 use Rattle.mcap_model.specs.File.{front, data_end, file_of}
 use Rattle.mcap_model.proofs.Places.{at_none}
 use Rattle.mcap_model.proofs.Histories.{header_meets, data_end_meets, flat_none}
@@ -38,7 +38,7 @@ abbrev pub offset : Top
 offset = record { op = 14; content = summary_offset_text offset_fields }
 
 abbrev pub footer : ℕ → Top
-footer crc = record { op = 2; content = footer_text (footer_fields 47 102 crc) }
+footer crc = record { op = 2; content = footer_text (footer_of_offsets 47 102 crc) }
 
 abbrev file_smallest : List ℕ
 file_smallest = file_of (in_chunks 786432) [] []
@@ -87,7 +87,7 @@ footer_crc_fits : crc_smallest < 2 ^ 32
 footer_crc_fits = remainder-lt (spelled (statistics ∷ offset ∷ []) ++ take 25 (top_bytes (footer 0)))
 
 v17 : V17 tops_smallest
-v17 = (header_top [] ∷ end_top ∷ statistics ∷ offset ∷ [], footer crc_smallest, refl, (47, 102, crc_smallest, record { kind = refl; layout = footer_shown (footer_fields 47 102 crc_smallest) (omega arith) (omega arith) footer_crc_fits }), none)
+v17 = (header_top [] ∷ end_top ∷ statistics ∷ offset ∷ [], footer crc_smallest, refl, (47, 102, crc_smallest, record { kind = refl; layout = footer_shown (footer_of_offsets 47 102 crc_smallest) (omega arith) (omega arith) footer_crc_fits }), none)
   where
     none : Each (λ u. u.op ≢ 2) (header_top [] ∷ end_top ∷ statistics ∷ offset ∷ [])
     none zero u at e = omega (arith, e, ap (λ (t : Top). t.op) (same_Some (header_top []) u at))
@@ -99,7 +99,7 @@ v17 = (header_top [] ∷ end_top ∷ statistics ∷ offset ∷ [], footer crc_sm
 -- ---- V16
 
 footer_is : (summary offsets crc : ℕ) → IsFooter (footer crc_smallest) summary offsets crc → (summary ≡ 47) × (offsets ≡ 102) × (crc ≡ crc_smallest)
-footer_is summary offsets crc is = footer_once (footer_text (footer_fields 47 102 crc_smallest)) summary offsets crc 47 102 crc_smallest is.layout (footer_shown (footer_fields 47 102 crc_smallest) (omega arith) (omega arith) footer_crc_fits)
+footer_is summary offsets crc is = footer_once (footer_text (footer_of_offsets 47 102 crc_smallest)) summary offsets crc 47 102 crc_smallest is.layout (footer_shown (footer_of_offsets 47 102 crc_smallest) (omega arith) (omega arith) footer_crc_fits)
 
 crc_there : crc_smallest ≡ remainder (part 47 (offset_of tops_smallest 4 + 25) file_smallest)
 unfolding file_of front data_end le summary_text number remainder
@@ -306,7 +306,7 @@ offset_meets = record {
 footer_meets : V6 (footer crc_smallest)
 footer_meets = record {
   header = λ e. absurd (omega (arith, e));
-  footer = λ e. (47, 102, crc_smallest, record { kind = refl; layout = footer_shown (footer_fields 47 102 crc_smallest) (omega arith) (omega arith) footer_crc_fits });
+  footer = λ e. (47, 102, crc_smallest, record { kind = refl; layout = footer_shown (footer_of_offsets 47 102 crc_smallest) (omega arith) (omega arith) footer_crc_fits });
   schema = λ e. absurd (omega (arith, e));
   channel = λ e. absurd (omega (arith, e));
   message = λ e. absurd (omega (arith, e));

@@ -15,7 +15,7 @@ use Rattle.mcap_model.specs.Fields.{IsSchema, IsChannel, MessageFields}
 use Rattle.mcap_model.specs.Rules.{HasSchema, HasChannel, TimesAre}
 use Rattle.mcap_model.specs.History.{rec_top, schema_of, channel_of, message_of}
 use Rattle.mcap_model.specs.Blocks.{Piece, block, alone, Logged, logged_from, logged, logged_channels, log_times, least, greatest, blocks_in}
-use Rattle.mcap_model.specs.Summary.{capped, of_kind, messages_on, schemas_of, channels_of, written_statistics}
+use Rattle.mcap_model.specs.Summary.{capped, extras_of_kind, messages_on, schemas_of, channels_of, written_statistics}
 use Rattle.mcap_model.specs.File.{blocks_from, extras_from}
 use Rattle.mcap_model.specs.Whole.{IsSection, count_of, AreChannels, on_channel, AreIds, StatisticsAreRight}
 use Rattle.mcap_model.specs.Laws.{IsReadBack, IsNumberedRec, IsExtra, chunk_top, index_top}
@@ -73,12 +73,12 @@ extras_not op extras are nine twelve n t at e = elim (are n t at).kind [
   | inr b ↦ twelve (sym e ∙ b)
 ]
 
-count_kind : (op start : ℕ) (extras : List Top) → length (of_kind op (extras_from start extras)) ≡ count_of op extras
+count_kind : (op start : ℕ) (extras : List Top) → length (extras_of_kind op (extras_from start extras)) ≡ count_of op extras
 count_kind op start [] = refl
 count_kind op start (t ∷ ts) = by (t.op == op) (count_kind op (start + length (top_bytes t)) ts)
   where
-    by : (b : Bool) → length (of_kind op (extras_from (start + length (top_bytes t)) ts)) ≡ count_of op ts
-        → length (cond b ((start, t) ∷ of_kind op (extras_from (start + length (top_bytes t)) ts)) (of_kind op (extras_from (start + length (top_bytes t)) ts))) ≡ length (cond b (t ∷ filter (λ x. x.op == op) ts) (filter (λ x. x.op == op) ts))
+    by : (b : Bool) → length (extras_of_kind op (extras_from (start + length (top_bytes t)) ts)) ≡ count_of op ts
+        → length (cond b ((start, t) ∷ extras_of_kind op (extras_from (start + length (top_bytes t)) ts)) (extras_of_kind op (extras_from (start + length (top_bytes t)) ts))) ≡ length (cond b (t ∷ filter (λ x. x.op == op) ts) (filter (λ x. x.op == op) ts))
     by true rest = ap suc rest
     by false rest = rest
 
@@ -200,7 +200,7 @@ module _ (tops : List Top) (header : Top) (ps : List Piece) (extras : List Top) 
       ap (λ (b : Bool). length (cond b (header ∷ filter (λ x. x.op == op) (flat_map piece_tops ps ++ extras)) (filter (λ x. x.op == op) (flat_map piece_tops ps ++ extras)))) (ne_eqb header.op op (λ e. one (sym e ∙ kind)))
       ∙ count_append op (flat_map piece_tops ps) extras
 
-  kinds_counted : (op : ℕ) → op ≢ 1 → 5 < op → op ≢ 6 → op ≢ 7 → count_of op extras < 2 ^ 32 → capped (length (of_kind op (extras_from other extras))) ≡ count_of op (header ∷ (flat_map piece_tops ps ++ extras))
+  kinds_counted : (op : ℕ) → op ≢ 1 → 5 < op → op ≢ 6 → op ≢ 7 → count_of op extras < 2 ^ 32 → capped (length (extras_of_kind op (extras_from other extras))) ≡ count_of op (header ∷ (flat_map piece_tops ps ++ extras))
   kinds_counted op one high six seven few =
       let all = count_section op one in
       let none = count_none op (flat_map piece_tops ps) (pieces_not op ps high six seven) in

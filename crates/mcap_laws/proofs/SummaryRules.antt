@@ -19,7 +19,7 @@ use Rattle.mcap_model.specs.Fields.{IsHeader, IsFooter, IsSummaryOffset}
 use Rattle.mcap_model.specs.Rules.{HasDataEnd}
 use Rattle.mcap_model.specs.Whole.{offset_of, is_last, InSummary, behind_end, is_known, known_behind_end, StartsWith, EndsWith, NamesSummary, IsInPlace, V11, IsGroup, V15, V16}
 use Rattle.mcap_model.specs.Valid.{Keeps}
-use Rattle.mcap_model.specs.Summary.{Noted, Group, group_bytes, groups_of, has_some, offset_contents, footer_fields, group_fields}
+use Rattle.mcap_model.specs.Summary.{Noted, Group, group_bytes, groups_of, has_some, offset_contents, footer_of_offsets, group_fields}
 use Rattle.mcap_model.proofs.Places.{at_none, at_within, at_one, at_kept, at_read}
 use Rattle.mcap_model.proofs.ReadBack.{at_map}
 use Rattle.mcap_model.proofs.Readings.{top_of, length-top}
@@ -62,11 +62,11 @@ join_group : (s a g m o f : List Top) (e : Top) → s ++ e ∷ (((a ++ (g ++ m))
 join_group s a g m o f e = simp append_assoc refl
 
 -- the first 25 bytes of a Footer are those in front of its CRC
-footer_front : (a b c : ℕ) → take 25 (framed 2 (footer_text (footer_fields a b c))) ≡ 2 ∷ (le 8 20 ++ (le 8 a ++ le 8 b))
+footer_front : (a b c : ℕ) → take 25 (framed 2 (footer_text (footer_of_offsets a b c))) ≡ 2 ∷ (le 8 20 ++ (le 8 a ++ le 8 b))
 footer_front a b c =
     let size : length (2 ∷ (le 8 20 ++ (le 8 a ++ le 8 b))) ≡ 25 = omega (arith, length-append (le 8 20) (le 8 a ++ le 8 b), length-append (le 8 a) (le 8 b), length-le 8 20, length-le 8 a, length-le 8 b) in
-    let parts : framed 2 (footer_text (footer_fields a b c)) ≡ (2 ∷ (le 8 20 ++ (le 8 a ++ le 8 b))) ++ (le 4 c ++ []) =
-    ap (λ (n : ℕ). 2 ∷ (le 8 n ++ (le 8 a ++ (le 8 b ++ (le 4 c ++ []))))) (length-footer_text (footer_fields a b c))
+    let parts : framed 2 (footer_text (footer_of_offsets a b c)) ≡ (2 ∷ (le 8 20 ++ (le 8 a ++ le 8 b))) ++ (le 4 c ++ []) =
+    ap (λ (n : ℕ). 2 ∷ (le 8 n ++ (le 8 a ++ (le 8 b ++ (le 4 c ++ []))))) (length-footer_text (footer_of_offsets a b c))
     ∙ ap (λ (l : List ℕ). 2 ∷ (le 8 20 ++ l)) (sym (append_assoc (le 8 a) (le 8 b) (le 4 c ++ [])))
     ∙ ap (λ (l : List ℕ). 2 ∷ l) (sym (append_assoc (le 8 20) (le 8 a ++ le 8 b) (le 4 c ++ []))) in
     ap (take 25) parts ∙ take_at (2 ∷ (le 8 20 ++ (le 8 a ++ le 8 b))) (le 4 c ++ []) 25 size
@@ -87,7 +87,7 @@ module _ (header : Top) (body : List Top) (n : Noted) (at : ℕ) (is_header : Is
   pub foot_is : IsFooter foot at behind_groups (summary_crc n at)
   foot_is =
       let room = fits.room in
-      record { kind = refl; layout = footer_shown (footer_fields at behind_groups (summary_crc n at)) (omega (arith, room)) (omega (arith, room)) (remainder-lt _) }
+      record { kind = refl; layout = footer_shown (footer_of_offsets at behind_groups (summary_crc n at)) (omega (arith, room)) (omega (arith, room)) (remainder-lt _) }
 
   tail : Each IsTail summary
   tail = summary_tail n at fits
@@ -140,7 +140,7 @@ module _ (header : Top) (body : List Top) (n : Noted) (at : ℕ) (is_header : Is
   foot_decided t s o c same is =
       let own = foot_is in
       let shown : IsFooter foot s o c = subst (λ (x : Top). IsFooter x s o c) same is in
-      footer_once (footer_text (footer_fields at behind_groups (summary_crc n at))) at behind_groups (summary_crc n at) s o c own.layout shown.layout
+      footer_once (footer_text (footer_of_offsets at behind_groups (summary_crc n at))) at behind_groups (summary_crc n at) s o c own.layout shown.layout
 
   -- ---- V11
 
@@ -343,7 +343,7 @@ module _ (header : Top) (body : List Top) (n : Noted) (at : ℕ) (is_header : Is
   -- ---- V16
 
   crc_part : (file : List ℕ) → file ≡ magic ++ (spelled tops ++ magic) → part at (offset_of tops (suc (suc (length body)) + length summary) + 25) file
-      ≡ flat_map group_bytes (groups_of n) ++ (flat_map (framed 14) (offset_contents at (groups_of n)) ++ take 25 (framed 2 (footer_text (footer_fields at behind_groups 0))))
+      ≡ flat_map group_bytes (groups_of n) ++ (flat_map (framed 14) (offset_contents at (groups_of n)) ++ take 25 (framed 2 (footer_text (footer_of_offsets at behind_groups 0))))
   crc_part file split =
       let section = (header ∷ body) ++ end_top ∷ [] in
       let z = spelled summary in
@@ -356,15 +356,15 @@ module _ (header : Top) (body : List Top) (n : Noted) (at : ℕ) (is_header : Is
       let bytes : file ≡ (magic ++ spelled section) ++ (z ++ (f ++ magic)) = split ∙ ap (λ (l : List ℕ). magic ++ (l ++ magic)) parts ∙ join_parts magic (spelled section) z f in
       let there : drop at file ≡ z ++ (f ++ magic) = ap (drop at) bytes ∙ drop_at (magic ++ spelled section) (z ++ (f ++ magic)) at (omega (arith, length-append magic (spelled section), at_is, magic_size)) in
       let count : offset_of tops (suc (suc (length body)) + length summary) + 25 - at ≡ length z + 25 = omega (arith, offset, size) in
-      let foot_size : length f ≡ 29 = omega (arith, length-top foot, length-footer_text (footer_fields at behind_groups (summary_crc n at))) in
+      let foot_size : length f ≡ 29 = omega (arith, length-top foot, length-footer_text (footer_of_offsets at behind_groups (summary_crc n at))) in
       ap (λ (m : ℕ). take m (drop at file)) count
       ∙ ap (take (length z + 25)) there
       ∙ take_second z (f ++ magic) 25
       ∙ ap (λ (l : List ℕ). z ++ l) (take-append-le 25 f magic (omega (arith, foot_size)) ∙ footer_front at behind_groups (summary_crc n at) ∙ sym (footer_front at behind_groups 0))
-      ∙ ap (λ (l : List ℕ). l ++ take 25 (framed 2 (footer_text (footer_fields at behind_groups 0)))) (flat_map-append top_bytes (groups_tops (groups_of n)) (offset_tops at (groups_of n)))
-      ∙ append_assoc (spelled (groups_tops (groups_of n))) (spelled (offset_tops at (groups_of n))) (take 25 (framed 2 (footer_text (footer_fields at behind_groups 0))))
-      ∙ ap (λ (l : List ℕ). l ++ (spelled (offset_tops at (groups_of n)) ++ take 25 (framed 2 (footer_text (footer_fields at behind_groups 0))))) (sym (groups_spelled (groups_of n)))
-      ∙ ap (λ (l : List ℕ). flat_map group_bytes (groups_of n) ++ (l ++ take 25 (framed 2 (footer_text (footer_fields at behind_groups 0))))) (sym (offsets_spelled at (groups_of n)))
+      ∙ ap (λ (l : List ℕ). l ++ take 25 (framed 2 (footer_text (footer_of_offsets at behind_groups 0)))) (flat_map-append top_bytes (groups_tops (groups_of n)) (offset_tops at (groups_of n)))
+      ∙ append_assoc (spelled (groups_tops (groups_of n))) (spelled (offset_tops at (groups_of n))) (take 25 (framed 2 (footer_text (footer_of_offsets at behind_groups 0))))
+      ∙ ap (λ (l : List ℕ). l ++ (spelled (offset_tops at (groups_of n)) ++ take 25 (framed 2 (footer_text (footer_of_offsets at behind_groups 0))))) (sym (groups_spelled (groups_of n)))
+      ∙ ap (λ (l : List ℕ). flat_map group_bytes (groups_of n) ++ (l ++ take 25 (framed 2 (footer_text (footer_of_offsets at behind_groups 0))))) (sym (offsets_spelled at (groups_of n)))
     where
       magic_size : length magic ≡ 8
       magic_size = refl

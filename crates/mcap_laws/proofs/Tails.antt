@@ -9,7 +9,7 @@ use Rattle.std.proofs.lemmas.List.Kept.{AllPairs-filter}
 use Rattle.std.proofs.lemmas.Grind.{flat_map-append}
 use Rattle.std.proofs.lemmas.Map.Steps.{length-le_from_distinct_below}
 use Rattle.std.proofs.lemmas.Map.Made.{IsDistinct-from_AllPairs}
-use Rattle.mcap_wire.specs.Arrays.{IsEntry, entry_texts}
+use Rattle.mcap_wire.specs.Arrays.{EntryFits, entry_texts}
 use Rattle.mcap_wire.specs.Maps.{KeysDiffer}
 use Rattle.mcap_wire.proofs.Contents.{row_shown, shows_decided}
 use Rattle.rec_data.specs.declared.owned.Rec.{Rec}
@@ -21,7 +21,7 @@ use Rattle.mcap_model.specs.Tops.{Top, top_bytes, flattened, flat}
 use Rattle.mcap_model.specs.Fields.{StatisticsFields, IsStatistics}
 use Rattle.mcap_model.specs.History.{rec_top, schema_of, channel_of, is_schema, is_channel, history_bytes, without_repeats}
 use Rattle.mcap_model.specs.Blocks.{Logged, logged, logged_channels, log_times, chunk_bytes, indexes_bytes}
-use Rattle.mcap_model.specs.Summary.{Noted, Group, group_bytes, groups_of, has_some, schemas_of, channels_of, of_kind, messages_on, statistics_content, chunk_index_content, attachment_index_content, metadata_index_content, offset_contents, written_index, indexed_attachment, written_statistics, group_fields}
+use Rattle.mcap_model.specs.Summary.{Noted, Group, group_bytes, groups_of, has_some, schemas_of, channels_of, extras_of_kind, messages_on, statistics_content, chunk_index_content, attachment_index_content, metadata_index_content, offset_contents, written_index, indexed_attachment, written_statistics, group_fields}
 use Rattle.mcap_model.specs.Laws.{IsReadBack, IsNumberedRec, IsExtra}
 use Rattle.mcap_model.proofs.Places.{at_none, pairs_more}
 use Rattle.mcap_model.proofs.ReadBack.{at_map}
@@ -55,10 +55,10 @@ abbrev pub chunk_index_group : Noted → Group
 chunk_index_group n = record { op = 8; contents = map chunk_index_content n.blocks }
 
 abbrev pub attachment_index_group : Noted → Group
-attachment_index_group n = record { op = 10; contents = map attachment_index_content (of_kind 9 n.extras) }
+attachment_index_group n = record { op = 10; contents = map attachment_index_content (extras_of_kind 9 n.extras) }
 
 abbrev pub metadata_index_group : Noted → Group
-metadata_index_group n = record { op = 13; contents = map metadata_index_content (of_kind 12 n.extras) }
+metadata_index_group n = record { op = 13; contents = map metadata_index_content (extras_of_kind 12 n.extras) }
 
 abbrev pub all_groups : Noted → List Group
 all_groups n = schema_group n ∷ channel_group n ∷ statistics_group n ∷ chunk_index_group n ∷ attachment_index_group n ∷ metadata_index_group n ∷ []
@@ -166,9 +166,9 @@ summary_flat at n =
     flat_map-append flattened (group_tops (chunk_index_group n)) (group_tops (attachment_index_group n) ++ (group_tops (metadata_index_group n) ++ []))
     ∙ ap (λ (l : List Top). l ++ flat (group_tops (attachment_index_group n) ++ (group_tops (metadata_index_group n) ++ []))) (none_flat 8 (λ x. refl) (map chunk_index_content n.blocks))
     ∙ flat_map-append flattened (group_tops (attachment_index_group n)) (group_tops (metadata_index_group n) ++ [])
-    ∙ ap (λ (l : List Top). l ++ flat (group_tops (metadata_index_group n) ++ [])) (none_flat 10 (λ x. refl) (map attachment_index_content (of_kind 9 n.extras)))
+    ∙ ap (λ (l : List Top). l ++ flat (group_tops (metadata_index_group n) ++ [])) (none_flat 10 (λ x. refl) (map attachment_index_content (extras_of_kind 9 n.extras)))
     ∙ ap flat (append-nil (group_tops (metadata_index_group n)))
-    ∙ none_flat 13 (λ x. refl) (map metadata_index_content (of_kind 12 n.extras)) in
+    ∙ none_flat 13 (λ x. refl) (map metadata_index_content (extras_of_kind 12 n.extras)) in
     flat_map-append flattened (groups_tops (groups_of n)) (offset_tops at (groups_of n))
     ∙ ap (λ (l : List Top). flat (groups_tops (groups_of n)) ++ l) offsets
     ∙ append-nil (flat (groups_tops (groups_of n)))
@@ -255,7 +255,7 @@ statistics_shown n at fits =
     record {
       kind = refl;
       layout = row_shown statistics_kinds (statistics_values f)
-          (omega (arith, messages), (omega (arith, schemas), (omega arith, (omega arith, (omega arith, (omega arith, (least_fits (log_times n.records) fit, (greatest_fits (log_times n.records) fit, ((map_small, all_from (IsEntry 2) (map (count_entry n.records) (logged_channels n.records)) entry, differ), tt)))))))));
+          (omega (arith, messages), (omega (arith, schemas), (omega arith, (omega arith, (omega arith, (omega arith, (least_fits (log_times n.records) fit, (greatest_fits (log_times n.records) fit, ((map_small, all_from (EntryFits 2) (map (count_entry n.records) (logged_channels n.records)) entry, differ), tt)))))))));
     }
   where
     map_small : length (entry_texts 2 (map (count_entry n.records) (logged_channels n.records))) < 2 ^ 32
@@ -265,7 +265,7 @@ statistics_shown n at fits =
         let few = few_channels n.records fits.back in
         omega (arith, size, count, few)
 
-    entry : Each (IsEntry 2) (map (count_entry n.records) (logged_channels n.records))
+    entry : Each (EntryFits 2) (map (count_entry n.records) (logged_channels n.records))
     entry k p there =
         let (id, at_id, same) = at_map (count_entry n.records) (logged_channels n.records) k p there in
         let low = channels_fit n.records fits.back k id at_id in
@@ -338,7 +338,7 @@ summary_tail n at fits = each_joined IsTail (groups_tops (groups_of n)) (offset_
         record { kind = refl; v6 = chunk_index_meets (top_of 8 (chunk_index_content b)) (written_index b.0 b.1) (chunk_index_shown b.0 b.1 one.0 one.1 one.2) }))
 
     attachments : Each IsTail (group_tops (attachment_index_group n))
-    attachments = each_map (top_of 10) IsTail (map attachment_index_content (of_kind 9 n.extras)) (each_map attachment_index_content (λ c. IsTail (top_of 10 c)) (of_kind 9 n.extras) (λ k e there.
+    attachments = each_map (top_of 10) IsTail (map attachment_index_content (extras_of_kind 9 n.extras)) (each_map attachment_index_content (λ c. IsTail (top_of 10 c)) (extras_of_kind 9 n.extras) (λ k e there.
         let (has, kind) = filter_passed (λ (x : ℕ × Top). x.1.op == 9) n.extras k e there in
         let one = fits.extras has.0 e has.1 in
         let meets = one.0.v6 in
@@ -346,7 +346,7 @@ summary_tail n at fits = each_joined IsTail (groups_tops (groups_of n)) (offset_
         record { kind = refl; v6 = attachment_index_meets (top_of 10 (attachment_index_content e)) (indexed_attachment e.0 e.1 f) (attachment_index_shown e.0 e.1 f is one.1) }))
 
     metadata : Each IsTail (group_tops (metadata_index_group n))
-    metadata = each_map (top_of 13) IsTail (map metadata_index_content (of_kind 12 n.extras)) (each_map metadata_index_content (λ c. IsTail (top_of 13 c)) (of_kind 12 n.extras) (λ k e there.
+    metadata = each_map (top_of 13) IsTail (map metadata_index_content (extras_of_kind 12 n.extras)) (each_map metadata_index_content (λ c. IsTail (top_of 13 c)) (extras_of_kind 12 n.extras) (λ k e there.
         let (has, kind) = filter_passed (λ (x : ℕ × Top). x.1.op == 12) n.extras k e there in
         let one = fits.extras has.0 e has.1 in
         let meets = one.0.v6 in

@@ -16,7 +16,7 @@ use Rattle.mcap_model.specs.Fields.{IsHeader, IsFooter, IsStatistics}
 use Rattle.mcap_model.specs.Rules.{HasDataEnd, Agrees, stands_in_section}
 use Rattle.mcap_model.specs.History.{rec_top, history_bytes}
 use Rattle.mcap_model.specs.Blocks.{Piece, block, alone, logged, logged_channels, pieces_of, pieces_bytes, chunk_bytes, indexes_bytes}
-use Rattle.mcap_model.specs.Summary.{Noted, group_bytes, groups_of, statistics_content, footer_fields}
+use Rattle.mcap_model.specs.Summary.{Noted, group_bytes, groups_of, statistics_content, footer_of_offsets}
 use Rattle.mcap_model.specs.File.{front, blocks_from, extras_from, noted, file_of}
 use Rattle.mcap_model.specs.Whole.{is_last, BelongsTo, IsIndexed, V9, V11, V12, V13, V14, V15, V16, StatisticsAreRight}
 use Rattle.mcap_model.specs.Valid.{Keeps, Valid, IsValid, FullyIndexed}
@@ -134,7 +134,7 @@ module _ (options : FileOptions) (extras : List Top) (history : List Rec) (writt
       ∙ ap (λ (k : Option ℕ). magic ++ (spelled (whole (section_tops options extras history) (summary_tops k (noted options extras history) at) (summary_foot k (noted options extras history) at)) ++ magic)) none
 
   no_foot : IsFooter (footer_top 0 0 0) 0 0 0
-  no_foot = record { kind = refl; layout = footer_shown (footer_fields 0 0 0) (omega arith) (omega arith) (omega arith) }
+  no_foot = record { kind = refl; layout = footer_shown (footer_of_offsets 0 0 0) (omega arith) (omega arith) (omega arith) }
 
   no_tail : Each IsTail []
   no_tail k t there = absurd (at_none k t there)
@@ -155,7 +155,7 @@ module _ (options : FileOptions) (extras : List Top) (history : List Rec) (writt
   zeros p t s o c there last is =
       let own = last_is header (body_tops options extras history) [] (footer_top 0 0 0) 0 0 0 (header_is options extras history (standing options extras history written)) (body_right options extras history (standing options extras history written)) no_tail no_foot p t there last in
       let shown : IsFooter (footer_top 0 0 0) s o c = subst (λ (x : Top). IsFooter x s o c) own.1 is in
-      (own.0, (footer_once (footer_text (footer_fields 0 0 0)) 0 0 0 s o c no_foot.layout shown.layout).0)
+      (own.0, (footer_once (footer_text (footer_of_offsets 0 0 0)) 0 0 0 s o c no_foot.layout shown.layout).0)
 
   plain_11 : Keeps V11 plain_tops
   plain_11 p t there = (

@@ -6,14 +6,14 @@ use Rattle.rec_data.specs.declared.owned.Rec.{Rec}
 use Rattle.mcap_model.specs.Tops.{Top}
 use Rattle.chunk_walk.specs.declared.pieces.Piece.{Piece}
 use Rattle.chunk_walk.specs.declared.walk.Walk.{Walk}
-use Rattle.chunk_walk.specs.Pieces.{Files, bytes_of}
+use Rattle.chunk_walk.specs.Pieces.{InputBytes, pieces_size}
 use Rattle.chunk_walk.specs.Stores.{unasked}
 use Rattle.chunk_walk.specs.Walks.{pieces_in, peak_of, IsTextOf, WalkStands}
 use Rattle.mcap_merge.specs.declared.answers.Merged.{Merged}
 use Rattle.mcap_merge.specs.declared.input.Input.{Input}
 use Rattle.mcap_merge.specs.declared.joining.Joiner.{Joiner}
 use Rattle.mcap_merge.specs.declared.starting.Begun.{Begun}
-use Rattle.mcap_merge.specs.Inputs.{tops_of}
+use Rattle.mcap_merge.specs.Inputs.{read_tops}
 use Rattle.mcap_merge.specs.Uses.{history_of}
 use Rattle.mcap_merge.specs.Joining.{JoinerStands}
 use Rattle.mcap_merge.specs.Writing.{extras_of}
@@ -23,28 +23,28 @@ use Rattle.mcap_merge.proofs.Counted.{counts}
 use Rattle.mcap_merge.proofs.Profiles.{zip_length}
 
 -- nothing was loaded
-none_loaded : (files : Files) (pieces : List Piece) (next : ℕ) → AllZip (IsTextOf files) (take next pieces) [] → drop next pieces ≡ pieces
+none_loaded : (files : InputBytes) (pieces : List Piece) (next : ℕ) → AllZip (IsTextOf files) (take next pieces) [] → drop next pieces ≡ pieces
 none_loaded files [] zero zip = refl
 none_loaded files [] (suc next) zip = refl
 none_loaded files (p ∷ ps) zero zip = refl
 none_loaded files (p ∷ ps) (suc next) zip = absurd zip
 
 -- all bytes of the pieces may still be asked for
-pub unasked_begun : (inputs : List Input) (b : Begun) → IsBegun inputs b → (k : ℕ) → unasked b.walk k ≡ bytes_of k (pieces_in b.walk)
+pub unasked_begun : (inputs : List Input) (b : Begun) → IsBegun inputs b → (k : ℕ) → unasked b.walk k ≡ pieces_size k (pieces_in b.walk)
 unasked_begun inputs b begun k =
     let stands = begun.stands in
     let none = stands [] in
-    ap (bytes_of k) (none_loaded [] b.walk.pieces.items b.walk.next none.taken)
+    ap (pieces_size k) (none_loaded [] b.walk.pieces.items b.walk.next none.taken)
 
 module _ {P : Type 0} (adds : P → P → List Top → List Rec → Type 0) where
   -- nothing was put
-  pub put_none : ((p : P) → adds p p [] []) → (files : Files) (inputs : List Input) (w : Walk) (j : Joiner) (p : P) → WalkStands files w [] [] → ((all : List (List Top)) → JoinerStands all [] j) → PutSoFar adds (sources files inputs) w 0 j p p
+  pub put_none : ((p : P) → adds p p [] []) → (files : InputBytes) (inputs : List Input) (w : Walk) (j : Joiner) (p : P) → WalkStands files w [] [] → ((all : List (List Top)) → JoinerStands all [] j) → PutSoFar adds (sources files inputs) w 0 j p p
   put_none adds_none files inputs w j p stands none = record {
     texts = [];
     given = [];
     stands = stands;
     size = refl;
-    uses = λ reads hold suffice. ([], tt, (none (tops_of reads), adds_none p));
+    uses = λ reads hold suffice. ([], tt, (none (read_tops reads), adds_none p));
   }
 
   module _ (adds_on : (p q r : P) (extras others : List Top) (records behind : List Rec) → adds p q extras records → adds q r others behind → adds p r (extras ++ others) (records ++ behind)) where
@@ -92,7 +92,7 @@ module _ {P : Type 0} (adds : P → P → List Top → List Rec → Type 0) wher
           uses = λ reads hold suffice.
               let uses = put.uses in
               let (us, zip, (joined, added_all)) = uses reads hold suffice in
-              let many : m.messages ≡ length us = messages ∙ sym put.size ∙ zip_length (IsUseOfTurn (tops_of reads) put.texts) put.given us zip in
+              let many : m.messages ≡ length us = messages ∙ sym put.size ∙ zip_length (IsUseOfTurn (read_tops reads) put.texts) put.given us zip in
               (us, zip, (behind old mid all (extras_of start.inputs) (history_of us) added added_all, counts j us m declared joined.ids_are is many records));
           peak = peak;
         }

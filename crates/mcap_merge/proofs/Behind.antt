@@ -14,10 +14,10 @@ use Rattle.mcap_model.proofs.NamedTopics.{zip_front, zip_back}
 use Rattle.chunk_walk.specs.declared.answers.WalkRefused.TheVariants as refusals
 use Rattle.chunk_walk.specs.declared.pieces.Piece.{Piece}
 use Rattle.chunk_walk.specs.declared.walk.Walk.{Walk}
-use Rattle.chunk_walk.specs.Pieces.{Files, bytes_of}
+use Rattle.chunk_walk.specs.Pieces.{InputBytes, pieces_size}
 use Rattle.chunk_walk.specs.Stores.{files_of, StoresStay, AskedWithin, unasked, none_left}
 use Rattle.chunk_walk.specs.Stores as walks
-use Rattle.mcap_merge.specs.Reading.{StoreKeeps, CountStands, OneRose, AsksOnce}
+use Rattle.mcap_merge.specs.Reading.{StoreKeeps, FaultsStand, InputRose, AsksWithinLength}
 use Rattle.mcap_merge.specs.declared.turns.PutRefused.{PutRefused}
 use Rattle.mcap_merge.specs.declared.turns.PutRefused.TheVariants as puts
 use Rattle.mcap_merge.specs.Turns.{PutCounts}
@@ -47,7 +47,7 @@ files_kept [] [] keeps = refl
 files_kept [] (y ∷ ys) keeps = absurd keeps
 files_kept (x ∷ xs) [] keeps = absurd keeps
 files_kept (x ∷ xs) (y ∷ ys) keeps =
-    ap (λ (b : Option (List ℕ)). b ∷ files_of ys) keeps.0.bytes ∙ ap (λ (l : Files). x.bytes ∷ l) (files_kept xs ys keeps.1)
+    ap (λ (b : Option (List ℕ)). b ∷ files_of ys) keeps.0.bytes ∙ ap (λ (l : InputBytes). x.bytes ∷ l) (files_kept xs ys keeps.1)
 
 -- ---- one behind the other
 
@@ -57,23 +57,23 @@ zip_at R [] (y ∷ ys) size each = absurd (omega (arith, size))
 zip_at R (x ∷ xs) [] size each = absurd (omega (arith, size))
 zip_at R (x ∷ xs) (y ∷ ys) size each = (each zero x y refl refl, zip_at R xs ys (omega (arith, size)) (λ k a b at_a at_b. each (suc k) a b at_a at_b))
 
-left_fewer : (k n : ℕ) (pieces : List Piece) → bytes_of k (drop n pieces) ≤ bytes_of k pieces
+left_fewer : (k n : ℕ) (pieces : List Piece) → pieces_size k (drop n pieces) ≤ pieces_size k pieces
 left_fewer k n pieces = omega (arith, sum_by-take-drop (λ (p : Piece). if p.input == k then p.span.length else 0) pieces n)
 
 module _ (olds mids news : List StoreState) (stay : StoresStay mids news) where
   same_length : (R : StoreState → StoreState → Type 0) → AllZip R olds mids → length olds ≡ length news
   same_length R zip = zip_length R olds mids zip ∙ zip_length StoreStays mids news stay
 
-  pub counts_behind : AllZip CountStands olds mids → AllZip CountStands mids news → AllZip CountStands olds news
-  counts_behind one other = zip_at CountStands olds news (same_length CountStands one) (λ k x z at_x at_z.
-      let (y, at_y, first) = zip_front CountStands olds mids k x one at_x in
-      let (w, at_w, last) = zip_front CountStands mids news k y other at_y in
+  pub counts_behind : AllZip FaultsStand olds mids → AllZip FaultsStand mids news → AllZip FaultsStand olds news
+  counts_behind one other = zip_at FaultsStand olds news (same_length FaultsStand one) (λ k x z at_x at_z.
+      let (y, at_y, first) = zip_front FaultsStand olds mids k x one at_x in
+      let (w, at_w, last) = zip_front FaultsStand mids news k y other at_y in
       let same : w ≡ z = at_one news k w z at_w at_z in
-      subst (CountStands x) same (last ∙ first))
+      subst (FaultsStand x) same (last ∙ first))
 
-  pub rose_behind : (k faults : ℕ) → AllZip CountStands olds mids → walks.OneRose mids news k faults → OneRose olds news k faults
+  pub rose_behind : (k faults : ℕ) → AllZip FaultsStand olds mids → walks.OneRose mids news k faults → InputRose olds news k faults
   rose_behind k faults one rose =
-      let (s, at_s, same) = zip_back CountStands olds mids k rose.old one rose.old_at in
+      let (s, at_s, same) = zip_back FaultsStand olds mids k rose.old one rose.old_at in
       let others = rose.others in (
         s,
         rose.new,
@@ -82,7 +82,7 @@ module _ (olds mids news : List StoreState) (stay : StoresStay mids news) where
         subst (λ (n : ℕ). RisesOnce n rose.new.faults) same rose.rises,
         rose.faults_is,
         λ n was is other at_was at_is.
-            let (mid, at_mid, stands) = zip_front CountStands olds mids n was one at_was in
+            let (mid, at_mid, stands) = zip_front FaultsStand olds mids n was one at_was in
             others n mid is other at_mid at_is ∙ stands,
       )
 
@@ -96,9 +96,9 @@ module _ (olds mids news : List StoreState) (stay : StoresStay mids news) where
       let faults = unfallen k y w at_y at_w in
       subst (StoreKeeps x) same (record { bytes = bytes ∙ first.bytes; known = omega (arith, known, first.known); faults = omega (arith, faults, first.faults) }))
 
-  pub asked_behind : (w : Walk) → AllZip AsksOnce olds mids → AskedWithin mids news (unasked w) none_left → ((k : ℕ) (s : StoreState) → At mids k s → bytes_of k w.pieces.items ≤ s.known) → AllZip AsksTwice olds news
-  asked_behind w one within sums = zip_at AsksTwice olds news (same_length AsksOnce one) (λ k x z at_x at_z.
-      let (y, at_y, first) = zip_front AsksOnce olds mids k x one at_x in
+  pub asked_behind : (w : Walk) → AllZip AsksWithinLength olds mids → AskedWithin mids news (unasked w) none_left → ((k : ℕ) (s : StoreState) → At mids k s → pieces_size k w.pieces.items ≤ s.known) → AllZip AsksTwice olds news
+  asked_behind w one within sums = zip_at AsksTwice olds news (same_length AsksWithinLength one) (λ k x z at_x at_z.
+      let (y, at_y, first) = zip_front AsksWithinLength olds mids k x one at_x in
       let (u, at_u, last) = zip_front StoreStays mids news k y stay at_y in
       let same : u ≡ z = at_one news k u z at_u at_z in
       let known = last.known in
@@ -109,9 +109,9 @@ module _ (olds mids news : List StoreState) (stay : StoresStay mids news) where
 
 -- ---- counts haven't fallen
 
-pub stood : (mids news : List StoreState) → AllZip CountStands mids news → (k : ℕ) (x y : StoreState) → At mids k x → At news k y → x.faults ≤ y.faults
+pub stood : (mids news : List StoreState) → AllZip FaultsStand mids news → (k : ℕ) (x y : StoreState) → At mids k x → At news k y → x.faults ≤ y.faults
 stood mids news stand k x y at_x at_y =
-    let (z, at_z, same) = zip_front CountStands mids news k x stand at_x in
+    let (z, at_z, same) = zip_front FaultsStand mids news k x stand at_x in
     let equal : z.faults ≡ y.faults = ap (λ (s : StoreState). s.faults) (at_one news k z y at_z at_y) in
     omega (arith, same, equal)
 
@@ -148,7 +148,7 @@ asked_still stores w k old new at_old at_new =
     let asked : old.asked ≡ new.asked = ap (λ (s : StoreState). s.asked) same in
     omega (arith, asked)
 
-pub asks_twice : (olds news : List StoreState) → AllZip AsksOnce olds news → AllZip AsksTwice olds news
+pub asks_twice : (olds news : List StoreState) → AllZip AsksWithinLength olds news → AllZip AsksTwice olds news
 asks_twice [] [] one = tt
 asks_twice [] (y ∷ ys) one = absurd one
 asks_twice (x ∷ xs) [] one = absurd one

@@ -11,7 +11,7 @@ use Rattle.record_core.specs.Tables.{content_in, ids_in}
 use Rattle.mcap_merge.specs.declared.answers.Merged.{Merged}
 use Rattle.mcap_merge.specs.declared.joining.Joiner.{Joiner}
 use Rattle.mcap_merge.specs.Uses.{Use, added_by, with_use, history_of}
-use Rattle.mcap_merge.specs.Putting.{Counts}
+use Rattle.mcap_merge.specs.Putting.{CountsMerged}
 use Rattle.mcap_merge.proofs.Merging.{no_message}
 
 -- a history is its Schemas, its Channels and its Messages
@@ -45,7 +45,7 @@ messages_from h [] = omega arith
 messages_from h (u ∷ us) = omega (arith, messages_from (with_use h u) us, one_message h u)
 
 -- so many messages were put, for which the joiner gave these ids
-pub counts : (j : Joiner) (uses : List Use) (m : Merged) (declared : ℕ) → ids_in j.table ≡ ids_of (history_of uses) → declared ≡ length j.table.schemas + length j.table.channels → m.messages ≡ length uses → m.records ≡ min (m.messages + declared) (2 ^ 64 - 1) → Counts (history_of uses) m
+pub counts : (j : Joiner) (uses : List Use) (m : Merged) (declared : ℕ) → ids_in j.table ≡ ids_of (history_of uses) → declared ≡ length j.table.schemas + length j.table.channels → m.messages ≡ length uses → m.records ≡ min (m.messages + declared) (2 ^ 64 - 1) → CountsMerged (history_of uses) m
 counts j uses m declared same is messages records =
     let history = history_of uses in
     let from : length (filter is_message history) ≡ 0 + length uses = messages_from [] uses in

@@ -18,13 +18,13 @@ use Rattle.id_table.specs.declared.given.Given.{Given}
 use Rattle.id_table.specs.declared.given.Given.TheVariants.{Known, New}
 use Rattle.id_table.specs.declared.given.GivenIds.{GivenIds}
 use Rattle.record_core.specs.Ids.{Ids, ids_of, with_ids, schema_place, id_at, channel_place, channel_id, new_at, new_records, same_channel, fields_of_channel}
-use Rattle.record_core.specs.Tables.{ids_in, content_in, HasSchemas, number_of, id_of}
+use Rattle.record_core.specs.Tables.{ids_in, content_in, HasSchemas, id_given, id_of}
 use Rattle.record_core.proofs.Searches.{found}
 use Rattle.record_core.proofs.TableIds.{schema_stands, schema_missed, channel_missed}
 use Rattle.record_core.proofs.Giving.{given_id, given_records, answers_by}
 use Rattle.mcap_merge.specs.declared.joining.Declared.{Declared}
 use Rattle.mcap_merge.specs.Uses.{Use, added_by, with_use, history_of}
-use Rattle.mcap_merge.specs.Joining.{TableIsUsed, records_of}
+use Rattle.mcap_merge.specs.Joining.{TableIsUsed, declaring_records}
 use Rattle.mcap_merge.specs.Contents.{FitsUnderIds, IdsSuffice}
 use Rattle.mcap_merge.proofs.Joined.{ids_more, ids_behind}
 use Rattle.mcap_merge.proofs.ReadBack.{none_back, records_back}
@@ -88,7 +88,7 @@ given_to_once xs None g once is = once
 given_to_once xs (Some x) None once is = once
 given_to_once xs (Some x) (Some g) once is = given_once xs x g once is
 
-next_schema : (t : tables.Ids) (o : Option SchemaDef) → (g : Option Given) × OffersTo t.schemas o g
+next_schema : (t : tables.IdContents) (o : Option SchemaDef) → (g : Option Given) × OffersTo t.schemas o g
 next_schema t None = (None, tt)
 next_schema t (Some s) = by (schema_place (ids_in t) s) refl
   where
@@ -99,13 +99,13 @@ next_schema t (Some s) = by (schema_place (ids_in t) s) refl
     by None e = (Some (New (length t.schemas + 1)), (schema_missed t s e, refl))
 
 -- the ids that a new content gets
-pub record NextIds (t : tables.Ids) (d : ChannelDef) : Type 0 where
+pub record NextIds (t : tables.IdContents) (d : ChannelDef) : Type 0 where
   pub given : GivenIds
-  pub after : tables.Ids
+  pub after : tables.IdContents
   pub declares : Declares t d given after
-  pub id : number_of given.channel ≡ length after.channels
+  pub id : id_given given.channel ≡ length after.channels
 
-next_ids : (t : tables.Ids) (d : ChannelDef) → channel_place (ids_in t) d ≡ None → NextIds t d
+next_ids : (t : tables.IdContents) (d : ChannelDef) → channel_place (ids_in t) d ≡ None → NextIds t d
 next_ids t d none =
     let schema = next_schema t d.schema in
     let channel = New (length t.channels + 1) in
@@ -128,7 +128,7 @@ schema_small schemas (Some s) (Some (New id)) is few = omega (arith, is.1, few, 
 
 -- ---- the table of a history
 
-pub record TableStands (inputs : List (List Top)) (history : List Rec) (t : tables.Ids) : Type 0 where
+pub record TableStands (inputs : List (List Top)) (history : List Rec) (t : tables.IdContents) : Type 0 where
   pub ids_are : ids_in t ≡ ids_of history
   pub has : HasSchemas t
   pub once_schemas : EachOnce t.schemas
@@ -146,13 +146,13 @@ table_none inputs = record {
 
 -- what a use comes to: the table behind its records, and that these are read back
 record Follows (inputs : List (List Top)) (history : List Rec) (d : ChannelDef) : Type 0 where
-  after : tables.Ids
+  after : tables.IdContents
   stands : TableStands inputs (history ++ new_records (ids_of history) d) after
   back : Each IsReadBack (new_records (ids_of history) d)
   small : channel_id (ids_of history) d < 65536
 
 module _ (inputs : List (List Top)) (suffice : IdsSuffice inputs) (history : List Rec) (d : ChannelDef) (used : IsUsed inputs d) (fits : FitsUnderIds d) where
-  follows_known : (t : tables.Ids) (k : ℕ) → TableStands inputs history t → channel_place (ids_in t) d ≡ Some k → Follows inputs history d
+  follows_known : (t : tables.IdContents) (k : ℕ) → TableStands inputs history t → channel_place (ids_in t) d ≡ Some k → Follows inputs history d
   follows_known t k stands e =
       let same = stands.ids_are in
       let there : channel_place (ids_of history) d ≡ Some k = sym (ap (λ (x : Ids). channel_place x d) same) ∙ e in
@@ -174,7 +174,7 @@ module _ (inputs : List (List Top)) (suffice : IdsSuffice inputs) (history : Lis
         small = omega (arith, id, within, few, length-map t.channels (content_in (ids_in t).schemas));
       }
 
-  follows_new : (t : tables.Ids) → TableStands inputs history t → channel_place (ids_in t) d ≡ None → Follows inputs history d
+  follows_new : (t : tables.IdContents) → TableStands inputs history t → channel_place (ids_in t) d ≡ None → Follows inputs history d
   follows_new t stands e =
       let next = next_ids t d e in
       let given = next.given in
@@ -188,13 +188,13 @@ module _ (inputs : List (List Top)) (suffice : IdsSuffice inputs) (history : Lis
       let answers = answers_by t after d (Ok given) stands.has stands.once_schemas e few_schemas few_channels declares tt tt in
       let declared = answers.declared in
       let gives = declared.1 in
-      let id = number_of given.channel in
+      let id = id_given given.channel in
       let schema = id_of given.schema in
       let small : id < 65536 = omega (arith, next.id, few_channels) in
       let schema_is_small : schema < 65536 = schema_small t.schemas d.schema given.schema declares.schema (subst (λ (l : List SchemaDef). length l ≤ 65535) declares.schemas few_schemas) in
       let (channel_fits, schema_fits) = fits id schema small schema_is_small in
       let whole : Declared = record { content = d; ids = given } in
-      let records : records_of whole ≡ new_records (ids_of history) d = given_records (ids_in t) d given e gives ∙ ap (λ (x : Ids). new_records x d) stands.ids_are in
+      let records : declaring_records whole ≡ new_records (ids_of history) d = given_records (ids_in t) d given e gives ∙ ap (λ (x : Ids). new_records x d) stands.ids_are in
       record {
         after = after;
         stands = record {
@@ -208,7 +208,7 @@ module _ (inputs : List (List Top)) (suffice : IdsSuffice inputs) (history : Lis
         small = subst (λ (n : ℕ). n < 65536) (given_id (ids_in t) d given e gives ∙ ap (λ (x : Ids). channel_id x d) stands.ids_are) small;
       }
 
-  follows : (t : tables.Ids) → TableStands inputs history t → Follows inputs history d
+  follows : (t : tables.IdContents) → TableStands inputs history t → Follows inputs history d
   follows t stands = by (channel_place (ids_in t) d) refl
     where
       by : (place : Option ℕ) → channel_place (ids_in t) d ≡ place → Follows inputs history d
@@ -223,7 +223,7 @@ pub record IsWholeUse (inputs : List (List Top)) (u : Use) : Type 0 where
   pub fits : FitsUnderIds u.content
   pub back : (id : ℕ) → id < 65536 → Each IsReadBack (message_of id u.message ∷ [])
 
-back_from : (inputs : List (List Top)) (uses : List Use) (history : List Rec) (t : tables.Ids) → IdsSuffice inputs → TableStands inputs history t → Each IsReadBack history → Each (IsWholeUse inputs) uses → Each IsReadBack (fold with_use history uses)
+back_from : (inputs : List (List Top)) (uses : List Use) (history : List Rec) (t : tables.IdContents) → IdsSuffice inputs → TableStands inputs history t → Each IsReadBack history → Each (IsWholeUse inputs) uses → Each IsReadBack (fold with_use history uses)
 back_from inputs [] history t suffice stands back whole = back
 back_from inputs (u ∷ us) history t suffice stands back whole =
     let one = whole zero u refl in

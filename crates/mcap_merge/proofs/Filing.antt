@@ -12,8 +12,8 @@ use Rattle.chunk_writer.specs.declared.scribe.Scribe.{Scribe}
 use Rattle.chunk_writer.specs.declared.phase.Phase.TheVariants as phases
 use Rattle.chunk_writer.specs.Stops.{numbers, StopsAt}
 use Rattle.chunk_writer.specs.Limits.{Holds}
-use Rattle.chunk_writer.specs.Scribes.{Writes, Grows, Gathers, phase_of}
-use Rattle.chunk_walk.specs.Pieces.{Files}
+use Rattle.chunk_writer.specs.Scribes.{WritesHistory, ScribeGrows, GathersExtra, phase_of}
+use Rattle.chunk_walk.specs.Pieces.{InputBytes}
 use Rattle.mcap_merge.specs.declared.answers.Merged.{Merged}
 use Rattle.mcap_merge.specs.declared.input.Input.{Input}
 use Rattle.mcap_merge.specs.declared.starting.Begun.{Begun}
@@ -27,17 +27,17 @@ use Rattle.mcap_merge.specs.Putting.{IsBegun, MergeStart, WholeStands, PartStand
 use Rattle.mcap_merge.specs.Filed.{FileStands}
 use Rattle.mcap_merge.specs.Filing.{FilesAs, FileStops}
 
-pub gathers_adds : {L : Type 0} (seen : L → LiveState) (s t : Scribe L) (x : Top) → Gathers seen s t x → AddsTo seen s t (x ∷ []) []
+pub gathers_adds : {L : Type 0} (seen : L → LiveState) (s t : Scribe L) (x : Top) → GathersExtra seen s t x → AddsTo seen s t (x ∷ []) []
 gathers_adds seen s t x gathers = λ options others opened history writes.
-    subst (λ (h : List Rec). Writes seen options (others ++ x ∷ []) opened h t) (sym (append-nil history)) (gathers options others opened history writes)
+    subst (λ (h : List Rec). WritesHistory seen options (others ++ x ∷ []) opened h t) (sym (append-nil history)) (gathers options others opened history writes)
 
-pub grows_adds : {L : Type 0} (seen : L → LiveState) (s t : Scribe L) (r : Rec) → Grows seen s t (r ∷ []) → AddsTo seen s t [] (r ∷ [])
+pub grows_adds : {L : Type 0} (seen : L → LiveState) (s t : Scribe L) (r : Rec) → ScribeGrows seen s t (r ∷ []) → AddsTo seen s t [] (r ∷ [])
 grows_adds seen s t r grows = λ options others opened history writes.
-    subst (λ (e : List Top). Writes seen options e opened (history ++ r ∷ []) t) (sym (append-nil others)) (grows options others opened history writes)
+    subst (λ (e : List Top). WritesHistory seen options e opened (history ++ r ∷ []) t) (sym (append-nil others)) (grows options others opened history writes)
 
-pub lacks_adds : {L : Type 0} (seen : L → LiveState) (s t : Scribe L) (stop : Stop) (extras : List Top) (records : List Rec) → ((x : Top) → Gathers seen s t x) → phase_of t ≡ phases.Stopped stop → AddsTo seen s t extras records
+pub lacks_adds : {L : Type 0} (seen : L → LiveState) (s t : Scribe L) (stop : Stop) (extras : List Top) (records : List Rec) → ((x : Top) → GathersExtra seen s t x) → phase_of t ≡ phases.Stopped stop → AddsTo seen s t extras records
 lacks_adds seen s t stop extras records gathers is = λ options others opened history writes.
-    let one : Gathers seen s t (record { op = 0; content = [] }) = gathers (record { op = 0; content = [] }) in
+    let one : GathersExtra seen s t (record { op = 0; content = [] }) = gathers (record { op = 0; content = [] }) in
     let there = one options others opened history writes in
     adds_all seen t stop extras records is options others opened history (there.0, λ going. absurd (stopped_going stop (sym is ∙ going)), λ going. absurd (stopped_going stop (sym is ∙ going)))
 
@@ -46,7 +46,7 @@ lacks_adds seen s t stop extras records gathers is = λ options others opened hi
 holds_same : (blocks bytes b c : ℕ) → blocks ≡ b → bytes ≡ c → Holds blocks bytes → Holds b c
 holds_same blocks bytes b c one two holds = subst (Holds b) two (subst (λ (n : ℕ). Holds n bytes) one holds)
 
-module _ {L : Type 0} (seen : L → LiveState) (options : FileOptions) (opened : LiveState) (old new : Scribe L) (begun : Writes seen options [] opened [] old) where
+module _ {L : Type 0} (seen : L → LiveState) (options : FileOptions) (opened : LiveState) (old new : Scribe L) (begun : WritesHistory seen options [] opened [] old) where
   -- a scribe that was opened for these options stopped
   stopped_there : (extras : List Top) (history : List Rec) (stop : Stop) → AddsTo seen old new extras history → phase_of new ≡ phases.Stopped stop → FileStands options extras history opened (seen new.store) (Err stop)
   stopped_there extras history stop adds stopped =
@@ -101,7 +101,7 @@ module _ {L : Type 0} (seen : L → LiveState) (options : FileOptions) (opened :
   stops_filed start why (inr (stop, is, m, ends)) = inr (stop, is, m, whole_filed start m (Err stop) ends)
 
 -- the front wasn't written
-pub not_opened : (files : Files) (inputs : List Input) (b : Begun) (options : FileOptions) (opened now : LiveState) (stop : Stop) → IsBegun inputs b → ((extras : List Top) (history : List Rec) → StopsAt options extras history opened.held now.held stop (numbers 0 0))
+pub not_opened : (files : InputBytes) (inputs : List Input) (b : Begun) (options : FileOptions) (opened now : LiveState) (stop : Stop) → IsBegun inputs b → ((extras : List Top) (history : List Rec) → StopsAt options extras history opened.held now.held stop (numbers 0 0))
     → FileStops options (record { files = files; inputs = inputs; walk = b.walk }) opened now (puts.Stopped stop)
 not_opened files inputs b options opened now stop begun stops = inl (record {
   walk = b.walk;

@@ -17,11 +17,11 @@ use Rattle.chunk_survey.specs.declared.spans.Span.{Span}
 use Rattle.chunk_survey.specs.Spans.{spans_of}
 use Rattle.chunk_walk.specs.declared.pieces.Piece.{Piece}
 use Rattle.chunk_walk.specs.declared.walk.Walk.{Walk}
-use Rattle.chunk_walk.specs.Pieces.{pieces_with, bytes_of, overlap_at}
+use Rattle.chunk_walk.specs.Pieces.{pieces_with, pieces_size, overlap_at}
 use Rattle.chunk_walk.specs.Stores.{StoresFit}
 use Rattle.chunk_walk.specs.Walks.{pieces_in, pieces_loaded, peak_of, PeakStands}
 use Rattle.mcap_merge.specs.declared.input.Input.{Input}
-use Rattle.mcap_merge.specs.Inputs.{Read, tops_of, HoldsInput, HoldInputs}
+use Rattle.mcap_merge.specs.Inputs.{Read, read_tops, HoldsInput, HoldInputs}
 use Rattle.mcap_merge.specs.Reading.{SpansFit}
 use Rattle.mcap_merge.specs.Pieces.{pieces_from}
 use Rattle.mcap_merge.specs.Overlap.{length_at, overlap, IsPeak}
@@ -108,44 +108,44 @@ number_other n k apart = by (n == k) refl
     by true is = absurd (apart (eqb-true n k is))
     by false is = refl
 
-same_number : (number k : ℕ) (spans : List Span) → (number == k) ≡ true → bytes_of k (pieces_with number spans) ≡ spans_length spans
+same_number : (number k : ℕ) (spans : List Span) → (number == k) ≡ true → pieces_size k (pieces_with number spans) ≡ spans_length spans
 same_number number k [] same = refl
 same_number number k (s ∷ ss) same =
     let one : counted_of k (piece_of number s) ≡ s.length = ap (λ (b : Bool). if b then s.length else 0) same in
     omega (arith, one, same_number number k ss same, sum_by-cons (counted_of k) (piece_of number s) (pieces_with number ss), sum_by-cons (λ x. x.length) s ss)
 
-other_number : (number k : ℕ) (spans : List Span) → (number == k) ≡ false → bytes_of k (pieces_with number spans) ≡ 0
+other_number : (number k : ℕ) (spans : List Span) → (number == k) ≡ false → pieces_size k (pieces_with number spans) ≡ 0
 other_number number k [] other = refl
 other_number number k (s ∷ ss) other =
     let one : counted_of k (piece_of number s) ≡ 0 = ap (λ (b : Bool). if b then s.length else 0) other in
     omega (arith, one, other_number number k ss other, sum_by-cons (counted_of k) (piece_of number s) (pieces_with number ss))
 
 -- the inputs from a number on have none of a lower one
-none_lower : (number k : ℕ) (inputs : List Input) → k < number → bytes_of k (pieces_from number inputs) ≡ 0
+none_lower : (number k : ℕ) (inputs : List Input) → k < number → pieces_size k (pieces_from number inputs) ≡ 0
 none_lower number k [] lower = refl
 none_lower number k (i ∷ is) lower =
     omega (arith, other_number number k i.spans.items (number_other number k (λ e. omega (arith, e, lower))), none_lower (suc number) k is (omega (arith, lower)), sum_by-append (counted_of k) (pieces_with number i.spans.items) (pieces_from (suc number) is))
 
-bytes_from : (number k : ℕ) (inputs : List Input) (i : Input) → At inputs k i → bytes_of (number + k) (pieces_from number inputs) ≡ spans_length i.spans.items
+bytes_from : (number k : ℕ) (inputs : List Input) (i : Input) → At inputs k i → pieces_size (number + k) (pieces_from number inputs) ≡ spans_length i.spans.items
 bytes_from number k [] i at = absurd (at_none k i at)
 bytes_from number zero (x ∷ xs) i at =
     let same : x ≡ i = at_one (x ∷ xs) zero x i refl at in
-    let first : bytes_of (number + 0) (pieces_with number x.spans.items) ≡ spans_length x.spans.items = same_number number (number + 0) x.spans.items (eq-eqb number (number + 0) (omega arith)) in
-    let rest : bytes_of (number + 0) (pieces_from (suc number) xs) ≡ 0 = none_lower (suc number) (number + 0) xs (omega arith) in
+    let first : pieces_size (number + 0) (pieces_with number x.spans.items) ≡ spans_length x.spans.items = same_number number (number + 0) x.spans.items (eq-eqb number (number + 0) (omega arith)) in
+    let rest : pieces_size (number + 0) (pieces_from (suc number) xs) ≡ 0 = none_lower (suc number) (number + 0) xs (omega arith) in
     omega (arith, first, rest, sum_by-append (counted_of (number + 0)) (pieces_with number x.spans.items) (pieces_from (suc number) xs), ap (λ (y : Input). spans_length y.spans.items) same)
 bytes_from number (suc k) (x ∷ xs) i at =
     let number_is : suc number + k ≡ number + suc k = omega arith in
-    let first : bytes_of (number + suc k) (pieces_with number x.spans.items) ≡ 0 = other_number number (number + suc k) x.spans.items (number_other number (number + suc k) (λ e. omega (arith, e))) in
-    let rest : bytes_of (number + suc k) (pieces_from (suc number) xs) ≡ spans_length i.spans.items = subst (λ (n : ℕ). bytes_of n (pieces_from (suc number) xs) ≡ spans_length i.spans.items) number_is (bytes_from (suc number) k xs i at) in
+    let first : pieces_size (number + suc k) (pieces_with number x.spans.items) ≡ 0 = other_number number (number + suc k) x.spans.items (number_other number (number + suc k) (λ e. omega (arith, e))) in
+    let rest : pieces_size (number + suc k) (pieces_from (suc number) xs) ≡ spans_length i.spans.items = subst (λ (n : ℕ). pieces_size n (pieces_from (suc number) xs) ≡ spans_length i.spans.items) number_is (bytes_from (suc number) k xs i at) in
     omega (arith, first, rest, sum_by-append (counted_of (number + suc k)) (pieces_with number x.spans.items) (pieces_from (suc number) xs))
 
 -- of an input, the pieces together are no longer than its store
-pub asked_sum : (reads : List Read) (stores : List StoreState) (inputs : List Input) (pieces : List Piece) → HoldInputs reads inputs → AllZip SpansFit stores inputs → IsPermutation (pieces_from 0 inputs) pieces → (k : ℕ) (s : StoreState) → At stores k s → bytes_of k pieces ≤ s.known
+pub asked_sum : (reads : List Read) (stores : List StoreState) (inputs : List Input) (pieces : List Piece) → HoldInputs reads inputs → AllZip SpansFit stores inputs → IsPermutation (pieces_from 0 inputs) pieces → (k : ℕ) (s : StoreState) → At stores k s → pieces_size k pieces ≤ s.known
 asked_sum reads stores inputs pieces hold fit same k s at =
     let (i, here, fits) = zip_front SpansFit stores inputs k s fit at in
     let (r, there, holds) = zip_back HoldsInput reads inputs k i hold here in
-    let together : bytes_of k pieces ≡ spans_length i.spans.items =
-    sum_by-IsPermutation (counted_of k) (pieces_from 0 inputs) pieces same ∙ subst (λ (n : ℕ). bytes_of n (pieces_from 0 inputs) ≡ spans_length i.spans.items) (zero_more k) (bytes_from 0 k inputs i here) in
+    let together : pieces_size k pieces ≡ spans_length i.spans.items =
+    sum_by-IsPermutation (counted_of k) (pieces_from 0 inputs) pieces same ∙ subst (λ (n : ℕ). pieces_size n (pieces_from 0 inputs) ≡ spans_length i.spans.items) (zero_more k) (bytes_from 0 k inputs i here) in
     let within : Each (λ x. x.at + x.length ≤ s.known) (spans_of r.tops) = subst (λ (l : List Span). Each (λ x. x.at + x.length ≤ s.known) l) holds.spans_are fits in
     let size : spans_length i.spans.items ≡ spans_length (spans_of r.tops) = ap spans_length holds.spans_are in
     elim (spans_apart 8 s.known r.tops within) [
@@ -167,7 +167,7 @@ overlap_one : (time number : ℕ) (spans : List Span) → overlap_at time (piece
 overlap_one time number [] = refl
 overlap_one time number (s ∷ ss) = omega (arith, overlap_one time number ss, sum_by-cons (share_at time) (piece_of number s) (pieces_with number ss), sum_by-cons (length_at time) s ss)
 
-overlap_all : (time number : ℕ) (reads : List Read) (inputs : List Input) → HoldInputs reads inputs → overlap_at time (pieces_from number inputs) ≡ overlap time (tops_of reads)
+overlap_all : (time number : ℕ) (reads : List Read) (inputs : List Input) → HoldInputs reads inputs → overlap_at time (pieces_from number inputs) ≡ overlap time (read_tops reads)
 overlap_all time number [] [] hold = refl
 overlap_all time number [] (i ∷ is) hold = absurd hold
 overlap_all time number (r ∷ rs) [] hold = absurd hold
@@ -180,7 +180,7 @@ overlap_all time number (r ∷ rs) (i ∷ is) hold =
       overlap_one time number i.spans.items,
       overlap_all time (suc number) rs is hold.1,
       sum_by-append (share_at time) (pieces_with number i.spans.items) (pieces_from (suc number) is),
-      sum_by-cons (λ tops. sum_by (length_at time) (spans_of tops)) r.tops (tops_of rs),
+      sum_by-cons (λ tops. sum_by (length_at time) (spans_of tops)) r.tops (read_tops rs),
     )
 
 -- the piece of a span
@@ -190,17 +190,17 @@ span_piece reads inputs k r s hold at has =
     piece_there 0 inputs k i s input (has.0, subst (λ (l : List Span). At l has.0 s) (sym holds.spans_are) has.1)
 
 -- a message was logged at its least time
-piece_sent : (reads : List Read) (inputs : List Input) (p : Piece) → HoldInputs reads inputs → Has (pieces_from 0 inputs) p → (m : Sent) × IsFrom (tops_of reads) m × (m.seen.message.log_time ≡ p.span.least)
+piece_sent : (reads : List Read) (inputs : List Input) (p : Piece) → HoldInputs reads inputs → Has (pieces_from 0 inputs) p → (m : Sent) × IsFrom (read_tops reads) m × (m.seen.message.log_time ≡ p.span.least)
 piece_sent reads inputs p hold has =
     let of = is_piece_of 0 inputs has.0 p has.1 in
     let (r, there, holds) = zip_back HoldsInput reads inputs of.place of.input hold of.at in
     least_sent reads of.place r p.span there holds.scan (of.has.0, subst (λ (l : List Span). At l of.has.0 p.span) holds.spans_are of.has.1)
 
-overlap_in : (time : ℕ) (reads : List Read) (inputs : List Input) (pieces : List Piece) → HoldInputs reads inputs → IsPermutation (pieces_from 0 inputs) pieces → overlap_at time pieces ≡ overlap time (tops_of reads)
+overlap_in : (time : ℕ) (reads : List Read) (inputs : List Input) (pieces : List Piece) → HoldInputs reads inputs → IsPermutation (pieces_from 0 inputs) pieces → overlap_at time pieces ≡ overlap time (read_tops reads)
 overlap_in time reads inputs pieces hold same = sum_by-IsPermutation (share_at time) (pieces_from 0 inputs) pieces same ∙ overlap_all time 0 reads inputs hold
 
 -- a walk that has loaded all pieces has the peak of the records
-pub peak_is : (reads : List Read) (inputs : List Input) (w : Walk) → HoldInputs reads inputs → IsPermutation (pieces_from 0 inputs) (pieces_in w) → pieces_loaded w ≡ pieces_in w → PeakStands w → IsPeak (tops_of reads) (peak_of w)
+pub peak_is : (reads : List Read) (inputs : List Input) (w : Walk) → HoldInputs reads inputs → IsPermutation (pieces_from 0 inputs) (pieces_in w) → pieces_loaded w ≡ pieces_in w → PeakStands w → IsPeak (read_tops reads) (peak_of w)
 peak_is reads inputs w hold same all stands = record {
   each = λ k tops at n s here.
       let (r, there, is) = unmapped (λ (x : Read). x.tops) reads k tops at in
@@ -211,6 +211,6 @@ peak_is reads inputs w hold same all stands = record {
     | inr (p, has, less) ↦
         let (m, from, time) = piece_sent reads inputs p hold (moved (pieces_in w) (pieces_from 0 inputs) p (IsPermutation-sym (pieces_from 0 inputs) (pieces_in w) same) has) in
         let bytes = overlap_in p.span.least reads inputs (pieces_in w) hold same in
-        inr (m, from, subst (λ (n : ℕ). w.peak ≤ overlap n (tops_of reads)) (sym time) (omega (arith, less, bytes)))
+        inr (m, from, subst (λ (n : ℕ). w.peak ≤ overlap n (read_tops reads)) (sym time) (omega (arith, less, bytes)))
   ];
 }

@@ -7,7 +7,7 @@ use Rattle.std.proofs.lemmas.List.Elements.{filter-append}
 use Rattle.mcap_io.specs.Outside.{SourceState}
 use Rattle.rec_data.specs.Records.{ShowsHeader}
 use Rattle.mcap_model.specs.Declarations.{TablesOf}
-use Rattle.mcap_model.specs.Tops.{Top, top_bytes, spelled, offset_behind, opened, flat}
+use Rattle.mcap_model.specs.Tops.{Top, top_bytes, spelled, offset_behind, unchunked, flat}
 use Rattle.mcap_model.specs.Made.{top}
 use Rattle.mcap_model.specs.Fields.{IsHeader}
 use Rattle.mcap_model.specs.Kept.{reading_limits, Good}
@@ -16,7 +16,7 @@ use Rattle.mcap_model.specs.Repaired.{is_extra, ProfileIs}
 use Rattle.mcap_model.proofs.Flat.{good_lists_are_scanned}
 use Rattle.mcap_model.proofs.Readings.{length-top}
 use Rattle.mcap_scan.specs.declared.reader.Reader.{Reader}
-use Rattle.mcap_scan.specs.Scanning.{Stands, Gives, Finds, content_of}
+use Rattle.mcap_scan.specs.Scanning.{Stands, Gives, FindsEnd, content_of}
 use Rattle.mcap_scan.proofs.Scanning.{good_stand}
 use Rattle.chunk_survey.specs.declared.spans.Span.{Span}
 use Rattle.chunk_survey.specs.Spans.{spans_one, spans_of}
@@ -24,7 +24,7 @@ use Rattle.chunk_survey.proofs.Noted.{spans_joined}
 use Rattle.mcap_merge.specs.declared.input.Extra.{Extra}
 use Rattle.mcap_merge.specs.declared.input.Holding.{Holding}
 use Rattle.mcap_merge.specs.declared.input.Input.{Input}
-use Rattle.mcap_merge.specs.Marks.{channels_under, with_marks, AreUnmarked, AreMarked}
+use Rattle.mcap_merge.specs.Marks.{channels_under, with_marks, AreUnmarked, MarksChannels}
 use Rattle.mcap_merge.specs.Inputs.{extra_tops, KeepsExtra, KeepsProfile, HoldsRecord, HoldsNothing, IsInputOf, HoldsInput}
 use Rattle.mcap_merge.proofs.Marking.{length_marks, channels_listed, marks_more, are_marked}
 
@@ -106,13 +106,13 @@ holds_on reader reader_new before now now_new old new op offset was gives holds 
           ∙ ap (λ (l : List Span). l ++ spans_one offset t) was.spans_are
           ∙ ap (λ (n : ℕ). spans_of tops ++ spans_one n t) gives.place
           ∙ sym (spans_joined 8 tops t);
-      used_are = record { blank = used.blank; none = used.none; are = marks_more used.blank old.used.items new.used.items tops t used.are (holds.used ∙ ap (with_marks old.used.items) (channels_listed 0 (opened t))) };
+      used_are = record { blank = used.blank; none = used.none; are = marks_more used.blank old.used.items new.used.items tops t used.are (holds.used ∙ ap (with_marks old.used.items) (channels_listed 0 (unchunked t))) };
       extras_are = extras_on tops t old.extras.items new.extras.items was.extras_are holds.extra;
       profile_is = profile_on tops t offset old.profile new.profile (offset == 8) refl gives.place good holds.profile was.profile_is;
     }
 
 -- what is held at the Data End
-pub held_at_end : (reader reader_new : Reader) (before now now_new : SourceState) (h : Holding) (i : Input) (offset : ℕ) (was : HoldsSoFar reader before now h) → Finds reader_new before now_new was.tops offset → IsInputOf h reader_new.tables i
+pub held_at_end : (reader reader_new : Reader) (before now now_new : SourceState) (h : Holding) (i : Input) (offset : ℕ) (was : HoldsSoFar reader before now h) → FindsEnd reader_new before now_new was.tops offset → IsInputOf h reader_new.tables i
     → (messages : List Seen) × HoldsInput (record { tops = was.tops; messages = messages }) i
 held_at_end reader reader_new before now now_new h i offset was finds is =
     let tops = was.tops in
@@ -125,7 +125,7 @@ held_at_end reader reader_new before now now_new h i offset was finds is =
         scan = found.1;
         tables_are = subst (TablesOf (flat tops)) (sym is.tables_are) at_end.tables_are;
         spans_are = ap (λ v. v.items) is.spans ∙ was.spans_are;
-        used_are = subst (λ (l : List Bool). AreMarked l found.0) (sym (ap (λ v. v.items) is.used)) (are_marked tops found.0 used.blank h.used.items used.none used.are found.1);
+        used_are = subst (λ (l : List Bool). MarksChannels l found.0) (sym (ap (λ v. v.items) is.used)) (are_marked tops found.0 used.blank h.used.items used.none used.are found.1);
         extras_are = ap (λ e. extra_tops e.items) is.extras ∙ was.extras_are;
         profile_is = subst (ProfileIs tops) (sym is.profile) was.profile_is;
       },

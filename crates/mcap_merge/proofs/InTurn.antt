@@ -17,7 +17,7 @@ use Rattle.mcap_model.proofs.NamedTopics.{unmapped}
 use Rattle.mcap_model.proofs.PlacesApart.{scan_rises}
 use Rattle.mcap_model.proofs.Flat.{at_mapped}
 use Rattle.mcap_merge.specs.declared.input.Input.{Input}
-use Rattle.mcap_merge.specs.Inputs.{Read, tops_of, HoldInputs}
+use Rattle.mcap_merge.specs.Inputs.{Read, read_tops, HoldInputs}
 use Rattle.mcap_merge.specs.Writing.{extras_of}
 use Rattle.mcap_merge.proofs.Inserted.{in_order}
 use Rattle.mcap_merge.proofs.Sources.{AreScanned, from_read, sent, message_from}
@@ -64,7 +64,7 @@ sent_one : (m n : Sent) → m.input ≡ n.input → m.seen ≡ n.seen → m ≡ 
 sent_one m n input seen = ap (λ (k : ℕ). sent k m.seen) input ∙ ap (sent n.input) seen
 
 module _ (reads : List Read) (scanned : AreScanned reads) where
-  pub one_message : (m n : Sent) → IsFrom (tops_of reads) m → IsFrom (tops_of reads) n → m.input ≡ n.input → m.seen.place.top ≡ n.seen.place.top → m.seen.place.inner ≡ n.seen.place.inner → m ≡ n
+  pub one_message : (m n : Sent) → IsFrom (read_tops reads) m → IsFrom (read_tops reads) n → m.input ≡ n.input → m.seen.place.top ≡ n.seen.place.top → m.seen.place.inner ≡ n.seen.place.inner → m ≡ n
   one_message m n from_m from_n input top inner =
       let a = from_read reads m scanned from_m in
       let b = from_read reads n scanned from_n in
@@ -75,28 +75,28 @@ module _ (reads : List Read) (scanned : AreScanned reads) where
   abbrev Decided : Sent → Sent → Type 0
   Decided m n = (m ≡ n) ⊎ (MergesBefore m n ⊎ MergesBefore n m)
 
-  by_inner : (m n : Sent) → IsFrom (tops_of reads) m → IsFrom (tops_of reads) n → m.seen.message.log_time ≡ n.seen.message.log_time → m.input ≡ n.input → m.seen.place.top ≡ n.seen.place.top → Decided m n
+  by_inner : (m n : Sent) → IsFrom (read_tops reads) m → IsFrom (read_tops reads) n → m.seen.message.log_time ≡ n.seen.message.log_time → m.input ≡ n.input → m.seen.place.top ≡ n.seen.place.top → Decided m n
   by_inner m n from_m from_n time input top = elim (cases_order m.seen.place.inner n.seen.place.inner) [
     | inl same ↦ inl (one_message m n from_m from_n input top same)
     | inr (inl less) ↦ inr (inl (inr (time, inr (input, inr (top, less)))))
     | inr (inr less) ↦ inr (inr (inr (sym time, inr (sym input, inr (sym top, less)))))
   ]
 
-  by_top : (m n : Sent) → IsFrom (tops_of reads) m → IsFrom (tops_of reads) n → m.seen.message.log_time ≡ n.seen.message.log_time → m.input ≡ n.input → Decided m n
+  by_top : (m n : Sent) → IsFrom (read_tops reads) m → IsFrom (read_tops reads) n → m.seen.message.log_time ≡ n.seen.message.log_time → m.input ≡ n.input → Decided m n
   by_top m n from_m from_n time input = elim (cases_order m.seen.place.top n.seen.place.top) [
     | inl same ↦ by_inner m n from_m from_n time input same
     | inr (inl less) ↦ inr (inl (inr (time, inr (input, inl less))))
     | inr (inr less) ↦ inr (inr (inr (sym time, inr (sym input, inl less))))
   ]
 
-  by_input : (m n : Sent) → IsFrom (tops_of reads) m → IsFrom (tops_of reads) n → m.seen.message.log_time ≡ n.seen.message.log_time → Decided m n
+  by_input : (m n : Sent) → IsFrom (read_tops reads) m → IsFrom (read_tops reads) n → m.seen.message.log_time ≡ n.seen.message.log_time → Decided m n
   by_input m n from_m from_n time = elim (cases_order m.input n.input) [
     | inl same ↦ by_top m n from_m from_n time same
     | inr (inl less) ↦ inr (inl (inr (time, inl less)))
     | inr (inr less) ↦ inr (inr (inr (sym time, inl less)))
   ]
 
-  merges_either : (m n : Sent) → IsFrom (tops_of reads) m → IsFrom (tops_of reads) n → Decided m n
+  merges_either : (m n : Sent) → IsFrom (read_tops reads) m → IsFrom (read_tops reads) n → Decided m n
   merges_either m n from_m from_n = elim (cases_order m.seen.message.log_time n.seen.message.log_time) [
     | inl same ↦ by_input m n from_m from_n same
     | inr (inl less) ↦ inr (inl (inl less))
@@ -146,17 +146,17 @@ lists number (x ∷ rs) (suc place) r s at has =
     let is : suc number + place ≡ number + suc place = omega arith in
     subst (λ (n : ℕ). Has (sents_from number (x ∷ rs)) (sent n s)) is (has_second (map (sent number) x.messages) (sents_from (suc number) rs) (sent (suc number + place) s) (lists (suc number) rs place r s at has))
 
-listed_from : (reads : List Read) → AreScanned reads → (k : ℕ) (m : Sent) → At (sents_from 0 reads) k m → IsFrom (tops_of reads) m
+listed_from : (reads : List Read) → AreScanned reads → (k : ℕ) (m : Sent) → At (sents_from 0 reads) k m → IsFrom (read_tops reads) m
 listed_from reads scanned k m at =
     let is = listed 0 reads k m at in
     let number : is.place ≡ m.input = omega (arith, is.input) in
     message_from reads m.input is.read m.seen (subst (λ (n : ℕ). At reads n is.read) number is.at) (scanned is.place is.read is.at).1 is.has
 
 -- they can be put in order
-pub messages_there : (reads : List Read) → AreScanned reads → (messages : List Sent) × AreInTurn (tops_of reads) messages
+pub messages_there : (reads : List Read) → AreScanned reads → (messages : List Sent) × AreInTurn (read_tops reads) messages
 messages_there reads scanned =
     let all = sents_from 0 reads in
-    let (messages, is) = in_order MergesBefore (IsFrom (tops_of reads)) merges_next (merges_either reads scanned) all (listed_from reads scanned) in
+    let (messages, is) = in_order MergesBefore (IsFrom (read_tops reads)) merges_next (merges_either reads scanned) all (listed_from reads scanned) in
     let are = is.are in
     let kept = is.all in (
       messages,
@@ -172,7 +172,7 @@ messages_there reads scanned =
 
 -- ---- extras
 
-pub extras_are : (reads : List Read) (inputs : List Input) → HoldInputs reads inputs → extras_of inputs ≡ flat_map (filter is_extra) (tops_of reads)
+pub extras_are : (reads : List Read) (inputs : List Input) → HoldInputs reads inputs → extras_of inputs ≡ flat_map (filter is_extra) (read_tops reads)
 extras_are [] [] hold = refl
 extras_are [] (i ∷ is) hold = absurd hold
 extras_are (r ∷ rs) [] hold = absurd hold

@@ -14,13 +14,13 @@ use Rattle.id_table.specs.declared.given.Given.{Given}
 use Rattle.id_table.specs.declared.given.Given.TheVariants.{Known, New}
 use Rattle.id_table.specs.declared.given.GivenIds.{GivenIds}
 use Rattle.record_core.specs.Ids.{Ids, ids_of, with_ids, schemas_in, channels_in, channel_place, channel_id, id_at, new_at, new_records}
-use Rattle.record_core.specs.Tables.{ids_in, HasSchemas, IsIdAt, GivesIds, number_of}
+use Rattle.record_core.specs.Tables.{ids_in, HasSchemas, IsIdAt, GivesIds, id_given}
 use Rattle.record_core.proofs.Searches.{schemas_more, channels_more}
 use Rattle.record_core.proofs.TableIds.{id_found, channel_missed}
 use Rattle.record_core.proofs.Giving.{given_id, given_records}
 use Rattle.mcap_merge.specs.declared.joining.Joiner.{Joiner}
 use Rattle.mcap_model.specs.Merged.{IsContent}
-use Rattle.mcap_merge.specs.Joining.{IsGiven, JoinerStands, IsChosen}
+use Rattle.mcap_merge.specs.Joining.{HasMergedId, JoinerStands, IsChosen}
 
 -- ---- ids of histories
 
@@ -99,7 +99,7 @@ stands_behind inputs history j channel m stands = record {
 -- ---- what is chosen
 
 -- a content that has an id
-pub chosen_known : (inputs : List (List Top)) (tops : List Top) (history : List Rec) (source : ℕ) (j : Joiner) (id : ℕ) → HasSchemas j.table → EachOnce j.table.channels → JoinerStands inputs history j → IsGiven tops j source id
+pub chosen_known : (inputs : List (List Top)) (tops : List Top) (history : List Rec) (source : ℕ) (j : Joiner) (id : ℕ) → HasSchemas j.table → EachOnce j.table.channels → JoinerStands inputs history j → HasMergedId tops j source id
     → IsChosen inputs tops history source j (record { id = id; declared = None })
 chosen_known inputs tops history source j id schemas once stands (d, is, has) =
     let found : IsIdAt (channel_place (ids_in j.table) d) (Some id) = id_found j.table d (Some id) schemas once has in
@@ -117,11 +117,11 @@ pub chosen_found : (inputs : List (List Top)) (tops : List Top) (history : List 
     → k.given.items ≡ set j.given.items (number * 65536 + source) id → JoinerStands inputs history j → At inputs number tops → IsContent (flat tops) source d → HasId j.table.channels d id
     → IsChosen inputs tops history source k (record { id = id; declared = None })
 chosen_found inputs tops history j k number source id d short schemas once same noted stands at is has =
-    let has_now : HasId k.table.channels d id = subst (λ (t : tables.Ids). HasId t.channels d id) (sym same) has in
-    let now : JoinerStands inputs history k = stands_set inputs history history j k number source id tops d short (ap ids_in same ∙ stands.ids_are) (λ e i had. subst (λ (t : tables.Ids). HasId t.channels e i) (sym same) had) at is has_now noted stands in
-    chosen_known inputs tops history source k id (subst HasSchemas (sym same) schemas) (subst (λ (t : tables.Ids). EachOnce t.channels) (sym same) once) now (d, is, has_now)
+    let has_now : HasId k.table.channels d id = subst (λ (t : tables.IdContents). HasId t.channels d id) (sym same) has in
+    let now : JoinerStands inputs history k = stands_set inputs history history j k number source id tops d short (ap ids_in same ∙ stands.ids_are) (λ e i had. subst (λ (t : tables.IdContents). HasId t.channels e i) (sym same) had) at is has_now noted stands in
+    chosen_known inputs tops history source k id (subst HasSchemas (sym same) schemas) (subst (λ (t : tables.IdContents). EachOnce t.channels) (sym same) once) now (d, is, has_now)
 
-gives_id : (xs ys : List ChannelDef) (d : ChannelDef) (g : Given) → Lacks xs d → Offers xs d g → ys ≡ with_given xs d g → HasId ys d (number_of g)
+gives_id : (xs ys : List ChannelDef) (d : ChannelDef) (g : Given) → Lacks xs d → Offers xs d g → ys ≡ with_given xs d g → HasId ys d (id_given g)
 gives_id xs ys d (Known id) lacks is same = absurd (lacks (id - 1) is.1)
 gives_id xs ys d (New id) lacks is same =
     let place : length xs ≡ id - 1 = omega (arith, is.1) in
@@ -133,7 +133,7 @@ keeps_id xs ys d e (New id) i same has = subst (λ (l : List ChannelDef). HasId 
 
 -- one that is new
 pub chosen_new : (inputs : List (List Top)) (tops : List Top) (history : List Rec) (j k : Joiner) (number source id : ℕ) (d : ChannelDef) (ids : GivenIds) → source < 65536 → channel_place (ids_in j.table) d ≡ None
-    → GivesIds (ids_in j.table) d ids → ids_in k.table ≡ with_ids (ids_in j.table) (new_records (ids_in j.table) d) → Declares j.table d ids k.table → id ≡ number_of ids.channel
+    → GivesIds (ids_in j.table) d ids → ids_in k.table ≡ with_ids (ids_in j.table) (new_records (ids_in j.table) d) → Declares j.table d ids k.table → id ≡ id_given ids.channel
     → k.given.items ≡ set j.given.items (number * 65536 + source) id → JoinerStands inputs history j → At inputs number tops → IsContent (flat tops) source d
     → IsChosen inputs tops history source k (record { id = id; declared = Some (record { content = d; ids = ids }) })
 chosen_new inputs tops history j k number source id d ids short none gives after declares id_is noted stands at is =

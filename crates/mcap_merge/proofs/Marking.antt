@@ -13,16 +13,16 @@ use Rattle.rec_data.specs.Records.{ShowsMessage}
 use Rattle.mcap_model.specs.Places.{At, Has}
 use Rattle.mcap_model.specs.Fields.{MessageFields}
 use Rattle.mcap_model.specs.Made.{top}
-use Rattle.mcap_model.specs.Tops.{Top, Placed, top_bytes, opened, records_in, is_flat_kind, flattened, flat, placed}
+use Rattle.mcap_model.specs.Tops.{Top, Placed, top_bytes, unchunked, records_in, is_flat_kind, flattened, flat, placed}
 use Rattle.mcap_model.specs.Scan.{Seen, IsSeen, Scan, is_message_top, tops_of}
 use Rattle.mcap_model.proofs.Places.{at_none, at_one, at_set, at_set_same}
 use Rattle.mcap_model.proofs.NamedTopics.{unmapped, zip_back}
 use Rattle.mcap_model.proofs.Flat.{placed_tops, at_mapped, map-append}
 use Rattle.record_walk.specs.declared.heads.MessageHead.{MessageHead}
-use Rattle.record_walk.specs.Heads.{channel_in, is_headed, head_of}
+use Rattle.record_walk.specs.Heads.{channel_id_in, is_headed, head_of}
 use Rattle.chunk_survey.specs.Heads.{set_at, heads_one, heads_from}
 use Rattle.mcap_merge.proofs.Headed.{headed_message, scan_headed}
-use Rattle.mcap_merge.specs.Marks.{channels_in, channels_of, channels_under, with_mark, with_marks, AreUnmarked, AreMarked}
+use Rattle.mcap_merge.specs.Marks.{listed_channels, message_channels, channels_under, with_mark, with_marks, AreUnmarked, MarksChannels}
 
 -- ---- marks
 
@@ -61,30 +61,30 @@ marks_back marks (i ∷ is) n at = elim (marks_back (set marks i true) is n at) 
 -- ---- the channels of records
 
 -- the channel that a Message's content shows stands at its front
-pub channel_shown : (content : List ℕ) (channel : ℕ) (m : MessageFields) → ShowsMessage content channel m → channel_in content ≡ channel
+pub channel_shown : (content : List ℕ) (channel : ℕ) (m : MessageFields) → ShowsMessage content channel m → channel_id_in content ≡ channel
 channel_shown content channel m shows =
     let front : take 2 content ≡ le 2 channel = ap (take 2) shows.spelled_there ∙ take_at (le 2 channel) _ 2 (length-le 2 channel) in
     ap number front ∙ number-le 2 channel shows.fit.0
 
-zip_channels : (records : List Top) (ps : List Placed) (messages : List Seen) → AllZip (IsSeen records) ps messages → map (λ s. s.channel) messages ≡ map (λ p. channel_in p.top.content) ps
+zip_channels : (records : List Top) (ps : List Placed) (messages : List Seen) → AllZip (IsSeen records) ps messages → map (λ s. s.channel) messages ≡ map (λ p. channel_id_in p.top.content) ps
 zip_channels records [] [] zip = refl
 zip_channels records [] (m ∷ ms) zip = absurd zip
 zip_channels records (p ∷ ps) [] zip = absurd zip
 zip_channels records (p ∷ ps) (m ∷ ms) zip =
     ap (λ (l : List ℕ). m.channel ∷ l) (zip_channels records ps ms zip.1)
-    ∙ ap (λ (n : ℕ). n ∷ map (λ (q : Placed). channel_in q.top.content) ps) (sym (channel_shown p.top.content m.channel m.message zip.0.is.layout))
+    ∙ ap (λ (n : ℕ). n ∷ map (λ (q : Placed). channel_id_in q.top.content) ps) (sym (channel_shown p.top.content m.channel m.message zip.0.is.layout))
 
-of_placed : (ps : List Placed) → map (λ p. channel_in p.top.content) (filter (λ p. is_headed p.top) ps) ≡ channels_of (tops_of ps)
+of_placed : (ps : List Placed) → map (λ p. channel_id_in p.top.content) (filter (λ p. is_headed p.top) ps) ≡ message_channels (tops_of ps)
 of_placed [] = refl
 of_placed (p ∷ ps) = by (is_headed p.top) (of_placed ps)
   where
-    by : (b : Bool) → map (λ (q : Placed). channel_in q.top.content) (filter (λ q. is_headed q.top) ps) ≡ channels_of (tops_of ps)
-        → map (λ (q : Placed). channel_in q.top.content) (cond b (p ∷ filter (λ q. is_headed q.top) ps) (filter (λ q. is_headed q.top) ps)) ≡ map (λ (t : Top). channel_in t.content) (cond b (p.top ∷ filter is_headed (tops_of ps)) (filter is_headed (tops_of ps)))
-    by true rest = ap (λ (l : List ℕ). channel_in p.top.content ∷ l) rest
+    by : (b : Bool) → map (λ (q : Placed). channel_id_in q.top.content) (filter (λ q. is_headed q.top) ps) ≡ message_channels (tops_of ps)
+        → map (λ (q : Placed). channel_id_in q.top.content) (cond b (p ∷ filter (λ q. is_headed q.top) ps) (filter (λ q. is_headed q.top) ps)) ≡ map (λ (t : Top). channel_id_in t.content) (cond b (p.top ∷ filter is_headed (tops_of ps)) (filter is_headed (tops_of ps)))
+    by true rest = ap (λ (l : List ℕ). channel_id_in p.top.content ∷ l) rest
     by false rest = rest
 
-channels_joined : (xs ys : List Top) → channels_of (xs ++ ys) ≡ channels_of xs ++ channels_of ys
-channels_joined xs ys = ap (map (λ (t : Top). channel_in t.content)) (filter-append is_headed xs ys) ∙ map-append (λ (t : Top). channel_in t.content) (filter is_headed xs) (filter is_headed ys)
+channels_joined : (xs ys : List Top) → message_channels (xs ++ ys) ≡ message_channels xs ++ message_channels ys
+channels_joined xs ys = ap (map (λ (t : Top). channel_id_in t.content)) (filter-append is_headed xs ys) ∙ map-append (λ (t : Top). channel_id_in t.content) (filter is_headed xs) (filter is_headed ys)
 
 -- a Message is of a flat kind
 pub messages_flat : (ts : List Top) → filter is_headed (filter is_flat_kind ts) ≡ filter is_headed ts
@@ -110,23 +110,23 @@ messages_flat (t ∷ ts) = by (is_headed t) refl (messages_flat ts)
         left (is_flat_kind t) other rest
         ∙ sym (ap (λ (c : Bool). cond c (t ∷ filter is_headed ts) (filter is_headed ts)) other)
 
-channels_flat : (tops : List Top) → channels_of (flat tops) ≡ channels_under tops
+channels_flat : (tops : List Top) → message_channels (flat tops) ≡ channels_under tops
 channels_flat [] = refl
 channels_flat (t ∷ ts) =
     channels_joined (flattened t) (flat ts)
-    ∙ ap (λ (l : List ℕ). l ++ channels_of (flat ts)) (ap (map (λ (u : Top). channel_in u.content)) (messages_flat (opened t)))
-    ∙ ap (λ (l : List ℕ). channels_of (opened t) ++ l) (channels_flat ts)
+    ∙ ap (λ (l : List ℕ). l ++ message_channels (flat ts)) (ap (map (λ (u : Top). channel_id_in u.content)) (messages_flat (unchunked t)))
+    ∙ ap (λ (l : List ℕ). message_channels (unchunked t) ++ l) (channels_flat ts)
 
 -- those of a scan
 scan_channels : (tops : List Top) (messages : List Seen) → Scan tops messages → map (λ s. s.channel) messages ≡ channels_under tops
 scan_channels tops messages scan =
     zip_channels (tops_of (placed tops)) (filter (λ p. is_message_top p.top) (placed tops)) messages scan
-    ∙ ap (map (λ (p : Placed). channel_in p.top.content)) (sym (scan_headed (tops_of (placed tops)) (placed tops) messages scan))
+    ∙ ap (map (λ (p : Placed). channel_id_in p.top.content)) (sym (scan_headed (tops_of (placed tops)) (placed tops) messages scan))
     ∙ of_placed (placed tops)
-    ∙ ap channels_of (placed_tops 8 tops)
+    ∙ ap message_channels (placed_tops 8 tops)
     ∙ channels_flat tops
 
-pub are_marked : (tops : List Top) (messages : List Seen) (blank marks : List Bool) → AreUnmarked blank → marks ≡ with_marks blank (channels_under tops) → Scan tops messages → AreMarked marks messages
+pub are_marked : (tops : List Top) (messages : List Seen) (blank marks : List Bool) → AreUnmarked blank → marks ≡ with_marks blank (channels_under tops) → Scan tops messages → MarksChannels marks messages
 are_marked tops messages blank marks none is scan =
     let same = scan_channels tops messages scan in
     record {
@@ -150,29 +150,29 @@ are_marked tops messages blank marks none is scan =
 
 -- ---- one record more
 
-pub marks_more : (blank old new : List Bool) (tops : List Top) (t : Top) → old ≡ with_marks blank (channels_under tops) → new ≡ with_marks old (channels_of (opened t)) → new ≡ with_marks blank (channels_under (tops ++ t ∷ []))
+pub marks_more : (blank old new : List Bool) (tops : List Top) (t : Top) → old ≡ with_marks blank (channels_under tops) → new ≡ with_marks old (message_channels (unchunked t)) → new ≡ with_marks blank (channels_under (tops ++ t ∷ []))
 marks_more blank old new tops t was grown =
     grown
-    ∙ ap (λ (l : List Bool). with_marks l (channels_of (opened t))) was
-    ∙ sym (fold-append with_mark blank (channels_under tops) (channels_of (opened t)))
-    ∙ sym (ap (with_marks blank) (flat_map-append (λ (u : Top). channels_of (opened u)) tops (t ∷ []) ∙ ap (λ (l : List ℕ). channels_under tops ++ l) (append-nil (channels_of (opened t)))))
+    ∙ ap (λ (l : List Bool). with_marks l (message_channels (unchunked t))) was
+    ∙ sym (fold-append with_mark blank (channels_under tops) (message_channels (unchunked t)))
+    ∙ sym (ap (with_marks blank) (flat_map-append (λ (u : Top). message_channels (unchunked u)) tops (t ∷ []) ∙ ap (λ (l : List ℕ). channels_under tops ++ l) (append-nil (message_channels (unchunked t)))))
 
 -- ---- what is listed
 
-channels_one : (at : ℕ) (t : Top) (b : Bool) → is_headed t ≡ b → channels_in (heads_one at t) ≡ channels_of (t ∷ [])
+channels_one : (at : ℕ) (t : Top) (b : Bool) → is_headed t ≡ b → listed_channels (heads_one at t) ≡ message_channels (t ∷ [])
 channels_one at t b is =
-    ap (λ (c : Bool). channels_in (cond c (head_of (set_at at t) ∷ []) [])) is
+    ap (λ (c : Bool). listed_channels (cond c (head_of (set_at at t) ∷ []) [])) is
     ∙ by b
-    ∙ sym (ap (λ (c : Bool). map (λ (u : Top). channel_in u.content) (cond c (t ∷ []) [])) is)
+    ∙ sym (ap (λ (c : Bool). map (λ (u : Top). channel_id_in u.content) (cond c (t ∷ []) [])) is)
   where
-    by : (c : Bool) → channels_in (cond c (head_of (set_at at t) ∷ []) []) ≡ map (λ (u : Top). channel_in u.content) (cond c (t ∷ []) [])
+    by : (c : Bool) → listed_channels (cond c (head_of (set_at at t) ∷ []) []) ≡ map (λ (u : Top). channel_id_in u.content) (cond c (t ∷ []) [])
     by true = refl
     by false = refl
 
-pub channels_listed : (at : ℕ) (tops : List Top) → channels_in (heads_from at tops) ≡ channels_of tops
+pub channels_listed : (at : ℕ) (tops : List Top) → listed_channels (heads_from at tops) ≡ message_channels tops
 channels_listed at [] = refl
 channels_listed at (t ∷ ts) =
     map-append (λ (h : MessageHead). h.channel) (heads_one at t) (heads_from (at + length (top_bytes t)) ts)
-    ∙ ap (λ (l : List ℕ). l ++ channels_in (heads_from (at + length (top_bytes t)) ts)) (channels_one at t (is_headed t) refl)
-    ∙ ap (λ (l : List ℕ). channels_of (t ∷ []) ++ l) (channels_listed (at + length (top_bytes t)) ts)
+    ∙ ap (λ (l : List ℕ). l ++ listed_channels (heads_from (at + length (top_bytes t)) ts)) (channels_one at t (is_headed t) refl)
+    ∙ ap (λ (l : List ℕ). message_channels (t ∷ []) ++ l) (channels_listed (at + length (top_bytes t)) ts)
     ∙ sym (channels_joined (t ∷ []) ts)

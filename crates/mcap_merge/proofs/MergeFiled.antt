@@ -20,7 +20,7 @@ use Rattle.chunk_walk.specs.declared.answers.WalkRefused.{WalkRefused}
 use Rattle.chunk_walk.specs.declared.answers.WalkRefused.TheVariants as walks
 use Rattle.chunk_walk.specs.declared.pieces.Piece.{Piece}
 use Rattle.chunk_walk.specs.declared.walk.Walk.{Walk}
-use Rattle.chunk_walk.specs.Pieces.{Files}
+use Rattle.chunk_walk.specs.Pieces.{InputBytes}
 use Rattle.chunk_walk.specs.Stores.{files_of, StoresFit, StoresStay, AskedWithin, unasked, none_left}
 use Rattle.chunk_walk.specs.Walks.{Text, pieces_in, WalkStands, AllGiven}
 use Rattle.mcap_merge.specs.declared.answers.MergeRefused.{MergeRefused}
@@ -31,16 +31,16 @@ use Rattle.mcap_merge.specs.declared.merge_stores.Ready.{Ready}
 use Rattle.mcap_merge.specs.declared.turns.PutRefused.{PutRefused}
 use Rattle.mcap_merge.specs.declared.turns.PutRefused.TheVariants as puts
 use Rattle.mcap_merge.specs.Uses.{Use, history_of}
-use Rattle.mcap_merge.specs.Inputs.{Read, tops_of, extra_top, extra_tops, HoldsInput, HoldInputs}
+use Rattle.mcap_merge.specs.Inputs.{Read, read_tops, extra_top, extra_tops, HoldsInput, HoldInputs}
 use Rattle.mcap_merge.specs.Pieces.{pieces_from}
-use Rattle.mcap_merge.specs.Reading.{StoreKeeps, AsksOnce}
+use Rattle.mcap_merge.specs.Reading.{StoreKeeps, AsksWithinLength}
 use Rattle.mcap_merge.specs.Writing.{extras_of}
-use Rattle.mcap_merge.specs.Sound.{IsSound}
+use Rattle.mcap_merge.specs.Sound.{IsSoundHistory}
 use Rattle.mcap_merge.specs.Overlap.{IsPeak}
 use Rattle.mcap_merge.specs.Turns.{IsUseOfTurn, IsChanged, WhyNotAll, stop_of, PutCounts}
 use Rattle.mcap_merge.specs.Putting.{MergeStart, WholeStands}
 use Rattle.mcap_merge.specs.Filed.{merged_options, AllTell, TellsNot, MergeIs, FileStands, MergesInto, IsCutBy, MergeIsCut, MergeFails, AsksTwice}
-use Rattle.mcap_merge.specs.Filing.{IsReady, FilesAs, FileStops, IsPutRefusal}
+use Rattle.mcap_merge.specs.Filing.{IsReadyToWrite, FilesAs, FileStops, IsPutRefusal}
 use Rattle.mcap_merge.proofs.Lengths.{history_few}
 use Rattle.mcap_merge.proofs.Profiles.{zip_length, held_length}
 use Rattle.mcap_merge.proofs.Sound.{is_sound, merge_sound}
@@ -56,13 +56,13 @@ has_dropped zero xs k x at = (k, at)
 has_dropped (suc n) [] k x at = absurd (at_none k x at)
 has_dropped (suc n) (y ∷ ys) k x at = let (m, there) = has_dropped n ys k x at in (suc m, there)
 
-good_all : (reads : List Read) (inputs : List Input) → HoldInputs reads inputs → Each (Good reading_limits) (tops_of reads)
+good_all : (reads : List Read) (inputs : List Input) → HoldInputs reads inputs → Each (Good reading_limits) (read_tops reads)
 good_all reads inputs hold n tops at =
     let (r, there, same) = unmapped (λ (x : Read). x.tops) reads n tops at in
     let (i, here, holds) = zip_front HoldsInput reads inputs n r hold there in
     subst (Good reading_limits) same holds.good
 
-module _ (olds mids : List StoreState) (chunk : ℕ) (r : Ready) (ready : IsReady olds mids chunk r) (keeps : AllZip StoreKeeps olds mids) where
+module _ (olds mids : List StoreState) (chunk : ℕ) (r : Ready) (ready : IsReadyToWrite olds mids chunk r) (keeps : AllZip StoreKeeps olds mids) where
   abbrev inputs : List Input
   inputs = r.gathered.inputs.items
 
@@ -110,12 +110,12 @@ module _ (olds mids : List StoreState) (chunk : ℕ) (r : Ready) (ready : IsRead
         good = good_all reads inputs ready.gathered.hold;
         profile_is = prepared.merge.profile_is;
         extras_are = prepared.merge.extras_are;
-        sound = merge_sound (tops_of reads) profile extras (history_of prepared.uses) prepared.merge prepared.back extras_meet;
+        sound = merge_sound (read_tops reads) profile extras (history_of prepared.uses) prepared.merge prepared.back extras_meet;
         of = λ tell. prepared.merge;
       }
 
   -- where all turns were given
-  whole_is : (w : Walk) (texts : List Text) (given : List Turn) (uses : List Use) → pieces_in w ≡ pieces_in r.begun.walk → AllGiven (files_of mids) (pieces_in w) texts given → AllZip (IsUseOfTurn (tops_of reads) texts) given uses → MergeIs olds profile extras (history_of uses)
+  whole_is : (w : Walk) (texts : List Text) (given : List Turn) (uses : List Use) → pieces_in w ≡ pieces_in r.begun.walk → AllGiven (files_of mids) (pieces_in w) texts given → AllZip (IsUseOfTurn (read_tops reads) texts) given uses → MergeIs olds profile extras (history_of uses)
   whole_is w texts given uses is all zip =
       let prepared = ready.gathered.prepared in
       record {
@@ -124,8 +124,8 @@ module _ (olds mids : List StoreState) (chunk : ℕ) (r : Ready) (ready : IsRead
         good = good_all reads inputs ready.gathered.hold;
         profile_is = prepared.merge.profile_is;
         extras_are = prepared.merge.extras_are;
-        sound = is_sound (tops_of reads) texts given uses extras prepared.suffice zip all.rise extras_meet;
-        of = λ tell. merged_told olds reads inputs (pieces_in w) texts given uses profile (told_of (pieces_in w) is tell) (subst (λ (f : Files). AllGiven f (pieces_in w) texts given) same_files all) zip prepared.merge.profile_is;
+        sound = is_sound (read_tops reads) texts given uses extras prepared.suffice zip all.rise extras_meet;
+        of = λ tell. merged_told olds reads inputs (pieces_in w) texts given uses profile (told_of (pieces_in w) is tell) (subst (λ (f : InputBytes). AllGiven f (pieces_in w) texts given) same_files all) zip prepared.merge.profile_is;
       }
 
   -- some records, and maybe some behind them, are those of the merge
@@ -133,14 +133,14 @@ module _ (olds mids : List StoreState) (chunk : ℕ) (r : Ready) (ready : IsRead
   BeginsMerge uses = (more : List Rec) × MergeIs olds profile extras (history_of uses ++ more)
 
   -- where some turns were
-  part_is : (w : Walk) (texts : List Text) (given : List Turn) (uses : List Use) → pieces_in w ≡ pieces_in r.begun.walk → WalkStands (files_of mids) w texts given → AllZip (IsUseOfTurn (tops_of reads) texts) given uses → BeginsMerge uses
+  part_is : (w : Walk) (texts : List Text) (given : List Turn) (uses : List Use) → pieces_in w ≡ pieces_in r.begun.walk → WalkStands (files_of mids) w texts given → AllZip (IsUseOfTurn (read_tops reads) texts) given uses → BeginsMerge uses
   part_is w texts given uses is stands zip = elim (all_tell olds) [
     | inl tell ↦
         let prepared = ready.gathered.prepared in
-        let (more, same) = told_begins olds reads inputs w texts given uses prepared.messages prepared.uses (told_of (pieces_in w) is tell) (subst (λ (f : Files). WalkStands f w texts given) same_files stands) zip prepared.in_turn prepared.used in
+        let (more, same) = told_begins olds reads inputs w texts given uses prepared.messages prepared.uses (told_of (pieces_in w) is tell) (subst (λ (f : InputBytes). WalkStands f w texts given) same_files stands) zip prepared.in_turn prepared.used in
         (more, subst (MergeIs olds profile extras) same prepared_is)
     | inr some ↦
-        let sound : IsSound extras (history_of uses) = is_sound (tops_of reads) texts given uses extras ready.gathered.prepared.suffice zip stands.queues.rise extras_meet in (
+        let sound : IsSoundHistory extras (history_of uses) = is_sound (read_tops reads) texts given uses extras ready.gathered.prepared.suffice zip stands.queues.rise extras_meet in (
           [],
           record {
             reads = reads;
@@ -148,7 +148,7 @@ module _ (olds mids : List StoreState) (chunk : ℕ) (r : Ready) (ready : IsRead
             good = good_all reads inputs ready.gathered.hold;
             profile_is = ready.gathered.prepared.merge.profile_is;
             extras_are = ready.gathered.prepared.merge.extras_are;
-            sound = subst (IsSound extras) (sym (append-nil (history_of uses))) sound;
+            sound = subst (IsSoundHistory extras) (sym (append-nil (history_of uses))) sound;
             of = λ tell. absurd (some tell);
           },
         )
@@ -172,7 +172,7 @@ module _ (olds mids : List StoreState) (chunk : ℕ) (r : Ready) (ready : IsRead
         is = whole_is whole.walk whole.texts whole.given us whole.pieces whole.all_given zip;
         messages = counted.messages;
         records = counted.records ∙ all_counted (length history) (omega (arith, history_few options extras history, file.1.small));
-        peak = subst (IsPeak (tops_of reads)) (sym whole.peak) (peak_is reads inputs whole.walk ready.gathered.hold same whole.loaded whole.stands.peak);
+        peak = subst (IsPeak (read_tops reads)) (sym whole.peak) (peak_is reads inputs whole.walk ready.gathered.hold same whole.loaded whole.stands.peak);
         file = file.0;
         within = file.1;
         inputs_still = counts_behind olds mids news stay ready.still counts.0;
@@ -244,7 +244,7 @@ module _ (olds mids : List StoreState) (chunk : ℕ) (r : Ready) (ready : IsRead
   files_some news opened now (puts.Unread (walks.Changed input offset)) why stay stops counts cause answer =
       let other : TellsNot olds input = λ s at bytes told.
       let tell : TellsAt olds input = λ store there. (bytes, ap (λ (x : StoreState). x.bytes) (at_one olds input store s there at) ∙ told) in
-      told_stays olds reads inputs r.begun.walk input offset tell (listed_of (pieces_in r.begun.walk) refl) (subst (λ (f : Files). IsChanged f r.begun.walk inputs input offset) same_files cause) in
+      told_stays olds reads inputs r.begun.walk input offset tell (listed_of (pieces_in r.begun.walk) refl) (subst (λ (f : InputBytes). IsChanged f r.begun.walk inputs input offset) same_files cause) in
       let because : IsCutBy olds news (merges.Changed input offset) = (changed_within input offset (stores_fit_in mids inputs (pieces_in r.begun.walk) ready.fits ready.begun.pieces) cause, counts_behind olds mids news stay ready.still counts.0, other) in
       inr (inr (files_cut news opened now why (walks.Changed input offset) stops counts.1 (subst (IsCutBy olds news) (sym answer) because)))
   files_some news opened now (puts.Unread (walks.Refused input (refusals.Fault faults))) why stay stops counts cause answer =
@@ -263,7 +263,7 @@ module _ (olds mids : List StoreState) (chunk : ℕ) (r : Ready) (ready : IsRead
   pub pieces_fit : StoresFit mids (pieces_in r.begun.walk)
   pieces_fit = stores_fit_in mids inputs (pieces_in r.begun.walk) ready.fits ready.begun.pieces
 
-  pub asked_then : (news : List StoreState) → StoresStay mids news → AllZip AsksOnce olds mids → AskedWithin mids news (unasked r.begun.walk) none_left → AllZip AsksTwice olds news
+  pub asked_then : (news : List StoreState) → StoresStay mids news → AllZip AsksWithinLength olds mids → AskedWithin mids news (unasked r.begun.walk) none_left → AllZip AsksTwice olds news
   asked_then news stay once within = asked_behind olds mids news stay r.begun.walk once within (asked_sum reads mids inputs (pieces_in r.begun.walk) ready.gathered.hold ready.fits ready.begun.pieces)
 
   pub kept_then : {X : Type 0} (news : List StoreState) (before now : ℕ) (result : Result X PutRefused) → StoresStay mids news → PutCounts mids news before now result → AllZip StoreKeeps olds news

@@ -7,7 +7,7 @@ use Rattle.mcap_model.specs.Tops.{Top}
 use Rattle.mcap_model.specs.Repaired.{is_extra}
 use Rattle.mcap_model.specs.Merged.{Sent, IsFrom, CommonProfile}
 use Rattle.mcap_merge.specs.declared.input.Input.{Input}
-use Rattle.mcap_merge.specs.Inputs.{Read, tops_of, HoldInputs}
+use Rattle.mcap_merge.specs.Inputs.{Read, read_tops, HoldInputs}
 use Rattle.mcap_merge.specs.Uses.{Use, history_of, IsUse, AreUses}
 use Rattle.mcap_merge.specs.Contents.{IdsSuffice}
 use Rattle.mcap_merge.specs.Gathering.{IsPrepared}
@@ -45,9 +45,9 @@ whole_use inputs m suffice from =
       ),
     )
 
-pub merge_there : (reads : List Read) (profile : List ℕ) → AreScanned reads → IdsSuffice (tops_of reads) → CommonProfile (tops_of reads) profile → IsPrepared reads profile (flat_map (filter is_extra) (tops_of reads))
+pub merge_there : (reads : List Read) (profile : List ℕ) → AreScanned reads → IdsSuffice (read_tops reads) → CommonProfile (read_tops reads) profile → IsPrepared reads profile (flat_map (filter is_extra) (read_tops reads))
 merge_there reads profile scanned suffice common =
-    let inputs = tops_of reads in
+    let inputs = read_tops reads in
     let (messages, turn) = messages_there reads scanned in
     let are = turn.are in
     let (uses, zip) = zip_from (WholeUse inputs) messages (λ n m at. whole_use inputs m suffice (are m (n, at))) in
@@ -73,6 +73,6 @@ merge_there reads profile scanned suffice common =
       };
     }
 
-pub prepared : (reads : List Read) (inputs : List Input) (profile : List ℕ) → HoldInputs reads inputs → IdsSuffice (tops_of reads) → CommonProfile (tops_of reads) profile → IsPrepared reads profile (extras_of inputs)
+pub prepared : (reads : List Read) (inputs : List Input) (profile : List ℕ) → HoldInputs reads inputs → IdsSuffice (read_tops reads) → CommonProfile (read_tops reads) profile → IsPrepared reads profile (extras_of inputs)
 prepared reads inputs profile hold suffice common =
     subst (IsPrepared reads profile) (sym (extras_are reads inputs hold)) (merge_there reads profile (are_scanned reads inputs hold) suffice common)

@@ -18,9 +18,9 @@ use Rattle.mcap_model.proofs.OneMore.{taken_more}
 use Rattle.mcap_merge.specs.declared.input.Extra.{Extra}
 use Rattle.mcap_merge.specs.declared.input.Input.{Input}
 use Rattle.mcap_model.specs.Merged.{CommonProfile}
-use Rattle.mcap_merge.specs.Inputs.{Read, tops_of, extra_top, extra_tops, HoldsInput, HoldInputs}
+use Rattle.mcap_merge.specs.Inputs.{Read, read_tops, extra_top, extra_tops, HoldsInput, HoldInputs}
 use Rattle.mcap_io.specs.Stores.{StoreState}
-use Rattle.mcap_merge.specs.Reading.{IsReadOf, AreHeld}
+use Rattle.mcap_merge.specs.Reading.{IsReadOf, AllReadWhole}
 use Rattle.mcap_merge.specs.Writing.{ExtrasMeet, extras_of}
 
 -- lists that stand beside each other are as long
@@ -40,18 +40,18 @@ profile_once (t ∷ ts) p q (h, one) (g, other) =
     let equal : h.profile ≡ g.profile = cc same in
     sym one ∙ equal ∙ other
 
-held_profile : (reads : List Read) (inputs : List Input) (k : ℕ) (x : Input) (p : List ℕ) → HoldInputs reads inputs → At inputs k x → Each (λ tops. ProfileIs tops p) (tops_of reads) → x.profile ≡ p
+held_profile : (reads : List Read) (inputs : List Input) (k : ℕ) (x : Input) (p : List ℕ) → HoldInputs reads inputs → At inputs k x → Each (λ tops. ProfileIs tops p) (read_tops reads) → x.profile ≡ p
 held_profile reads inputs k x p hold at each =
     let (r, there, holds) = zip_back HoldsInput reads inputs k x hold at in
     profile_once r.tops x.profile p holds.profile_is (each k r.tops (at_mapped (λ (y : Read). y.tops) reads k r there))
 
-pub profiles_differ : (reads : List Read) (inputs : List Input) (k : ℕ) (x first : Input) → HoldInputs reads inputs → At inputs 0 first → At inputs k x → (x.profile ≡ first.profile → ⊥) → CommonProfile (tops_of reads) []
+pub profiles_differ : (reads : List Read) (inputs : List Input) (k : ℕ) (x first : Input) → HoldInputs reads inputs → At inputs 0 first → At inputs k x → (x.profile ≡ first.profile → ⊥) → CommonProfile (read_tops reads) []
 profiles_differ reads inputs k x first hold start at differ = record {
   common = λ p each. absurd (differ (held_profile reads inputs k x p hold at each ∙ sym (held_profile reads inputs 0 first p hold start each)));
   none = λ none. refl;
 }
 
-pub profiles_same : (reads : List Read) (inputs : List Input) (first : Input) → HoldInputs reads inputs → At inputs 0 first → ((k : ℕ) (x : Input) → At inputs k x → x.profile ≡ first.profile) → CommonProfile (tops_of reads) first.profile
+pub profiles_same : (reads : List Read) (inputs : List Input) (first : Input) → HoldInputs reads inputs → At inputs 0 first → ((k : ℕ) (x : Input) → At inputs k x → x.profile ≡ first.profile) → CommonProfile (read_tops reads) first.profile
 profiles_same reads inputs first hold start same = record {
   common = λ p each. held_profile reads inputs 0 first p hold start each;
   none = λ none. absurd (none first.profile (λ k tops at.
@@ -100,5 +100,5 @@ meet_all reads inputs hold k i at n e there =
     extra_meets r.tops n (extra_top e) holds.good (subst (λ (l : List Top). At l n (extra_top e)) holds.extras_are (at_mapped extra_top i.extras.items n e there))
 
 -- they are as many as the stores
-pub held_length : (stores : List StoreState) (inputs : List Input) → AreHeld stores inputs → length inputs ≡ length stores
+pub held_length : (stores : List StoreState) (inputs : List Input) → AllReadWhole stores inputs → length inputs ≡ length stores
 held_length stores inputs (reads, hold, are) = sym (zip_length HoldsInput reads inputs hold) ∙ sym (zip_length IsReadOf stores reads are)

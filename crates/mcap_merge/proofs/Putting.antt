@@ -23,17 +23,17 @@ use Rattle.chunk_walk.specs.declared.pieces.Piece.{Piece}
 use Rattle.chunk_walk.specs.declared.walk.Walk.{Walk}
 use Rattle.chunk_walk.specs.Cursors.{turn_of}
 use Rattle.record_walk.specs.Heads.{heads_in}
-use Rattle.chunk_walk.specs.Pieces.{Files}
+use Rattle.chunk_walk.specs.Pieces.{InputBytes}
 use Rattle.chunk_walk.specs.Stores.{StoresFit, StoresStay, LeavesStores, AskedWithin, none_left}
-use Rattle.chunk_walk.specs.Walks.{Text, turns_in, pieces_in, IsTextOf, IsMessageAt, IsRefused, WalkStands, IsOfHeld, Advances}
+use Rattle.chunk_walk.specs.Walks.{Text, turns_in, pieces_in, IsTextOf, IsMessageAt, IsWalkRefused, WalkStands, IsOfHeld, Advances}
 use Rattle.chunk_walk.proofs.Stayed.{leaves_on}
 use Rattle.mcap_merge.specs.declared.input.Input.{Input}
 use Rattle.mcap_merge.specs.declared.joining.Joiner.{Joiner}
-use Rattle.mcap_merge.specs.Inputs.{Read, tops_of, HoldsInput, HoldInputs}
+use Rattle.mcap_merge.specs.Inputs.{Read, read_tops, HoldsInput, HoldInputs}
 use Rattle.mcap_merge.specs.Uses.{Use, added_by, with_use, history_of}
 use Rattle.mcap_merge.specs.Contents.{IdsSuffice}
 use Rattle.mcap_merge.specs.Joining.{JoinerStands}
-use Rattle.mcap_merge.specs.Writing.{on_channel, IsNext}
+use Rattle.mcap_merge.specs.Writing.{put_on_channel, ComesNext}
 use Rattle.mcap_merge.specs.Turns.{IsNoMessageOn, IsUseOfTurn, UsesOf, sources, PutSoFar, PutAll, PutSome, WhyUnread}
 use Rattle.mcap_merge.proofs.Contents.{content_once}
 use Rattle.mcap_merge.proofs.Marking.{channel_shown}
@@ -47,7 +47,7 @@ turn_input x t has =
     let (e, at, same) = unmapped (turn_of x.piece) (heads_in x.bytes) has.0 t has.1 in
     ap (λ (u : Turn). u.input) same
 
-pub input_there : (files : Files) (stores : List StoreState) (w : Walk) (texts : List Text) (given : List Turn) (t : Turn) (count : ℕ) → WalkStands files w texts given → IsOfHeld w texts t → StoresFit stores w.pieces.items → length stores ≡ count → t.input < count
+pub input_there : (files : InputBytes) (stores : List StoreState) (w : Walk) (texts : List Text) (given : List Turn) (t : Turn) (count : ℕ) → WalkStands files w texts given → IsOfHeld w texts t → StoresFit stores w.pieces.items → length stores ≡ count → t.input < count
 input_there files stores w texts given t count stands held fit size =
     let x = held.text in
     let (p, at_p, is) = zip_back (IsTextOf files) _ texts held.among.0 x stands.taken held.among.1 in
@@ -56,16 +56,16 @@ input_there files stores w texts given t count stands held fit size =
     let same : p.input ≡ t.input = sym (ap (λ (q : Piece). q.input) is.piece) ∙ turn_input x t held.has in
     omega (arith, size, same, at_within stores p.input s at_s)
 
-pub turn_given : (files theirs : Files) (w after : Walk) (t : Turn) (next : Option Turn) (texts : List Text) (given : List Turn) → theirs ≡ files → next ≡ Some t → Advances theirs w after next → WalkStands files w texts given
+pub turn_given : (files theirs : InputBytes) (w after : Walk) (t : Turn) (next : Option Turn) (texts : List Text) (given : List Turn) → theirs ≡ files → next ≡ Some t → Advances theirs w after next → WalkStands files w texts given
     → (more : List Text) × WalkStands files after (texts ++ more) (given ++ t ∷ []) × IsOfHeld after (texts ++ more) t × (after.pieces ≡ w.pieces)
 turn_given files theirs w after t next texts given is same advances stands =
-    let a : Advances files w after (Some t) = subst (λ (n : Option Turn). Advances files w after n) same (subst (λ (f : Files). Advances f w after next) is advances) in
+    let a : Advances files w after (Some t) = subst (λ (n : Option Turn). Advances files w after n) same (subst (λ (f : InputBytes). Advances f w after next) is advances) in
     let steps = a.stands in
     let (more, (now, held)) = steps texts given stands in
     (more, now, held, a.pieces)
 
-pub none_given : (files theirs : Files) (w after : Walk) (next : Option Turn) → theirs ≡ files → next ≡ None → Advances theirs w after next → Advances files w after None
-none_given files theirs w after next is same advances = subst (λ (n : Option Turn). Advances files w after n) same (subst (λ (f : Files). Advances f w after next) is advances)
+pub none_given : (files theirs : InputBytes) (w after : Walk) (next : Option Turn) → theirs ≡ files → next ≡ None → Advances theirs w after next → Advances files w after None
+none_given files theirs w after next is same advances = subst (λ (n : Option Turn). Advances files w after n) same (subst (λ (f : InputBytes). Advances f w after next) is advances)
 
 pub store_count : (olds nows : List StoreState) → StoresStay olds nows → length nows ≡ length olds
 store_count [] [] stay = refl
@@ -85,14 +85,14 @@ no_message input content channel m shows unmarked = λ other n shown marked.
 
 pub record TurnUse (reads : List Read) (texts : List Text) (t : Turn) (input : Input) (channel : ℕ) (m : MessageFields) : Type 0 where
   pub used : Use
-  pub is : IsUseOfTurn (tops_of reads) texts t used
+  pub is : IsUseOfTurn (read_tops reads) texts t used
   pub message : used.message ≡ m
   pub tops : List Top
-  pub at : At (tops_of reads) t.input tops
+  pub at : At (read_tops reads) t.input tops
   pub tables_are : TablesOf (flat tops) input.tables
   pub content : (d : ChannelDef) → IsContent (flat tops) channel d → d ≡ used.content
 
-pub turn_use : (reads : List Read) (inputs : List Input) (texts : List Text) (t : Turn) (input : Input) (channel : ℕ) (m : MessageFields) (x : Text) (top : Top) → HoldInputs reads inputs → IdsSuffice (tops_of reads) → At inputs t.input input → At input.used.items channel true
+pub turn_use : (reads : List Read) (inputs : List Input) (texts : List Text) (t : Turn) (input : Input) (channel : ℕ) (m : MessageFields) (x : Text) (top : Top) → HoldInputs reads inputs → IdsSuffice (read_tops reads) → At inputs t.input input → At input.used.items channel true
     → Has texts x → Has (turns_in x) t → IsMessageAt x t top → ShowsMessage top.content channel m → TurnUse reads texts t input channel m
 turn_use reads inputs texts t input channel m x top hold suffice here marked among has there shows =
     let (r, at, holds) = zip_back HoldsInput reads inputs t.input input hold here in
@@ -101,8 +101,8 @@ turn_use reads inputs texts t input channel m x top hold suffice here marked amo
     let from = message_from reads t.input r s at holds.scan has_s in
     let contents = suffice.contents in
     let (d, content) = contents (sent t.input s) from in
-    let at_tops : At (tops_of reads) t.input r.tops = at_mapped (λ (y : Read). y.tops) reads t.input r at in
-    let same : content.tops ≡ r.tops = at_one (tops_of reads) t.input content.tops r.tops content.at at_tops in
+    let at_tops : At (read_tops reads) t.input r.tops = at_mapped (λ (y : Read). y.tops) reads t.input r at in
+    let same : content.tops ≡ r.tops = at_one (read_tops reads) t.input content.tops r.tops content.at at_tops in
     let is_d : IsContent (flat r.tops) channel d = subst (λ (n : ℕ). IsContent (flat r.tops) n d) on (subst (λ (l : List Top). IsContent (flat l) s.channel d) same content.is) in
     record {
       used = record { content = d; message = m };
@@ -160,25 +160,25 @@ module _ {P : Type 0} (adds : P → P → List Top → List Rec → Type 0) (add
   -- the walk gave it, and it was put or the pen stopped at it
   pub uses_more : (inputs : List Input) (texts more : List Text) (given : List Turn) (t : Turn) (input : Input) (channel : ℕ) (m : MessageFields) (x : Text) (top : Top) (j : Joiner) (old mid new : P)
       → UsesOf inputs texts given (λ all uses. JoinerStands all (history_of uses) j × adds old mid [] (history_of uses)) → At inputs t.input input → At input.used.items channel true → Has (texts ++ more) x → Has (turns_in x) t → IsMessageAt x t top → ShowsMessage top.content channel m
-      → ((all : List (List Top)) (history : List Rec) (u : Use) → IsNext all history j input t.input (on_channel channel m) u → adds mid new [] (added_by history u))
-      → UsesOf inputs (texts ++ more) (given ++ t ∷ []) (λ all uses. (h : List Rec) × (u : Use) × (history_of uses ≡ with_use h u) × IsNext all h j input t.input (on_channel channel m) u × adds old new [] (history_of uses))
+      → ((all : List (List Top)) (history : List Rec) (u : Use) → ComesNext all history j input t.input (put_on_channel channel m) u → adds mid new [] (added_by history u))
+      → UsesOf inputs (texts ++ more) (given ++ t ∷ []) (λ all uses. (h : List Rec) × (u : Use) × (history_of uses ≡ with_use h u) × ComesNext all h j input t.input (put_on_channel channel m) u × adds old new [] (history_of uses))
   uses_more inputs texts more given t input channel m x top j old mid new was here marked among has there shows puts = λ reads hold suffice.
       let (uses, zip, (stands, added)) = was reads hold suffice in
       let one = turn_use reads inputs (texts ++ more) t input channel m x top hold suffice here marked among has there shows in
       let u = one.used in
       let h = history_of uses in
-      let next : IsNext (tops_of reads) h j input t.input (on_channel channel m) u = record { stands = stands; tops = one.tops; at = one.at; tables_are = one.tables_are; content = one.content; message = one.message } in
+      let next : ComesNext (read_tops reads) h j input t.input (put_on_channel channel m) u = record { stands = stands; tops = one.tops; at = one.at; tables_are = one.tables_are; content = one.content; message = one.message } in
       let grown : history_of (uses ++ u ∷ []) ≡ with_use h u = history_more uses u in
-      let now : adds old new [] (with_use h u) = adds_on old mid new [] [] h (added_by h u) added (puts (tops_of reads) h u next) in (
+      let now : adds old new [] (with_use h u) = adds_on old mid new [] [] h (added_by h u) added (puts (read_tops reads) h u next) in (
         uses ++ u ∷ [],
-        zip_push (IsUseOfTurn (tops_of reads) (texts ++ more)) given uses t u (uses_kept (tops_of reads) texts more given uses zip) one.is,
+        zip_push (IsUseOfTurn (read_tops reads) (texts ++ more)) given uses t u (uses_kept (read_tops reads) texts more given uses zip) one.is,
         (h, u, grown, next, subst (adds old new []) (sym grown) now),
       )
 
-  pub put_more : (files : Files) (inputs : List Input) (w after : Walk) (count : ℕ) (t : Turn) (input : Input) (channel : ℕ) (m : MessageFields) (x : Text) (top : Top) (j k : Joiner) (old mid new : P) (was : PutSoFar adds (sources files inputs) w count j old mid) (more : List Text)
+  pub put_more : (files : InputBytes) (inputs : List Input) (w after : Walk) (count : ℕ) (t : Turn) (input : Input) (channel : ℕ) (m : MessageFields) (x : Text) (top : Top) (j k : Joiner) (old mid new : P) (was : PutSoFar adds (sources files inputs) w count j old mid) (more : List Text)
       → WalkStands files after (was.texts ++ more) (was.given ++ t ∷ []) → At inputs t.input input → At input.used.items channel true → Has (was.texts ++ more) x → Has (turns_in x) t → IsMessageAt x t top → ShowsMessage top.content channel m
-      → ((all : List (List Top)) (history : List Rec) (u : Use) → IsNext all history j input t.input (on_channel channel m) u → adds mid new [] (added_by history u))
-      → ((all : List (List Top)) (history : List Rec) (u : Use) → IsNext all history j input t.input (on_channel channel m) u → JoinerStands all (with_use history u) k)
+      → ((all : List (List Top)) (history : List Rec) (u : Use) → ComesNext all history j input t.input (put_on_channel channel m) u → adds mid new [] (added_by history u))
+      → ((all : List (List Top)) (history : List Rec) (u : Use) → ComesNext all history j input t.input (put_on_channel channel m) u → JoinerStands all (with_use history u) k)
       → PutSoFar adds (sources files inputs) after (count + 1) k old new
   put_more files inputs w after count t input channel m x top j k old mid new was more stands here marked among has there shows puts joins =
       let uses = uses_more inputs was.texts more was.given t input channel m x top j old mid new was.uses here marked among has there shows puts in
@@ -189,12 +189,12 @@ module _ {P : Type 0} (adds : P → P → List Top → List Rec → Type 0) (add
         size = let size = length-append was.given (t ∷ []) in omega (arith, size, was.size);
         uses = λ reads hold suffice.
             let (us, zip, (h, u, grown, next, added)) = uses reads hold suffice in
-            (us, zip, (subst (λ (l : List Rec). JoinerStands (tops_of reads) l k) (sym grown) (joins (tops_of reads) h u next), added));
+            (us, zip, (subst (λ (l : List Rec). JoinerStands (read_tops reads) l k) (sym grown) (joins (read_tops reads) h u next), added));
       }
 
-  pub stopped_at : (files : Files) (inputs : List Input) (start w after : Walk) (count : ℕ) (t : Turn) (input : Input) (channel : ℕ) (m : MessageFields) (x : Text) (top : Top) (j : Joiner) (old mid new : P) (was : PutSoFar adds (sources files inputs) w count j old mid) (more : List Text)
+  pub stopped_at : (files : InputBytes) (inputs : List Input) (start w after : Walk) (count : ℕ) (t : Turn) (input : Input) (channel : ℕ) (m : MessageFields) (x : Text) (top : Top) (j : Joiner) (old mid new : P) (was : PutSoFar adds (sources files inputs) w count j old mid) (more : List Text)
       → after.pieces ≡ start.pieces → WalkStands files after (was.texts ++ more) (was.given ++ t ∷ []) → At inputs t.input input → At input.used.items channel true → Has (was.texts ++ more) x → Has (turns_in x) t → IsMessageAt x t top → ShowsMessage top.content channel m
-      → ((all : List (List Top)) (history : List Rec) (u : Use) → IsNext all history j input t.input (on_channel channel m) u → adds mid new [] (added_by history u))
+      → ((all : List (List Top)) (history : List Rec) (u : Use) → ComesNext all history j input t.input (put_on_channel channel m) u → adds mid new [] (added_by history u))
       → ((records : List Rec) → adds new new [] records)
       → PutSome adds files inputs start old new
   stopped_at files inputs start w after count t input channel m x top j old mid new was more same stands here marked among has there shows puts stays =
@@ -211,7 +211,7 @@ module _ {P : Type 0} (adds : P → P → List Top → List Rec → Type 0) (add
       }
 
   -- the pen stopped before the next turn
-  pub stopped_before : (files : Files) (inputs : List Input) (start w : Walk) (count : ℕ) (j : Joiner) (old mid new : P) → PutSoFar adds (sources files inputs) w count j old mid → w.pieces ≡ start.pieces → ((records : List Rec) → adds mid new [] records) → PutSome adds files inputs start old new
+  pub stopped_before : (files : InputBytes) (inputs : List Input) (start w : Walk) (count : ℕ) (j : Joiner) (old mid new : P) → PutSoFar adds (sources files inputs) w count j old mid → w.pieces ≡ start.pieces → ((records : List Rec) → adds mid new [] records) → PutSome adds files inputs start old new
   stopped_before files inputs start w count j old mid new was same stays = record {
     walk = w;
     pieces = same;
@@ -225,7 +225,7 @@ module _ {P : Type 0} (adds : P → P → List Top → List Rec → Type 0) (add
   }
 
   -- no turn is left
-  pub put_all : (files : Files) (inputs : List Input) (w after : Walk) (count : ℕ) (j : Joiner) (old now : P) → PutSoFar adds (sources files inputs) w count j old now → Advances files w after None → PutAll adds (sources files inputs) after count j old now
+  pub put_all : (files : InputBytes) (inputs : List Input) (w after : Walk) (count : ℕ) (j : Joiner) (old now : P) → PutSoFar adds (sources files inputs) w count j old now → Advances files w after None → PutAll adds (sources files inputs) after count j old now
   put_all files inputs w after count j old now was advances =
       let steps = advances.stands in
       let (more, (stands, all, loaded)) = steps was.texts was.given was.stands in
@@ -238,7 +238,7 @@ module _ {P : Type 0} (adds : P → P → List Top → List Rec → Type 0) (add
           uses = λ reads hold suffice.
               let put = was.uses in
               let (us, zip, (joined, added)) = put reads hold suffice in
-              (us, uses_kept (tops_of reads) was.texts more was.given us zip, (joined, added));
+              (us, uses_kept (read_tops reads) was.texts more was.given us zip, (joined, added));
         };
         all = all;
         loaded = loaded;
@@ -261,12 +261,12 @@ asked_in_all a b f g within k old new at_old at_new =
 -- ---- why not all was put
 
 -- the walk is refused
-pub why_refused : (files theirs : Files) (start w : Walk) (inputs : List Input) (why : WalkRefused) → theirs ≡ files → w.pieces ≡ start.pieces → IsRefused theirs w why → WhyUnread files start inputs why
-why_refused files theirs start w inputs (walks.Changed input offset) is same refused = inl (w, ap (λ v. v.items) same, subst (λ (f : Files). IsRefused f w (walks.Changed input offset)) is refused)
+pub why_refused : (files theirs : InputBytes) (start w : Walk) (inputs : List Input) (why : WalkRefused) → theirs ≡ files → w.pieces ≡ start.pieces → IsWalkRefused theirs w why → WhyUnread files start inputs why
+why_refused files theirs start w inputs (walks.Changed input offset) is same refused = inl (w, ap (λ v. v.items) same, subst (λ (f : InputBytes). IsWalkRefused f w (walks.Changed input offset)) is refused)
 why_refused files theirs start w inputs (walks.Refused input why) is same refused = tt
 
 -- the record of a turn is no message that may be put
-pub why_other : (files : Files) (start after : Walk) (inputs : List Input) (texts : List Text) (given : List Turn) (t : Turn) (input : Input) (top : Top) → WalkStands files after texts given → (held : IsOfHeld after texts t) → after.pieces ≡ start.pieces → At inputs t.input input → IsMessageAt held.text t top
+pub why_other : (files : InputBytes) (start after : Walk) (inputs : List Input) (texts : List Text) (given : List Turn) (t : Turn) (input : Input) (top : Top) → WalkStands files after texts given → (held : IsOfHeld after texts t) → after.pieces ≡ start.pieces → At inputs t.input input → IsMessageAt held.text t top
     → IsNoMessageOn input top.content → WhyUnread files start inputs (walks.Changed t.input t.offset)
 why_other files start after inputs texts given t input top stands held same here there none =
     let x = held.text in

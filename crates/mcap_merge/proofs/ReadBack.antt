@@ -18,9 +18,9 @@ use Rattle.mcap_model.proofs.NamedTopics.{zip_back}
 use Rattle.id_table.specs.declared.given.Given.{Given}
 use Rattle.id_table.specs.declared.given.Given.TheVariants.{Known, New}
 use Rattle.record_core.specs.Ids.{fields_of_schema, fields_with}
-use Rattle.record_core.specs.Tables.{number_of, id_of, schema_with}
+use Rattle.record_core.specs.Tables.{id_given, id_of, schema_with}
 use Rattle.mcap_merge.specs.declared.joining.Declared.{Declared}
-use Rattle.mcap_merge.specs.Joining.{records_of}
+use Rattle.mcap_merge.specs.Joining.{declaring_records}
 use Rattle.mcap_merge.specs.Contents.{SchemaFitsUnder}
 
 pub none_back : Each IsReadBack []
@@ -37,12 +37,12 @@ schema_back (Some s) None id is seen = none_back
 schema_back (Some s) (Some (Known other)) id is seen = none_back
 schema_back (Some s) (Some (New other)) id is seen = one_back (schema_of other (fields_of_schema s)) (subst (λ (n : ℕ). RecFits (schema_of n (fields_of_schema s))) is seen)
 
-pub records_back : (d : Declared) (id schema : ℕ) → id ≡ number_of d.ids.channel → schema ≡ id_of d.ids.schema → RecFits (channel_of id (fields_with d.content schema)) → SchemaFitsUnder d.content.schema schema → Each IsReadBack (records_of d)
+pub records_back : (d : Declared) (id schema : ℕ) → id ≡ id_given d.ids.channel → schema ≡ id_of d.ids.schema → RecFits (channel_of id (fields_with d.content schema)) → SchemaFitsUnder d.content.schema schema → Each IsReadBack (declaring_records d)
 records_back d id schema is schema_is channel seen =
-    let named : RecFits (channel_of (number_of d.ids.channel) (fields_with d.content schema)) = subst (λ (n : ℕ). RecFits (channel_of n (fields_with d.content schema))) is channel in
-    let last = subst (λ (n : ℕ). RecFits (channel_of (number_of d.ids.channel) (fields_with d.content n))) schema_is named in
-    each_joined IsReadBack (schema_with d.content.schema d.ids.schema) (channel_of (number_of d.ids.channel) (fields_with d.content (id_of d.ids.schema)) ∷ [])
-    (schema_back d.content.schema d.ids.schema schema schema_is seen) (one_back (channel_of (number_of d.ids.channel) (fields_with d.content (id_of d.ids.schema))) last)
+    let named : RecFits (channel_of (id_given d.ids.channel) (fields_with d.content schema)) = subst (λ (n : ℕ). RecFits (channel_of n (fields_with d.content schema))) is channel in
+    let last = subst (λ (n : ℕ). RecFits (channel_of (id_given d.ids.channel) (fields_with d.content n))) schema_is named in
+    each_joined IsReadBack (schema_with d.content.schema d.ids.schema) (channel_of (id_given d.ids.channel) (fields_with d.content (id_of d.ids.schema)) ∷ [])
+    (schema_back d.content.schema d.ids.schema schema schema_is seen) (one_back (channel_of (id_given d.ids.channel) (fields_with d.content (id_of d.ids.schema))) last)
 
 -- ---- a message
 

@@ -16,14 +16,14 @@ use Rattle.mcap_model.proofs.NamedTopics.{unmapped}
 use Rattle.mcap_model.proofs.Flat.{at_mapped, map-append}
 use Rattle.mcap_model.proofs.OneMore.{each_last}
 use Rattle.id_table.specs.Ids as tables
-use Rattle.id_table.specs.Given.{EachOnce, Offers, OffersTo, with_given, with_given_to, Declares, Refuses}
+use Rattle.id_table.specs.Given.{EachOnce, Offers, OffersTo, with_given, with_given_to, Declares, RefusesIds}
 use Rattle.id_table.specs.declared.given.Given.{Given}
 use Rattle.id_table.specs.declared.given.Given.TheVariants.{Known, New}
 use Rattle.id_table.specs.declared.given.GivenIds.{GivenIds}
 use Rattle.id_table.specs.declared.given.IdRefused.{IdRefused}
 use Rattle.id_table.specs.declared.given.IdRefused.TheVariants.{TooManySchemas, TooManyChannels, Memory}
 use Rattle.mcap_merge.specs.declared.input.Input.{Input}
-use Rattle.mcap_merge.specs.Inputs.{Read, tops_of, HoldInputs}
+use Rattle.mcap_merge.specs.Inputs.{Read, read_tops, HoldInputs}
 use Rattle.mcap_merge.specs.Joining.{IsAskedFor, WhyLacks}
 use Rattle.mcap_merge.specs.Schemas.{bare, AreBare, Enters, EntersOf, LacksPlace, LacksPlaceOf, LacksSchemas}
 use Rattle.mcap_merge.proofs.Contents.{content_once}
@@ -48,15 +48,15 @@ bare_one : (s t : SchemaDef) → bare s ≡ bare t → s ≡ t
 bare_one s t same = same_Some s t (ap (λ (d : ChannelDef). d.schema) same)
 
 -- a schema stands where its channel does
-bare_at : (t : tables.Ids) (n : ℕ) (s : SchemaDef) → AreBare t → At t.channels n (bare s) → At t.schemas n s
+bare_at : (t : tables.IdContents) (n : ℕ) (s : SchemaDef) → AreBare t → At t.channels n (bare s) → At t.schemas n s
 bare_at t n s are at =
     let (r, there, same) = unmapped bare t.schemas n (bare s) (subst (λ (l : List ChannelDef). At l n (bare s)) are at) in
     subst (At t.schemas n) (bare_one r s same) there
 
-channel_at : (t : tables.Ids) (n : ℕ) (s : SchemaDef) → AreBare t → At t.schemas n s → At t.channels n (bare s)
+channel_at : (t : tables.IdContents) (n : ℕ) (s : SchemaDef) → AreBare t → At t.schemas n s → At t.channels n (bare s)
 channel_at t n s are at = subst (λ (l : List ChannelDef). At l n (bare s)) (sym are) (at_mapped bare t.schemas n s at)
 
-enters_by : (t after : tables.Ids) (s : SchemaDef) (schema : Option Given) (channel : Given) → AreBare t → OffersTo t.schemas (Some s) schema → Offers t.channels (bare s) channel
+enters_by : (t after : tables.IdContents) (s : SchemaDef) (schema : Option Given) (channel : Given) → AreBare t → OffersTo t.schemas (Some s) schema → Offers t.channels (bare s) channel
     → after.schemas ≡ with_given_to t.schemas (Some s) schema → after.channels ≡ with_given t.channels (bare s) channel → AreBare after × Enters t.schemas s after.schemas
 enters_by t after s None channel are offers other schemas channels = absurd offers
 enters_by t after s (Some (Known i)) (Known j) are offers other schemas channels = (channels ∙ are ∙ ap (map bare) (sym schemas), inl ((i - 1, offers.1), schemas))
@@ -65,15 +65,15 @@ enters_by t after s (Some (New i)) (Known j) are offers other schemas channels =
 enters_by t after s (Some (New i)) (New j) are offers other schemas channels =
     (channels ∙ ap (λ (l : List ChannelDef). l ++ bare s ∷ []) are ∙ sym (map-append bare t.schemas (s ∷ [])) ∙ ap (map bare) (sym schemas), inr schemas)
 
-pub enters : (t after : tables.Ids) (s : SchemaDef) (d : ChannelDef) (given : GivenIds) → AreBare t → d ≡ bare s → Declares t d given after → AreBare after × Enters t.schemas s after.schemas
+pub enters : (t after : tables.IdContents) (s : SchemaDef) (d : ChannelDef) (given : GivenIds) → AreBare t → d ≡ bare s → Declares t d given after → AreBare after × Enters t.schemas s after.schemas
 enters t after s d given are is declares =
     let it = subst (λ (c : ChannelDef). Declares t c given after) is declares in
     enters_by t after s given.schema given.channel are it.schema it.channel it.schemas it.channels
 
-pub lacks_place : (t : tables.Ids) (s : SchemaDef) (d : ChannelDef) (why : IdRefused) → AreBare t → d ≡ bare s → EachOnce t.schemas → length t.schemas ≤ 65535 → Refuses t d why → LacksPlace t.schemas s why
-lacks_place t s d why are is once few refuses = by why (subst (λ (c : ChannelDef). Refuses t c why) is refuses)
+pub lacks_place : (t : tables.IdContents) (s : SchemaDef) (d : ChannelDef) (why : IdRefused) → AreBare t → d ≡ bare s → EachOnce t.schemas → length t.schemas ≤ 65535 → RefusesIds t d why → LacksPlace t.schemas s why
+lacks_place t s d why are is once few refuses = by why (subst (λ (c : ChannelDef). RefusesIds t c why) is refuses)
   where
-    by : (w : IdRefused) → Refuses t (bare s) w → LacksPlace t.schemas s w
+    by : (w : IdRefused) → RefusesIds t (bare s) w → LacksPlace t.schemas s w
     by TooManySchemas full = (full, once, few)
     by TooManyChannels (room, (lacks, many)) =
         let size = ap (λ (l : List ChannelDef). length l) are in
@@ -116,20 +116,20 @@ seen_none inputs schemas none = record {
 
 -- one that has messages
 pub seen_more : (reads : List Read) (inputs : List Input) (place number source : ℕ) (input : Input) (old new : List SchemaDef) → HoldInputs reads inputs → place ≡ number * 65536 + source → source < 65536 → At inputs number input → At input.used.items source true
-    → SchemasSeen (tops_of reads) place old → ((records : List Top) → TablesOf records input.tables → (d : ChannelDef) × IsContent records source d × EntersOf old d.schema new) → SchemasSeen (tops_of reads) (place + 1) new
+    → SchemasSeen (read_tops reads) place old → ((records : List Top) → TablesOf records input.tables → (d : ChannelDef) × IsContent records source d × EntersOf old d.schema new) → SchemasSeen (read_tops reads) (place + 1) new
 seen_more reads inputs place number source input old new hold place_is small here marked was entered =
     let (m, number_is, asked) = asked_at reads inputs number source input hold here marked in
     let (d, is, enter) = entered (flat asked.tops) asked.tables_are in
-    let used : IsUsed (tops_of reads) d = content_used (tops_of reads) m source input.tables d asked is in
+    let used : IsUsed (read_tops reads) d = content_used (read_tops reads) m source input.tables d asked is in
     let before = was.all in
     record {
-      used = enters_each (SchemaIsUsed (tops_of reads)) old new d.schema enter was.used (λ s some. (d, used, some));
+      used = enters_each (SchemaIsUsed (read_tops reads)) old new d.schema enter was.used (λ s some. (d, used, some));
       all = λ w from less tops e s at_w is_e some. elim (either_place w place less) [
         | inl early ↦ enters_keeps old new d.schema s enter (before w from early tops e s at_w is_e some)
         | inr same ↦
             let there = is_there reads inputs w place number source hold from place_is small same in
-            let at_m : At (tops_of reads) m.input tops = subst (λ (n : ℕ). At (tops_of reads) n tops) (there.input ∙ sym number_is) at_w in
-            let same_tops : tops ≡ asked.tops = at_one (tops_of reads) m.input tops asked.tops at_m asked.at in
+            let at_m : At (read_tops reads) m.input tops = subst (λ (n : ℕ). At (read_tops reads) n tops) (there.input ∙ sym number_is) at_w in
+            let same_tops : tops ≡ asked.tops = at_one (read_tops reads) m.input tops asked.tops at_m asked.at in
             let there_e : IsContent (flat asked.tops) source e = subst (λ (c : ℕ). IsContent (flat asked.tops) c e) there.channel (subst (λ (l : List Top). IsContent (flat l) w.seen.channel e) same_tops is_e) in
             let one : e ≡ d = content_once (flat asked.tops) input.tables source e d asked.tables_are there_e is in
             let has : d.schema ≡ Some s = sym (ap (λ (c : ChannelDef). c.schema) one) ∙ some in
@@ -139,7 +139,7 @@ seen_more reads inputs place number source input old new hold place_is small her
 
 -- one that has none
 pub seen_same : (reads : List Read) (inputs : List Input) (place number source : ℕ) (input : Input) (schemas : List SchemaDef) → HoldInputs reads inputs → place ≡ number * 65536 + source → source < 65536 → At inputs number input → At input.used.items source false
-    → SchemasSeen (tops_of reads) place schemas → SchemasSeen (tops_of reads) (place + 1) schemas
+    → SchemasSeen (read_tops reads) place schemas → SchemasSeen (read_tops reads) (place + 1) schemas
 seen_same reads inputs place number source input schemas hold place_is small here unmarked was = record {
   used = was.used;
   all = λ w from less. let before = was.all in elim (either_place w place less) [
@@ -148,7 +148,7 @@ seen_same reads inputs place number source input schemas hold place_is small her
   ];
 }
 
-pub seen_all : (reads : List Read) (inputs : List Input) (place : ℕ) (schemas : List SchemaDef) → HoldInputs reads inputs → SchemasSeen (tops_of reads) place schemas → length inputs * 65536 ≤ place → length schemas ≤ 65535 → AtMost 65535 (SchemaIsUsed (tops_of reads))
+pub seen_all : (reads : List Read) (inputs : List Input) (place : ℕ) (schemas : List SchemaDef) → HoldInputs reads inputs → SchemasSeen (read_tops reads) place schemas → length inputs * 65536 ≤ place → length schemas ≤ 65535 → AtMost 65535 (SchemaIsUsed (read_tops reads))
 seen_all reads inputs place schemas hold seen all_places few = (
   schemas,
   few,
@@ -159,15 +159,15 @@ seen_all reads inputs place schemas hold seen all_places few = (
 )
 
 -- no place is left for the schema of that channel
-pub seen_lacks : (reads : List Read) (inputs : List Input) (place number source : ℕ) (input : Input) (old : List SchemaDef) (why : IdRefused) → HoldInputs reads inputs → At inputs number input → At input.used.items source true → SchemasSeen (tops_of reads) place old
-    → ((records : List Top) → TablesOf records input.tables → LacksPlaceOf records source old why) → LacksSchemas (tops_of reads) why
+pub seen_lacks : (reads : List Read) (inputs : List Input) (place number source : ℕ) (input : Input) (old : List SchemaDef) (why : IdRefused) → HoldInputs reads inputs → At inputs number input → At input.used.items source true → SchemasSeen (read_tops reads) place old
+    → ((records : List Top) → TablesOf records input.tables → LacksPlaceOf records source old why) → LacksSchemas (read_tops reads) why
 seen_lacks reads inputs place number source input old why hold here marked was lacks =
     let (m, number_is, asked) = asked_at reads inputs number source input hold here marked in
     by m asked why (lacks (flat asked.tops) asked.tables_are)
   where
-    by : (m : Sent) (asked : IsAskedFor (tops_of reads) m source input.tables) (w : IdRefused) → LacksPlaceOf (flat asked.tops) source old w → LacksSchemas (tops_of reads) w
+    by : (m : Sent) (asked : IsAskedFor (read_tops reads) m source input.tables) (w : IdRefused) → LacksPlaceOf (flat asked.tops) source old w → LacksSchemas (read_tops reads) w
     by m asked TooManySchemas (d, s, is, some, ((lacks_s, many), once, few)) =
-        more_than (SchemaIsUsed (tops_of reads)) old s 65535 (let size : length old ≡ 65535 = omega (arith, few, many) in size) once lacks_s was.used (d, content_used (tops_of reads) m source input.tables d asked is, some)
+        more_than (SchemaIsUsed (read_tops reads)) old s 65535 (let size : length old ≡ 65535 = omega (arith, few, many) in size) once lacks_s was.used (d, content_used (read_tops reads) m source input.tables d asked is, some)
     by m asked TooManyChannels none = none
     by m asked Memory it = tt
 

@@ -22,7 +22,7 @@ use Rattle.chunk_walk.specs.Walks.{Text}
 use Rattle.mcap_merge.specs.Uses.{Use, history_of, IsUse, AreUses}
 use Rattle.mcap_merge.specs.Contents.{IdsSuffice}
 use Rattle.mcap_merge.specs.Turns.{IsUseOfTurn}
-use Rattle.mcap_merge.specs.Sound.{LoggedInTurn, IsSound}
+use Rattle.mcap_merge.specs.Sound.{LoggedInTurn, IsSoundHistory}
 use Rattle.mcap_merge.proofs.Merging.{merges_all, flat_kinds}
 use Rattle.mcap_merge.proofs.ReadBack.{message_back}
 use Rattle.mcap_merge.proofs.FewIds.{IsWholeUse, history_back}
@@ -77,7 +77,7 @@ whole all texts t u is = record {
   back = λ id small. message_back is.top.content is.channel id u.message is.shows small;
 }
 
-pub is_sound : (all : List (List Top)) (texts : List Text) (given : List Turn) (uses : List Use) (extras : List Top) → IdsSuffice all → AllZip (IsUseOfTurn all texts) given uses → AllPairs TurnBefore given → Each IsExtra extras → IsSound extras (history_of uses)
+pub is_sound : (all : List (List Top)) (texts : List Text) (given : List Turn) (uses : List Use) (extras : List Top) → IdsSuffice all → AllZip (IsUseOfTurn all texts) given uses → AllPairs TurnBefore given → Each IsExtra extras → IsSoundHistory extras (history_of uses)
 is_sound all texts given uses extras suffice zip rise meet =
     let history = history_of uses in
     let put = sents_for all texts given uses zip in
@@ -105,7 +105,7 @@ not_later m n (inl less) = omega (arith, less)
 not_later m n (inr same) = omega (arith, same.0)
 
 -- the records of a merge are sound where they are read back
-pub merge_sound : (inputs : List (List Top)) (profile : List ℕ) (extras : List Top) (history : List Rec) → MergeOf inputs profile extras history → Each IsReadBack history → Each IsExtra extras → IsSound extras history
+pub merge_sound : (inputs : List (List Top)) (profile : List ℕ) (extras : List Top) (history : List Rec) → MergeOf inputs profile extras history → Each IsReadBack history → Each IsExtra extras → IsSoundHistory extras history
 merge_sound inputs profile extras history merge back meet = record {
   flat_kinds = merge.flat_kinds;
   numbered = merge.numbered;

@@ -10,7 +10,7 @@ use Rattle.mcap_model.proofs.Places.{at_one, at_within, at_read}
 use Rattle.mcap_model.proofs.NamedTopics.{zip_front, zip_back, unmapped}
 use Rattle.mcap_model.proofs.Flat.{at_mapped, good_lists_are_scanned}
 use Rattle.mcap_merge.specs.declared.input.Input.{Input}
-use Rattle.mcap_merge.specs.Inputs.{Read, tops_of, HoldsInput, HoldInputs}
+use Rattle.mcap_merge.specs.Inputs.{Read, read_tops, HoldsInput, HoldInputs}
 use Rattle.mcap_merge.specs.Contents.{id_place}
 use Rattle.mcap_merge.specs.Joining.{IsAskedFor}
 
@@ -28,7 +28,7 @@ pub record FromRead (reads : List Read) (m : Sent) : Type 0 where
   pub at : At reads m.input read
   pub has : Has read.messages m.seen
 
-pub from_read : (reads : List Read) (m : Sent) → AreScanned reads → IsFrom (tops_of reads) m → FromRead reads m
+pub from_read : (reads : List Read) (m : Sent) → AreScanned reads → IsFrom (read_tops reads) m → FromRead reads m
 from_read reads m scanned from =
     let (r, at, same) = unmapped (λ (x : Read). x.tops) reads m.input from.tops from.at in
     let (good, there) = scanned m.input r at in
@@ -50,13 +50,13 @@ pub record HeldMessage (reads : List Read) (inputs : List Input) (m : Sent) : Ty
   pub here : At inputs m.input input
   pub holds : HoldsInput read input
 
-pub held_message : (reads : List Read) (inputs : List Input) (m : Sent) → HoldInputs reads inputs → IsFrom (tops_of reads) m → HeldMessage reads inputs m
+pub held_message : (reads : List Read) (inputs : List Input) (m : Sent) → HoldInputs reads inputs → IsFrom (read_tops reads) m → HeldMessage reads inputs m
 held_message reads inputs m hold from =
     let found = from_read reads m (are_scanned reads inputs hold) from in
     let (input, here, holds) = zip_front HoldsInput reads inputs m.input found.read hold found.at in
     record { read = found.read; at = found.at; has = found.has; input = input; here = here; holds = holds }
 
-pub message_from : (reads : List Read) (number : ℕ) (r : Read) (s : Seen) → At reads number r → Scan r.tops r.messages → Has r.messages s → IsFrom (tops_of reads) (sent number s)
+pub message_from : (reads : List Read) (number : ℕ) (r : Read) (s : Seen) → At reads number r → Scan r.tops r.messages → Has r.messages s → IsFrom (read_tops reads) (sent number s)
 message_from reads number r s at scan has = record {
   tops = r.tops;
   at = at_mapped (λ (x : Read). x.tops) reads number r at;
@@ -74,7 +74,7 @@ channel_short reads inputs m held =
     omega (arith, within, used.size)
 
 -- all places are gone through
-pub place_within : (reads : List Read) (inputs : List Input) (m : Sent) (place : ℕ) → HoldInputs reads inputs → IsFrom (tops_of reads) m → length inputs * 65536 ≤ place → id_place m < place
+pub place_within : (reads : List Read) (inputs : List Input) (m : Sent) (place : ℕ) → HoldInputs reads inputs → IsFrom (read_tops reads) m → length inputs * 65536 ≤ place → id_place m < place
 place_within reads inputs m place hold from all =
     let held = held_message reads inputs m hold from in
     let short = channel_short reads inputs m held in
@@ -92,14 +92,14 @@ pub record IsThere (m : Sent) (number source : ℕ) : Type 0 where
   pub input : m.input ≡ number
   pub channel : m.seen.channel ≡ source
 
-pub is_there : (reads : List Read) (inputs : List Input) (m : Sent) (place number source : ℕ) → HoldInputs reads inputs → IsFrom (tops_of reads) m → place ≡ number * 65536 + source → source < 65536 → id_place m ≡ place → IsThere m number source
+pub is_there : (reads : List Read) (inputs : List Input) (m : Sent) (place number source : ℕ) → HoldInputs reads inputs → IsFrom (read_tops reads) m → place ≡ number * 65536 + source → source < 65536 → id_place m ≡ place → IsThere m number source
 is_there reads inputs m place number source hold from is small same =
     let short = channel_short reads inputs m (held_message reads inputs m hold from) in
     record { input = omega (arith, is, small, same, short); channel = omega (arith, is, small, same, short) }
 
 -- a channel that is marked has a message, for which its content is asked
 pub asked_at : (reads : List Read) (inputs : List Input) (number source : ℕ) (input : Input) → HoldInputs reads inputs → At inputs number input → At input.used.items source true
-    → (m : Sent) × (m.input ≡ number) × IsAskedFor (tops_of reads) m source input.tables
+    → (m : Sent) × (m.input ≡ number) × IsAskedFor (read_tops reads) m source input.tables
 asked_at reads inputs number source input hold here marked =
     let (r, at, holds) = zip_back HoldsInput reads inputs number input hold here in
     let are = holds.used_are.are in
@@ -116,7 +116,7 @@ asked_at reads inputs number source input hold here marked =
     )
 
 -- one that isn't has none
-pub not_there : (reads : List Read) (inputs : List Input) (m : Sent) (number source : ℕ) (input : Input) → HoldInputs reads inputs → IsFrom (tops_of reads) m → At inputs number input → At input.used.items source false → IsThere m number source → ⊥
+pub not_there : (reads : List Read) (inputs : List Input) (m : Sent) (number source : ℕ) (input : Input) → HoldInputs reads inputs → IsFrom (read_tops reads) m → At inputs number input → At input.used.items source false → IsThere m number source → ⊥
 not_there reads inputs m number source input hold from here unmarked there =
     let held = held_message reads inputs m hold from in
     let all = held.holds.used_are.all in

@@ -4,7 +4,7 @@ use Rattle.std.specs.Prelude.{filter}
 use Rattle.std.specs.List.{AllZip, flat_map}
 use Rattle.std.proofs.lemmas.List.Elements.{filter-append}
 use Rattle.mcap_model.specs.Places.{At, Has}
-use Rattle.mcap_model.specs.Tops.{Top, Placed, top_bytes, opened, flattened, flat, placed}
+use Rattle.mcap_model.specs.Tops.{Top, Placed, top_bytes, unchunked, flattened, flat, placed}
 use Rattle.mcap_model.specs.Scan.{Seen, IsSeen, Scan, is_message_top}
 use Rattle.mcap_model.specs.Scan.{tops_of as tops_in}
 use Rattle.mcap_model.specs.Merged.{Sent, IsFrom}
@@ -17,7 +17,7 @@ use Rattle.record_walk.specs.Heads.{time_in, is_headed}
 use Rattle.chunk_survey.specs.Times.{times_of}
 use Rattle.chunk_survey.specs.Spans.{spans_one, spans_from, spans_of}
 use Rattle.chunk_survey.proofs.Telling.{spans_tell_times}
-use Rattle.mcap_merge.specs.Inputs.{Read, tops_of}
+use Rattle.mcap_merge.specs.Inputs.{Read, read_tops}
 use Rattle.mcap_merge.proofs.Headed.{scan_headed}
 use Rattle.mcap_merge.proofs.Marking.{messages_flat}
 use Rattle.mcap_merge.proofs.Sound.{time_shown}
@@ -46,14 +46,14 @@ times_joined : (xs ys : List Top) → times_of (xs ++ ys) ≡ times_of xs ++ tim
 times_joined xs ys = ap (map (λ (t : Top). time_in t.content)) (filter-append is_headed xs ys) ∙ map-append (λ (t : Top). time_in t.content) (filter is_headed xs) (filter is_headed ys)
 
 abbrev times_under : List Top → List ℕ
-times_under tops = flat_map (λ t. times_of (opened t)) tops
+times_under tops = flat_map (λ t. times_of (unchunked t)) tops
 
 times_flat : (tops : List Top) → times_of (flat tops) ≡ times_under tops
 times_flat [] = refl
 times_flat (t ∷ ts) =
     times_joined (flattened t) (flat ts)
-    ∙ ap (λ (l : List ℕ). l ++ times_of (flat ts)) (ap (map (λ (u : Top). time_in u.content)) (messages_flat (opened t)))
-    ∙ ap (λ (l : List ℕ). times_of (opened t) ++ l) (times_flat ts)
+    ∙ ap (λ (l : List ℕ). l ++ times_of (flat ts)) (ap (map (λ (u : Top). time_in u.content)) (messages_flat (unchunked t)))
+    ∙ ap (λ (l : List ℕ). times_of (unchunked t) ++ l) (times_flat ts)
 
 scan_times : (tops : List Top) (messages : List Seen) → Scan tops messages → map (λ s. s.message.log_time) messages ≡ times_under tops
 scan_times tops messages scan =
@@ -79,14 +79,14 @@ least_there at [] s has = absurd (at_none has.0 s has.1)
 least_there at (t ∷ ts) s has = elim (at_either (spans_one at t) (spans_from (at + length (top_bytes t)) ts) has.0 s has.1) [
   | inl first ↦
       let told = spans_tell_times at t s (has.0, first) in
-      has_flat (λ u. times_of (opened u)) (t ∷ ts) zero t s.least refl told.1.least_there
+      has_flat (λ u. times_of (unchunked u)) (t ∷ ts) zero t s.least refl told.1.least_there
   | inr (k, is, behind) ↦
       let there = least_there (at + length (top_bytes t)) ts s (k, behind) in
-      (length (times_of (opened t)) + there.0, at_second (times_of (opened t)) (times_under ts) there.0 s.least there.1)
+      (length (times_of (unchunked t)) + there.0, at_second (times_of (unchunked t)) (times_under ts) there.0 s.least there.1)
 ]
 
 -- it is sent at that time
-pub least_sent : (reads : List Read) (number : ℕ) (r : Read) (s : Span) → At reads number r → Scan r.tops r.messages → Has (spans_of r.tops) s → (m : Sent) × IsFrom (tops_of reads) m × (m.seen.message.log_time ≡ s.least)
+pub least_sent : (reads : List Read) (number : ℕ) (r : Read) (s : Span) → At reads number r → Scan r.tops r.messages → Has (spans_of r.tops) s → (m : Sent) × IsFrom (read_tops reads) m × (m.seen.message.log_time ≡ s.least)
 least_sent reads number r s at scan has =
     let there = least_there 8 r.tops s has in
     let (seen, at_seen, time) = unmapped (λ (x : Seen). x.message.log_time) r.messages there.0 s.least (subst (λ (l : List ℕ). At l there.0 s.least) (sym (scan_times r.tops r.messages scan)) there.1) in

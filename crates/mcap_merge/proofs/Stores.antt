@@ -18,11 +18,11 @@ use Rattle.chunk_survey.specs.declared.spans.Span.{Span}
 use Rattle.mcap_merge.specs.declared.answers.MergeRefused.{MergeRefused}
 use Rattle.mcap_merge.specs.declared.input.Input.{Input}
 use Rattle.mcap_merge.specs.Inputs.{Read, HoldsInput, HoldInputs}
-use Rattle.mcap_merge.specs.Reading.{front_of, FrontReads, HasLength, IsCounted, FindsOutside, SpansFit, AsksOnce, StoreKeeps, CountStands, IsReadOf, StoreRefused, ReadsWhole, IsRefusalAt, AreHeld, AreReadBefore, InputRefused}
+use Rattle.mcap_merge.specs.Reading.{front_source, FrontReads, HasLength, TellsFaultCount, FindsOutside, SpansFit, AsksWithinLength, StoreKeeps, FaultsStand, IsReadOf, StoreRefused, ReadsWhole, IsRefusalAt, AllReadWhole, AreReadBefore, InputRefused}
 use Rattle.mcap_merge.proofs.Within.{halts_within}
 
 -- the first bytes of a store are all where the length is theirs
-told_left : (old : StoreState) (len : ℕ) (bytes : List ℕ) → HasLength old len → old.bytes ≡ Some bytes → (front_of old len).left ≡ Some bytes
+told_left : (old : StoreState) (len : ℕ) (bytes : List ℕ) → HasLength old len → old.bytes ≡ Some bytes → (front_source old len).left ≡ Some bytes
 told_left old len bytes whole is =
     let long : len ≡ length bytes = whole bytes is in
     ap (λ (o : Option (List ℕ)). front_left o 0 len) is ∙ ap (λ (l : List ℕ). Some l) (take_all len bytes (omega (arith, long)))
@@ -37,7 +37,7 @@ front_whole old new len input whole front =
     let all = halts.halts in
     (r, holds, λ bytes is. (end, all bytes (told_left old len bytes whole is)), no_fault old new front.next len front.now.faults front.was halts.still)
 
-pub front_refused : (old new : StoreState) (len : ℕ) (why result : ReadingRefused) → HasLength old len → FrontReads old len new (Err why) → IsCounted new.faults why result → StoreRefused old new result
+pub front_refused : (old new : StoreState) (len : ℕ) (why result : ReadingRefused) → HasLength old len → FrontReads old len new (Err why) → TellsFaultCount new.faults why result → StoreRefused old new result
 front_refused old new len (refusals.Fault faults) result whole front is =
     let (tops, stands) = front.reads in
     let was = front.was in
@@ -101,13 +101,13 @@ measured_keeps old mid new len result measures whole stays = record {
 pub record ReadSoFar {T : Type 0} (state : T → StoreState) (olds nows : List T) (i : ℕ) (inputs : List Input) : Type 0 where
   pub size : length nows ≡ length olds
   pub keeps : AllZip StoreKeeps (map state olds) (map state nows)
-  pub still : AllZip CountStands (map state olds) (map state nows)
+  pub still : AllZip FaultsStand (map state olds) (map state nows)
   pub behind : (k : ℕ) (x : T) → i ≤ k → At olds k x → At nows k x
   pub reads : List Read
   pub hold : HoldInputs reads inputs
   pub are : AllZip IsReadOf (take i (map state olds)) reads
   pub fits : AllZip SpansFit (map state (take i nows)) inputs
-  pub asked : AllZip AsksOnce (map state olds) (map state nows)
+  pub asked : AllZip AsksWithinLength (map state olds) (map state nows)
 
 module _ {T : Type 0} (state : T → StoreState) where
   zip_self : (R : StoreState → StoreState → Type 0) → ((s : StoreState) → R s s) → (xs : List T) → AllZip R (map state xs) (map state xs)
@@ -118,19 +118,19 @@ module _ {T : Type 0} (state : T → StoreState) where
   read_begin olds inputs none = record {
     size = refl;
     keeps = zip_self StoreKeeps (λ s. record { bytes = refl; known = omega arith; faults = omega arith }) olds;
-    still = zip_self CountStands (λ s. refl) olds;
+    still = zip_self FaultsStand (λ s. refl) olds;
     behind = λ k x later at. at;
     reads = [];
     hold = subst (HoldInputs []) (sym none) tt;
     are = tt;
     fits = subst (AllZip SpansFit []) (sym none) tt;
-    asked = zip_self AsksOnce (λ s. record { once = omega arith }) olds;
+    asked = zip_self AsksWithinLength (λ s. record { once = omega arith }) olds;
   }
 
   keeps_trans : (a b c : StoreState) → StoreKeeps a b → StoreKeeps b c → StoreKeeps a c
   keeps_trans a b c one other = record { bytes = other.bytes ∙ one.bytes; known = omega (arith, one.known, other.known); faults = omega (arith, one.faults, other.faults) }
 
-  stands_trans : (a b c : StoreState) → CountStands a b → CountStands b c → CountStands a c
+  stands_trans : (a b c : StoreState) → FaultsStand a b → FaultsStand b c → FaultsStand a c
   stands_trans a b c one other = other ∙ one
 
   zip_set : (R : StoreState → StoreState → Type 0) → ((a b c : StoreState) → R a b → R b c → R a c) → (olds : List StoreState) (nows : List T) (i : ℕ) (x y : T) → AllZip R olds (map state nows) → At nows i x → R (state x) (state y) → AllZip R olds (map state (set nows i y))
@@ -170,12 +170,12 @@ module _ {T : Type 0} (state : T → StoreState) where
       subst (At olds i) same first
 
   -- a store more
-  pub read_on : (olds nows : List T) (i : ℕ) (inputs more : List Input) (x y : T) (input : Input) → ReadSoFar state olds nows i inputs → At nows i x → StoreKeeps (state x) (state y) → SpansFit (state y) input → AsksOnce (state x) (state y) → ReadsWhole (state x) (state y) (Ok input) → more ≡ inputs ++ input ∷ []
+  pub read_on : (olds nows : List T) (i : ℕ) (inputs more : List Input) (x y : T) (input : Input) → ReadSoFar state olds nows i inputs → At nows i x → StoreKeeps (state x) (state y) → SpansFit (state y) input → AsksWithinLength (state x) (state y) → ReadsWhole (state x) (state y) (Ok input) → more ≡ inputs ++ input ∷ []
       → ReadSoFar state olds (set nows i y) (i + 1) more
   read_on olds nows i inputs more x y input was at keeps fits asked (r, holds, is, still) grown = record {
     size = length_set nows i y ∙ was.size;
     keeps = zip_set StoreKeeps keeps_trans (map state olds) nows i x y was.keeps at keeps;
-    still = zip_set CountStands stands_trans (map state olds) nows i x y was.still at still;
+    still = zip_set FaultsStand stands_trans (map state olds) nows i x y was.still at still;
     behind = λ k z later there. let behind = was.behind in at_set_other nows i k z y (λ e. omega (arith, later, e)) (behind k z (omega (arith, later)) there);
     reads = was.reads ++ r ∷ [];
     hold = subst (HoldInputs (was.reads ++ r ∷ [])) (sym grown) (zip_push HoldsInput was.reads inputs r input was.hold holds);
@@ -185,7 +185,7 @@ module _ {T : Type 0} (state : T → StoreState) where
         ap (map state) (take_more_set nows i y (at_within nows i x at)) ∙ map-append state (take i nows) (y ∷ []) in
         subst (AllZip SpansFit (map state (take (i + 1) (set nows i y)))) (sym grown)
         (subst (λ (l : List StoreState). AllZip SpansFit l (inputs ++ input ∷ [])) (sym taken) (zip_push SpansFit (map state (take i nows)) inputs (state y) input was.fits fits));
-    asked = zip_put AsksOnce olds nows i x y was.asked (old_at olds nows i inputs x was at) asked;
+    asked = zip_put AsksWithinLength olds nows i x y was.asked (old_at olds nows i inputs x was at) asked;
   }
 
   read_before : (olds nows : List T) (i : ℕ) (inputs : List Input) → ReadSoFar state olds nows i inputs → AreReadBefore (map state olds) i
@@ -196,15 +196,15 @@ module _ {T : Type 0} (state : T → StoreState) where
   pub keeps_all : (olds nows : List T) (i : ℕ) (inputs : List Input) (x y : T) → ReadSoFar state olds nows i inputs → At nows i x → StoreKeeps (state x) (state y) → AllZip StoreKeeps (map state olds) (map state (set nows i y))
   keeps_all olds nows i inputs x y was at keeps = zip_set StoreKeeps keeps_trans (map state olds) nows i x y was.keeps at keeps
 
-  pub still_all : (olds nows : List T) (i : ℕ) (inputs : List Input) (x y : T) → ReadSoFar state olds nows i inputs → At nows i x → CountStands (state x) (state y) → AllZip CountStands (map state olds) (map state (set nows i y))
-  still_all olds nows i inputs x y was at stands = zip_set CountStands stands_trans (map state olds) nows i x y was.still at stands
+  pub still_all : (olds nows : List T) (i : ℕ) (inputs : List Input) (x y : T) → ReadSoFar state olds nows i inputs → At nows i x → FaultsStand (state x) (state y) → AllZip FaultsStand (map state olds) (map state (set nows i y))
+  still_all olds nows i inputs x y was at stands = zip_set FaultsStand stands_trans (map state olds) nows i x y was.still at stands
 
-  pub asked_all : (olds nows : List T) (i : ℕ) (inputs : List Input) (x y : T) → ReadSoFar state olds nows i inputs → At nows i x → AsksOnce (state x) (state y) → AllZip AsksOnce (map state olds) (map state (set nows i y))
-  asked_all olds nows i inputs x y was at asked = zip_put AsksOnce olds nows i x y was.asked (old_at olds nows i inputs x was at) asked
+  pub asked_all : (olds nows : List T) (i : ℕ) (inputs : List Input) (x y : T) → ReadSoFar state olds nows i inputs → At nows i x → AsksWithinLength (state x) (state y) → AllZip AsksWithinLength (map state olds) (map state (set nows i y))
+  asked_all olds nows i inputs x y was at asked = zip_put AsksWithinLength olds nows i x y was.asked (old_at olds nows i inputs x was at) asked
 
-  others_stand : (olds nows : List T) (i : ℕ) (inputs : List Input) (x y : T) (n : ℕ) (o s : StoreState) → ReadSoFar state olds nows i inputs → (n ≡ i → ⊥) → At (map state olds) n o → At (map state (set nows i y)) n s → CountStands o s
+  others_stand : (olds nows : List T) (i : ℕ) (inputs : List Input) (x y : T) (n : ℕ) (o s : StoreState) → ReadSoFar state olds nows i inputs → (n ≡ i → ⊥) → At (map state olds) n o → At (map state (set nows i y)) n s → FaultsStand o s
   others_stand olds nows i inputs x y n o s was apart at_o at_s =
-      let (w, at_w, stands) = zip_front CountStands (map state olds) (map state nows) n o was.still at_o in
+      let (w, at_w, stands) = zip_front FaultsStand (map state olds) (map state nows) n o was.still at_o in
       let (z, at_z, is) = unmapped state nows n w at_w in
       let there : At (map state (set nows i y)) n (state z) = at_mapped (set nows i y) n z (at_set_other nows i n z y apart at_z) in
       let same : s ≡ state z = at_one (map state (set nows i y)) n s (state z) at_s there in
@@ -227,7 +227,7 @@ module _ {T : Type 0} (state : T → StoreState) where
       subst (InputRefused (map state olds) (map state (set nows i y))) (sym is) (still_all olds nows i inputs x y was at refused.0, (read_before olds nows i inputs was, state x, at_mapped olds i x (old_at olds nows i inputs x was at), refused.1))
   refused_at olds nows i inputs x y refusals.Memory why was at refused is = subst (InputRefused (map state olds) (map state (set nows i y))) (sym is) (still_all olds nows i inputs x y was at refused)
 
-  pub all_held : (olds nows : List T) (i : ℕ) (inputs : List Input) → ReadSoFar state olds nows i inputs → length (map state olds) ≤ i → AreHeld (map state olds) inputs
+  pub all_held : (olds nows : List T) (i : ℕ) (inputs : List Input) → ReadSoFar state olds nows i inputs → length (map state olds) ≤ i → AllReadWhole (map state olds) inputs
   all_held olds nows i inputs was all = (was.reads, was.hold, subst (λ (l : List StoreState). AllZip IsReadOf l was.reads) (take_all i (map state olds) all) was.are)
 
   pub all_fit : (olds nows : List T) (i : ℕ) (inputs : List Input) → ReadSoFar state olds nows i inputs → length nows ≤ i → AllZip SpansFit (map state nows) inputs

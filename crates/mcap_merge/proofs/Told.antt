@@ -26,7 +26,7 @@ use Rattle.chunk_walk.specs.Stores.{files_of}
 use Rattle.chunk_walk.specs.Walks.{Text, turns_in, turns_of, pieces_in, pieces_loaded, pieces_ahead, IsTextOf, WalkStands, AllGiven}
 use Rattle.chunk_walk.proofs.Ordered.{before_each}
 use Rattle.mcap_merge.specs.declared.input.Input.{Input}
-use Rattle.mcap_merge.specs.Inputs.{Read, tops_of, HoldsInput, HoldInputs}
+use Rattle.mcap_merge.specs.Inputs.{Read, read_tops, HoldsInput, HoldInputs}
 use Rattle.mcap_merge.specs.Uses.{Use, added_by, with_use, history_of, IsUse, AreUses}
 use Rattle.mcap_merge.specs.Turns.{IsUseOfTurn}
 use Rattle.mcap_merge.specs.Writing.{extras_of}
@@ -45,8 +45,8 @@ use Rattle.mcap_merge.proofs.ToldTurns.{TurnIs, before_merges, record_is, Messag
 -- those are the messages of these turns, and these are their uses
 record SentsTold (reads : List Read) (given : List Turn) (uses : List Use) : Type 0 where
   sents : List Sent
-  are : AllZip (λ t m. TurnIs reads t m × IsFrom (tops_of reads) m) given sents
-  used : AreUses (tops_of reads) sents uses
+  are : AllZip (λ t m. TurnIs reads t m × IsFrom (read_tops reads) m) given sents
+  used : AreUses (read_tops reads) sents uses
 
 has_flat : {X Y : Type 0} (f : X → List Y) (xs : List X) (x : X) (y : Y) → Has xs x → Has (f x) y → Has (flat_map f xs) y
 has_flat {X} {Y} f xs x y has there =
@@ -55,9 +55,9 @@ has_flat {X} {Y} f xs x y has there =
 
 module _ (stores : List StoreState) (reads : List Read) (inputs : List Input) (pieces some : List Piece) (texts : List Text) (told : Told stores reads inputs pieces) (among : (p : Piece) → Has some p → Has pieces p) (are : AllZip (IsTextOf (files_of stores)) some texts) where
   abbrev Is : Turn → Sent → Type 0
-  Is t m = TurnIs reads t m × IsFrom (tops_of reads) m
+  Is t m = TurnIs reads t m × IsFrom (read_tops reads) m
 
-  use_told : (t : Turn) (u : Use) → IsUseOfTurn (tops_of reads) texts t u → (m : Sent) × Is t m × IsUse (tops_of reads) m u
+  use_told : (t : Turn) (u : Use) → IsUseOfTurn (read_tops reads) texts t u → (m : Sent) × Is t m × IsUse (read_tops reads) m u
   use_told t u is =
       let (p, at_p, text) = zip_back (IsTextOf (files_of stores)) some texts is.among.0 is.text are is.among.1 in
       let found = record_is stores reads inputs pieces told.listed p is.text t is.top (let tell = told.tell in tell p.input) (among p (is.among.0, at_p)) text is.has is.there in
@@ -69,13 +69,13 @@ module _ (stores : List StoreState) (reads : List Read) (inputs : List Input) (p
         (found.is, found.from),
         record {
           tops = is.content.tops;
-          at = subst (λ (n : ℕ). At (tops_of reads) n is.content.tops) input is.content.at;
+          at = subst (λ (n : ℕ). At (read_tops reads) n is.content.tops) input is.content.at;
           content = subst (λ (n : ℕ). IsContent (flat is.content.tops) n u.content) (is.on ∙ channel) is.content.is;
           message = message;
         },
       )
 
-  sents_told : (given : List Turn) (uses : List Use) → AllZip (IsUseOfTurn (tops_of reads) texts) given uses → SentsTold reads given uses
+  sents_told : (given : List Turn) (uses : List Use) → AllZip (IsUseOfTurn (read_tops reads) texts) given uses → SentsTold reads given uses
   sents_told [] [] zip = record { sents = []; are = tt; used = tt }
   sents_told [] (u ∷ us) zip = absurd zip
   sents_told (t ∷ ts) [] zip = absurd zip
@@ -91,7 +91,7 @@ module _ (stores : List StoreState) (reads : List Read) (inputs : List Input) (p
       before_merges reads t u m n one.0 other.0 (pairs_at TurnBefore given rise i j t u less at_t at_u))
 
   -- the turn of a message that was given is that of this message alone
-  sent_there : (given : List Turn) (sents : List Sent) (t : Turn) (m : Sent) → AllZip Is given sents → TurnIs reads t m → IsFrom (tops_of reads) m → Has given t → Has sents m
+  sent_there : (given : List Turn) (sents : List Sent) (t : Turn) (m : Sent) → AllZip Is given sents → TurnIs reads t m → IsFrom (read_tops reads) m → Has given t → Has sents m
   sent_there given sents t m zip is from has =
       let (n, at_n, other) = zip_front Is given sents has.0 t zip has.1 in
       let there = other.0 in
@@ -113,9 +113,9 @@ pub record AreTold (inputs : List (List Top)) (uses : List Use) : Type 0 where
   pub used : AreUses inputs messages uses
 
 module _ (stores : List StoreState) (reads : List Read) (inputs : List Input) (pieces : List Piece) (texts : List Text) (given : List Turn) (uses : List Use) (told : Told stores reads inputs pieces) (all : AllGiven (files_of stores) pieces texts given)
-    (are : AllZip (IsUseOfTurn (tops_of reads) texts) given uses) where
+    (are : AllZip (IsUseOfTurn (read_tops reads) texts) given uses) where
   -- the turns that were all given are the messages of the inputs
-  pub told_all : AreTold (tops_of reads) uses
+  pub told_all : AreTold (read_tops reads) uses
   told_all =
       let mine : (p : Piece) → Has pieces p → Has pieces p = λ p has. has in
       let found = sents_told stores reads inputs pieces pieces texts told mine all.texts_are given uses are in
@@ -123,7 +123,7 @@ module _ (stores : List StoreState) (reads : List Read) (inputs : List Input) (p
         messages = found.sents;
         in_turn = record {
           rise = sents_rise stores reads inputs pieces pieces texts told mine all.texts_are given found.sents all.rise found.are;
-          are = λ m has. let (t, at, is) = zip_back (λ (t : Turn) (n : Sent). TurnIs reads t n × IsFrom (tops_of reads) n) given found.sents has.0 m found.are has.1 in is.1;
+          are = λ m has. let (t, at, is) = zip_back (λ (t : Turn) (n : Sent). TurnIs reads t n × IsFrom (read_tops reads) n) given found.sents has.0 m found.are has.1 in is.1;
           all = λ m from.
               let is = message_told stores reads inputs pieces told.listed m (let tell = told.tell in tell m.input) from in
               let whole = all.all in
@@ -135,10 +135,10 @@ module _ (stores : List StoreState) (reads : List Read) (inputs : List Input) (p
 
 -- what is put for them is the merge
 pub merged_told : (stores : List StoreState) (reads : List Read) (inputs : List Input) (pieces : List Piece) (texts : List Text) (given : List Turn) (uses : List Use) (profile : List ℕ) → Told stores reads inputs pieces → AllGiven (files_of stores) pieces texts given
-    → AllZip (IsUseOfTurn (tops_of reads) texts) given uses → CommonProfile (tops_of reads) profile → MergeOf (tops_of reads) profile (extras_of inputs) (history_of uses)
+    → AllZip (IsUseOfTurn (read_tops reads) texts) given uses → CommonProfile (read_tops reads) profile → MergeOf (read_tops reads) profile (extras_of inputs) (history_of uses)
 merged_told stores reads inputs pieces texts given uses profile told all are common =
     let them = told_all stores reads inputs pieces texts given uses told all are in
-    let merges = merges_all (tops_of reads) them.messages uses them.used in
+    let merges = merges_all (read_tops reads) them.messages uses them.used in
     record {
       profile_is = common;
       extras_are = extras_are reads inputs told.listed.hold;
@@ -179,16 +179,16 @@ made_by : (c d : ChannelDef) (n k : MessageFields) → c ≡ d → n ≡ k → m
 made_by c d n k contents messages = ap (λ (e : ChannelDef). made e n) contents ∙ ap (made d) messages
 
 module _ (reads : List Read) (inputs : List Input) (hold : HoldInputs reads inputs) where
-  use_once : (m : Sent) (u v : Use) → IsUse (tops_of reads) m u → IsUse (tops_of reads) m v → u ≡ v
+  use_once : (m : Sent) (u v : Use) → IsUse (read_tops reads) m u → IsUse (read_tops reads) m v → u ≡ v
   use_once m u v one other =
       let (r, at, same) = unmapped (λ (x : Read). x.tops) reads m.input one.tops one.at in
       let (input, here, holds) = zip_front HoldsInput reads inputs m.input r hold at in
-      let tops : other.tops ≡ one.tops = at_one (tops_of reads) m.input other.tops one.tops other.at one.at in
+      let tops : other.tops ≡ one.tops = at_one (read_tops reads) m.input other.tops one.tops other.at one.at in
       let mine : IsContent (flat r.tops) m.seen.channel u.content = subst (λ (l : List Top). IsContent (flat l) m.seen.channel u.content) (sym same) one.content in
       let theirs : IsContent (flat r.tops) m.seen.channel v.content = subst (λ (l : List Top). IsContent (flat l) m.seen.channel v.content) (tops ∙ sym same) other.content in
       made_by u.content v.content u.message v.message (content_once (flat r.tops) input.tables m.seen.channel u.content v.content holds.tables_are mine theirs) (one.message ∙ sym other.message)
 
-  uses_first : (sents more : List Sent) (uses all : List Use) → AreUses (tops_of reads) (sents ++ more) all → AreUses (tops_of reads) sents uses → (others : List Use) × (all ≡ uses ++ others)
+  uses_first : (sents more : List Sent) (uses all : List Use) → AreUses (read_tops reads) (sents ++ more) all → AreUses (read_tops reads) sents uses → (others : List Use) × (all ≡ uses ++ others)
   uses_first [] more [] all whole some = (all, refl)
   uses_first [] more (u ∷ us) all whole some = absurd some
   uses_first (m ∷ ms) more [] all whole some = absurd some
@@ -210,7 +210,7 @@ history_front uses more =
         (added_by h u ++ records, is ∙ append_assoc h (added_by h u) records)
 
 module _ (stores : List StoreState) (reads : List Read) (inputs : List Input) (w : Walk) (texts : List Text) (given : List Turn) (uses : List Use) (messages : List Sent) (all : List Use) (told : Told stores reads inputs (pieces_in w))
-    (stands : WalkStands (files_of stores) w texts given) (are : AllZip (IsUseOfTurn (tops_of reads) texts) given uses) (in_turn : AreInTurn (tops_of reads) messages) (used : AreUses (tops_of reads) messages all) where
+    (stands : WalkStands (files_of stores) w texts given) (are : AllZip (IsUseOfTurn (read_tops reads) texts) given uses) (in_turn : AreInTurn (read_tops reads) messages) (used : AreUses (read_tops reads) messages all) where
   loaded_there : (p : Piece) → Has (pieces_loaded w) p → Has (pieces_in w) p
   loaded_there p has = (has.0, (has_taken w.pieces.items w.next has.0 p has.1).1)
 
@@ -220,7 +220,7 @@ module _ (stores : List StoreState) (reads : List Read) (inputs : List Input) (w
   -- a message whose turn is left, or whose piece wasn't loaded yet, comes behind all whose turns were given
   comes_behind : (m : Sent) (t : Turn) → TurnIs reads t m → ((g : Turn) → Has given g → TurnBefore g t) → Each (λ n. MergesBefore n m) found.sents
   comes_behind m t is before k n at =
-      let (g, at_g, there) = zip_back (λ (u : Turn) (s : Sent). TurnIs reads u s × IsFrom (tops_of reads) s) given found.sents k n found.are at in
+      let (g, at_g, there) = zip_back (λ (u : Turn) (s : Sent). TurnIs reads u s × IsFrom (read_tops reads) s) given found.sents k n found.are at in
       before_merges reads g t n m there.0 is (before g (k, at_g))
 
   place_of : (m : Sent) → Has messages m → Has found.sents m ⊎ Each (λ n. MergesBefore n m) found.sents
@@ -251,8 +251,8 @@ module _ (stores : List StoreState) (reads : List Read) (inputs : List Input) (w
       let listed = in_turn.all in
       let rise = sents_rise stores reads inputs (pieces_in w) (pieces_loaded w) texts told loaded_there stands.taken given found.sents stands.queues.rise found.are in
       let (more, cut) = first_of_all MergesBefore merges_apart found.sents messages rise in_turn.rise
-      (λ m has. let (t, at, is) = zip_back (λ (u : Turn) (s : Sent). TurnIs reads u s × IsFrom (tops_of reads) s) given found.sents has.0 m found.are has.1 in listed m is.1) place_of in
-      uses_first reads inputs told.listed.hold found.sents more uses all (subst (λ (l : List Sent). AreUses (tops_of reads) l all) cut used) found.used
+      (λ m has. let (t, at, is) = zip_back (λ (u : Turn) (s : Sent). TurnIs reads u s × IsFrom (read_tops reads) s) given found.sents has.0 m found.are has.1 in listed m is.1) place_of in
+      uses_first reads inputs told.listed.hold found.sents more uses all (subst (λ (l : List Sent). AreUses (read_tops reads) l all) cut used) found.used
 
   pub told_begins : (records : List Rec) × (history_of all ≡ history_of uses ++ records)
   told_begins =

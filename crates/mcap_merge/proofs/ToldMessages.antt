@@ -5,7 +5,7 @@ use Rattle.std.specs.List.{list_any}
 use Rattle.std.proofs.lemmas.Bool.{eqb-true}
 use Rattle.mcap_model.specs.declared.replay.Place.{Place}
 use Rattle.mcap_model.specs.Places.{At, Has}
-use Rattle.mcap_model.specs.Tops.{Top, spelled, offset_behind, is_chunk, inner_tops, opened, records_in, is_flat_kind, Placed, placed_inside, placed_one, placed_from, placed}
+use Rattle.mcap_model.specs.Tops.{Top, spelled, offset_behind, is_chunk, inner_tops, unchunked, records_in, is_flat_kind, Placed, placed_inside, placed_one, placed_from, placed}
 use Rattle.mcap_model.specs.Fields.{IsMessage}
 use Rattle.mcap_model.specs.Scan.{Seen, IsSeen, Scan, is_message_top, tops_of}
 use Rattle.mcap_model.proofs.Places.{at_none, at_last}
@@ -16,7 +16,7 @@ use Rattle.mcap_model.proofs.Flat.{at_mapped}
 use Rattle.mcap_model.proofs.OpenedChunks.{placed_at}
 use Rattle.chunk_survey.specs.declared.spans.Span.{Span}
 use Rattle.record_walk.specs.declared.heads.MessageHead.{MessageHead}
-use Rattle.record_walk.specs.Heads.{channel_in, time_in, is_headed, head_of}
+use Rattle.record_walk.specs.Heads.{channel_id_in, time_in, is_headed, head_of}
 use Rattle.chunk_survey.specs.Heads.{set_at, heads_one, heads_from}
 use Rattle.chunk_survey.specs.Times.{times_of}
 use Rattle.chunk_survey.specs.Spans.{spans_one}
@@ -49,7 +49,7 @@ middle_there records inside r behind split = (length inside, subst (λ (l : List
 message_flat : (t : Top) → is_message_top t ≡ true → is_flat_kind t ≡ true
 message_flat t is = subst (λ (n : ℕ). list_any (λ kind. eqb kind n) (3 ∷ 4 ∷ 5 ∷ []) ≡ true) (sym (eqb-true t.op 5 is)) refl
 
-placed_opened : (at : ℕ) (t : Top) → placed_one at t ≡ filter (λ p. is_flat_kind p.top) (placed_inside at 0 (opened t))
+placed_opened : (at : ℕ) (t : Top) → placed_one at t ≡ filter (λ p. is_flat_kind p.top) (placed_inside at 0 (unchunked t))
 placed_opened at t = by (is_chunk t)
   where
     by : (b : Bool) → filter (λ p. is_flat_kind p.top) (if b then placed_inside at 0 (inner_tops t) else placed_at at 0 t ∷ []) ≡ filter (λ p. is_flat_kind p.top) (placed_inside at 0 (if b then inner_tops t else t ∷ []))
@@ -83,14 +83,14 @@ seen_there tops p messages offset inner r same scan there is =
       is = subst (λ (q : Placed). IsMessage q.top seen.channel seen.message) same shows.is;
     }
 
-pub span_message : (tops front : List Top) (t : Top) (back : List Top) (messages : List Seen) (inside : List Top) (r : Top) (behind : List Top) → tops ≡ front ++ t ∷ back → Scan tops messages → opened t ≡ inside ++ r ∷ behind → is_headed r ≡ true
+pub span_message : (tops front : List Top) (t : Top) (back : List Top) (messages : List Seen) (inside : List Top) (r : Top) (behind : List Top) → tops ≡ front ++ t ∷ back → Scan tops messages → unchunked t ≡ inside ++ r ∷ behind → is_headed r ≡ true
     → SpanMessage messages (offset_behind front) (length (spelled inside)) r
 span_message tops front t back messages inside r behind cut scan split is =
     let offset = offset_behind front in
     let p = placed_at offset (0 + length (spelled inside)) r in
     let here : Has (placed_inside offset 0 (inside ++ r ∷ behind)) p = lies (λ n u. placed_at offset n u ∷ []) (placed_inside offset) (λ n. refl) (λ n u us. refl) 0 inside r behind p (0, refl) in
-    let held : Has (placed_inside offset 0 (opened t)) p = subst (λ (l : List Top). Has (placed_inside offset 0 l) p) (sym split) here in
-    let kept = filter_has (λ (q : Placed). is_flat_kind q.top) (placed_inside offset 0 (opened t)) held.0 p held.1 (message_flat r (headed_message r is)) in
+    let held : Has (placed_inside offset 0 (unchunked t)) p = subst (λ (l : List Top). Has (placed_inside offset 0 l) p) (sym split) here in
+    let kept = filter_has (λ (q : Placed). is_flat_kind q.top) (placed_inside offset 0 (unchunked t)) held.0 p held.1 (message_flat r (headed_message r is)) in
     let one : Has (placed_one offset t) p = subst (λ (l : List Placed). Has l p) (sym (placed_opened offset t)) kept in
     let all : Has (placed (front ++ t ∷ back)) p = lies placed_one placed_from (λ n. refl) (λ n u us. refl) 8 front t back p one in
     let there : Has (placed tops) p = subst (λ (l : List Top). Has (placed l) p) (sym cut) all in
@@ -104,12 +104,12 @@ pub record SpanHas (offset : ℕ) (t : Top) (m : Seen) : Type 0 where
   pub offset_is : m.place.top ≡ offset
   pub span : Span
   pub has : Has (spans_one offset t) span
-  pub head : Has (heads_from 0 (opened t)) (record { channel = m.channel; time = m.message.log_time; offset = m.place.inner })
+  pub head : Has (heads_from 0 (unchunked t)) (record { channel = m.channel; time = m.message.log_time; offset = m.place.inner })
 
 abbrev head_at : ℕ → ℕ → ℕ → MessageHead
 head_at channel time offset = record { channel = channel; time = time; offset = offset }
 
-span_there : (offset : ℕ) (t : Top) (time : ℕ) → Has (times_of (opened t)) time → (s : Span) × Has (spans_one offset t) s
+span_there : (offset : ℕ) (t : Top) (time : ℕ) → Has (times_of (unchunked t)) time → (s : Span) × Has (spans_one offset t) s
 span_there offset t time has = by (spans_one offset t) refl
   where
     by : (l : List Span) → spans_one offset t ≡ l → (s : Span) × Has (spans_one offset t) s
@@ -117,30 +117,30 @@ span_there offset t time has = by (spans_one offset t) refl
     by (s ∷ ss) is = (s, (0, ap (λ (l : List Span). slice_get l 0) is))
 
 -- the message is this record among those that the record is or holds
-inside_has : (offset : ℕ) (t : Top) (m : Seen) (inside : List Top) (r : Top) (behind : List Top) (inner : ℕ) → opened t ≡ inside ++ r ∷ behind → inner ≡ 0 + length (spelled inside) → m.place ≡ (placed_at offset inner r).place → IsMessage r m.channel m.message
+inside_has : (offset : ℕ) (t : Top) (m : Seen) (inside : List Top) (r : Top) (behind : List Top) (inner : ℕ) → unchunked t ≡ inside ++ r ∷ behind → inner ≡ 0 + length (spelled inside) → m.place ≡ (placed_at offset inner r).place → IsMessage r m.channel m.message
     → SpanHas offset t m
 inside_has offset t m inside r behind inner split is place message =
     let kind = message_headed r m.channel m.message message in
     let time : time_in r.content ≡ m.message.log_time = time_shown r.content m.channel m.message message.layout in
     let there : length (spelled inside) ≡ m.place.inner = omega (arith, is, same_inner m.place (placed_at offset inner r).place place) in
-    let channel : channel_in r.content ≡ m.channel = channel_shown r.content m.channel m.message message.layout in
-    let e = head_there (opened t) inside r behind split kind in
-    let (s, has) = span_there offset t (time_in r.content) (time_there (opened t) r (middle_there (opened t) inside r behind split) kind) in
+    let channel : channel_id_in r.content ≡ m.channel = channel_shown r.content m.channel m.message message.layout in
+    let e = head_there (unchunked t) inside r behind split kind in
+    let (s, has) = span_there offset t (time_in r.content) (time_there (unchunked t) r (middle_there (unchunked t) inside r behind split) kind) in
     record {
       offset_is = same_top m.place (placed_at offset inner r).place place;
       span = s;
       has = has;
-      head = subst (Has (heads_from 0 (opened t))) (ap (λ (n : ℕ). head_at n (time_in r.content) (length (spelled inside))) channel ∙ ap (λ (n : ℕ). head_at m.channel n (length (spelled inside))) time ∙ ap (head_at m.channel m.message.log_time) there) e;
+      head = subst (Has (heads_from 0 (unchunked t))) (ap (λ (n : ℕ). head_at n (time_in r.content) (length (spelled inside))) channel ∙ ap (λ (n : ℕ). head_at m.channel n (length (spelled inside))) time ∙ ap (head_at m.channel m.message.log_time) there) e;
     }
 
 placed_has : (offset : ℕ) (t : Top) (p : Placed) (m : Seen) → Has (placed_one offset t) p → p.place ≡ m.place → IsMessage p.top m.channel m.message → SpanHas offset t m
 placed_has offset t p m has place message =
     let one = subst (λ (l : List Placed). Has l p) (placed_opened offset t) has in
-    let (held, flat) = filter_passed (λ (q : Placed). is_flat_kind q.top) (placed_inside offset 0 (opened t)) one.0 p one.1 in
-    let g = laid (λ n u. placed_at offset n u ∷ []) (placed_inside offset) (λ n. refl) (λ n u us. refl) 0 (opened t) p held in
+    let (held, flat) = filter_passed (λ (q : Placed). is_flat_kind q.top) (placed_inside offset 0 (unchunked t)) one.0 p one.1 in
+    let g = laid (λ n u. placed_at offset n u ∷ []) (placed_inside offset) (λ n. refl) (λ n u us. refl) 0 (unchunked t) p held in
     by g.front g.top g.back g.split (has_one (placed_at offset (0 + length (spelled g.front)) g.top) p g.has)
   where
-    by : (inside : List Top) (r : Top) (behind : List Top) → opened t ≡ inside ++ r ∷ behind → p ≡ placed_at offset (0 + length (spelled inside)) r → SpanHas offset t m
+    by : (inside : List Top) (r : Top) (behind : List Top) → unchunked t ≡ inside ++ r ∷ behind → p ≡ placed_at offset (0 + length (spelled inside)) r → SpanHas offset t m
     by inside r behind split same =
         let here = sym place ∙ ap (λ (q : Placed). q.place) same in
         inside_has offset t m inside r behind (0 + length (spelled inside)) split refl here (subst (λ (q : Placed). IsMessage q.top m.channel m.message) same message)

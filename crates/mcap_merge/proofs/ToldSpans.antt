@@ -7,7 +7,7 @@ use Rattle.std.proofs.lemmas.Grind.{flat_map-append}
 use Rattle.mcap_wire.specs.Layout.{le, string, prefixed, magic}
 use Rattle.mcap_wire.proofs.Numbers.{length-le}
 use Rattle.mcap_model.specs.Places.{At, Has, Each}
-use Rattle.mcap_model.specs.Tops.{Top, top_bytes, spelled, offset_behind, is_chunk, records_in, chunk_records, inner_tops, opened}
+use Rattle.mcap_model.specs.Tops.{Top, top_bytes, spelled, offset_behind, is_chunk, records_in, chunk_records, inner_tops, unchunked}
 use Rattle.mcap_model.specs.Fields.{ChunkFields, IsChunk}
 use Rattle.mcap_model.specs.Kept.{reading_limits, Fits, Good}
 use Rattle.mcap_model.specs.Laws.{IsFound}
@@ -20,7 +20,7 @@ use Rattle.mcap_model.proofs.Walks.{found_next, none_next}
 use Rattle.mcap_model.proofs.Flat.{named_or}
 use Rattle.mcap_model.proofs.PlacesApart.{pairs_joined, none_each, none_pairs}
 use Rattle.chunk_survey.specs.declared.spans.Span.{Span}
-use Rattle.chunk_survey.specs.Times.{times_of, extent_of, TimesAre}
+use Rattle.chunk_survey.specs.Times.{times_of, extent_of, TimesSpan}
 use Rattle.chunk_survey.specs.Spans.{spans_made, spans_timed, spans_in_chunk, spans_alone, spans_one, spans_from, spans_of}
 use Rattle.chunk_survey.proofs.Telling.{spans_tell_times}
 use Rattle.mcap_merge.proofs.Laid.{laid}
@@ -89,13 +89,13 @@ records_there t g is plain =
 -- the span of a record at that offset: its bytes stand in those of the record, and are the records which that is or holds
 pub record SpanIs (offset : ℕ) (t : Top) (s : Span) : Type 0 where
   pub offset_is : s.offset ≡ offset
-  pub times : TimesAre (times_of (opened t)) s.least s.greatest s.in_order
-  pub messages : s.messages ≡ length (times_of (opened t))
+  pub times : TimesSpan (times_of (unchunked t)) s.least s.greatest s.in_order
+  pub messages : s.messages ≡ length (times_of (unchunked t))
   pub inset : ℕ
   pub at : s.at ≡ offset + inset
   pub bytes : List ℕ
   pub size : s.length ≡ length bytes
-  pub records : records_in bytes ≡ opened t
+  pub records : records_in bytes ≡ unchunked t
   pub there : (behind : List ℕ) → (rest : List ℕ) × (drop inset (top_bytes t ++ behind) ≡ bytes ++ rest)
   pub within : inset + length bytes ≤ length (top_bytes t)
 
@@ -123,7 +123,7 @@ alone_in t found = found_next (top_bytes t) t [] (sym (append-nil (top_bytes t))
 pub span_is : (offset : ℕ) (t : Top) (s : Span) → IsGoodTop t → Has (spans_one offset t) s → SpanIs offset t s
 span_is offset t s good has = by (is_chunk t) refl has
   where
-    told : (s.offset ≡ offset) × TimesAre (times_of (opened t)) s.least s.greatest s.in_order × (s.messages ≡ length (times_of (opened t)))
+    told : (s.offset ≡ offset) × TimesSpan (times_of (unchunked t)) s.least s.greatest s.in_order × (s.messages ≡ length (times_of (unchunked t)))
     told = spans_tell_times offset t s has
 
     by : (b : Bool) → is_chunk t ≡ b → Has (if b then spans_in_chunk offset t else spans_alone offset t) s → SpanIs offset t s
@@ -176,7 +176,7 @@ behind_front file front t back rest is =
 
 -- its bytes in the file are those records
 pub span_told : (file : List ℕ) (front : List Top) (t : Top) (back : List Top) (rest : List ℕ) (s : Span) → file ≡ magic ++ (spelled (front ++ t ∷ back) ++ rest) → SpanIs (offset_behind front) t s
-    → records_in (take s.length (drop s.at file)) ≡ opened t
+    → records_in (take s.length (drop s.at file)) ≡ unchunked t
 span_told file front t back rest s split is =
     let all = is.there in
     let (more, there) = all (spelled back ++ rest) in
@@ -192,7 +192,7 @@ span_told file front t back rest s split is =
 abbrev pub SpanBefore : Span → Span → Type 0
 SpanBefore s r = (s.offset < r.offset) × (s.at < r.at)
 
-some_there : (bytes : List ℕ) (records : List Top) (least greatest : ℕ) (in_order : Bool) → records_in bytes ≡ records → TimesAre (times_of records) least greatest in_order → 1 ≤ length bytes
+some_there : (bytes : List ℕ) (records : List Top) (least greatest : ℕ) (in_order : Bool) → records_in bytes ≡ records → TimesSpan (times_of records) least greatest in_order → 1 ≤ length bytes
 some_there [] records least greatest in_order is are =
     let has = are.least_there in
     absurd (at_none has.0 least (subst (λ (l : List Top). At (times_of l) has.0 least) (sym is ∙ none_in) has.1))
@@ -201,7 +201,7 @@ some_there (b ∷ bs) records least greatest in_order is are = omega arith
 -- it begins within its record
 begins_within : (offset : ℕ) (t : Top) (s : Span) → SpanIs offset t s → s.at < offset + length (top_bytes t)
 begins_within offset t s is =
-    let some = some_there is.bytes (opened t) s.least s.greatest s.in_order is.records is.times in
+    let some = some_there is.bytes (unchunked t) s.least s.greatest s.in_order is.records is.times in
     omega (arith, some, is.at, is.within)
 
 made_rise : (offset at len : ℕ) (times : List ℕ) → AllPairs SpanBefore (spans_timed offset at len times)

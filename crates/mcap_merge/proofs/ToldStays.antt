@@ -19,7 +19,7 @@ use Rattle.chunk_walk.specs.Heads.{FitsSpan}
 use Rattle.chunk_walk.specs.Cursors.{turn_of}
 use Rattle.chunk_walk.specs.Pieces.{pieces_with, BeginTogether}
 use Rattle.chunk_walk.specs.Stores.{files_of}
-use Rattle.chunk_walk.specs.Walks.{pieces_in, IsRefused}
+use Rattle.chunk_walk.specs.Walks.{pieces_in, IsWalkRefused}
 use Rattle.chunk_walk.specs.Laws.{BeginApart}
 use Rattle.mcap_merge.specs.declared.input.Input.{Input}
 use Rattle.mcap_merge.specs.Inputs.{Read, HoldInputs}
@@ -89,7 +89,7 @@ begin_apart olds news apart same i j p q less at_p at_q together =
 
 -- ---- nothing is changed
 
-walk_stays : (stores : List StoreState) (reads : List Read) (inputs : List Input) (w : Walk) (input offset : ℕ) → TellsAt stores input → Listed stores reads inputs (pieces_in w) → IsRefused (files_of stores) w (walks.Changed input offset) → ⊥
+walk_stays : (stores : List StoreState) (reads : List Read) (inputs : List Input) (w : Walk) (input offset : ℕ) → TellsAt stores input → Listed stores reads inputs (pieces_in w) → IsWalkRefused (files_of stores) w (walks.Changed input offset) → ⊥
 walk_stays stores reads inputs w input offset tell listed (p, has, input_is, offset_is, cause) = elim cause [
   | inl changed ↦
       let (bytes, are, unfit) = changed in

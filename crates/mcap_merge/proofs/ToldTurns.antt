@@ -5,7 +5,7 @@ use Rattle.std.specs.List.{AllZip}
 use Rattle.std.proofs.lemmas.List.Sorted.{Contains-permutation, IsPermutation-sym}
 use Rattle.mcap_io.specs.Stores.{StoreState}
 use Rattle.mcap_model.specs.Places.{At, Has}
-use Rattle.mcap_model.specs.Tops.{Top, Tops, Begins, spelled, offset_behind, opened, records_in}
+use Rattle.mcap_model.specs.Tops.{Top, Tops, Begins, spelled, offset_behind, unchunked, records_in}
 use Rattle.mcap_model.specs.Fields.{IsMessage}
 use Rattle.mcap_model.specs.Kept.{reading_limits, Fits, Good}
 use Rattle.mcap_model.specs.Merged.{Sent, IsFrom, MergesBefore}
@@ -14,7 +14,7 @@ use Rattle.mcap_model.proofs.Members.{has_either, has_second}
 use Rattle.mcap_model.proofs.NamedTopics.{contained, has_there, unmapped, zip_front, zip_back}
 use Rattle.mcap_model.proofs.Flat.{at_mapped}
 use Rattle.chunk_survey.specs.declared.spans.Span.{Span}
-use Rattle.chunk_survey.specs.Times.{times_of, TimesAre}
+use Rattle.chunk_survey.specs.Times.{times_of, TimesSpan}
 use Rattle.chunk_survey.specs.Spans.{spans_one, spans_from, spans_of}
 use Rattle.chunk_walk.specs.declared.answers.Turn.{Turn}
 use Rattle.record_walk.specs.declared.heads.MessageHead.{MessageHead}
@@ -27,9 +27,9 @@ use Rattle.chunk_walk.specs.Pieces.{pieces_with}
 use Rattle.chunk_walk.specs.Cursors.{turn_of, TurnBefore}
 use Rattle.chunk_walk.specs.Stores.{files_of}
 use Rattle.chunk_walk.specs.Walks.{Text, turns_in, IsTextOf, IsMessageAt}
-use Rattle.chunk_walk.specs.Laws.{IsTold}
+use Rattle.chunk_walk.specs.Laws.{IsPieceTold}
 use Rattle.mcap_merge.specs.declared.input.Input.{Input}
-use Rattle.mcap_merge.specs.Inputs.{Read, tops_of, HoldsInput, HoldInputs}
+use Rattle.mcap_merge.specs.Inputs.{Read, read_tops, HoldsInput, HoldInputs}
 use Rattle.mcap_merge.specs.Reading.{IsReadOf}
 use Rattle.mcap_merge.specs.Pieces.{pieces_from}
 use Rattle.mcap_merge.specs.Filed.{AllTell}
@@ -153,7 +153,7 @@ begins_with file tops s (inr some) has = some
 -- the bytes of a span in the file are those of one of its records
 pub record SpanKnown (file : List ℕ) (front : List Top) (t : Top) (s : Span) : Type 0 where
   pub is : SpanIs (offset_behind front) t s
-  pub records : records_in (take s.length (drop s.at file)) ≡ opened t
+  pub records : records_in (take s.length (drop s.at file)) ≡ unchunked t
   pub fits : FitsSpan s (take s.length (drop s.at file))
 
 good_at : (tops front : List Top) (t : Top) (back : List Top) → Good reading_limits tops → tops ≡ front ++ t ∷ back → IsGoodTop t
@@ -168,7 +168,7 @@ span_known file tops front t back s begins good has split one =
     record {
       is = is;
       records = records;
-      fits = surveyed_fit s (take s.length (drop s.at file)) (subst (λ (l : List Top). TimesAre (times_of l) s.least s.greatest s.in_order) (sym records) is.times) (is.messages ∙ sym (ap (λ (l : List Top). length (times_of l)) records));
+      fits = surveyed_fit s (take s.length (drop s.at file)) (subst (λ (l : List Top). TimesSpan (times_of l) s.least s.greatest s.in_order) (sym records) is.times) (is.messages ∙ sym (ap (λ (l : List Top). length (times_of l)) records));
     }
 
 module _ (stores : List StoreState) (reads : List Read) (inputs : List Input) (pieces : List Piece) (listed : Listed stores reads inputs pieces) where
@@ -236,7 +236,7 @@ module _ (stores : List StoreState) (reads : List Read) (inputs : List Input) (p
       piece_by p r there (input_told p.input r tell there) spans
 
   -- the bytes that the input tells for it can be those of its span
-  pub piece_told : (p : Piece) → TellsAt stores p.input → Has pieces p → IsTold (files_of stores) p
+  pub piece_told : (p : Piece) → TellsAt stores p.input → Has pieces p → IsPieceTold (files_of stores) p
   piece_told p tell has = let is = piece_is p tell has in (is.input.file, is.input.at_file, is.known.fits)
 
   -- ---- the message of a turn
@@ -244,7 +244,7 @@ module _ (stores : List StoreState) (reads : List Read) (inputs : List Input) (p
   pub record RecordIs (t : Turn) (r : Top) : Type 0 where
     pub message : Sent
     pub is : TurnIs reads t message
-    pub from : IsFrom (tops_of reads) message
+    pub from : IsFrom (read_tops reads) message
     pub shows : IsMessage r message.seen.channel message.seen.message
 
   record_by : (p : Piece) (x : Text) (t : Turn) (r : Top) (is : PieceIs p) (e : MessageHead) → IsTextOf (files_of stores) p x → turn_of x.piece e ≡ t → (there : IsMessageAt x t r) → SpanMessage is.read.messages (offset_behind is.front) (length (spelled there.front)) r → RecordIs t r
@@ -278,7 +278,7 @@ module _ (stores : List StoreState) (reads : List Read) (inputs : List Input) (p
       let is = piece_is p tell has in
       let told_is = text.bytes.told_is in
       let (e, at_e, same) = unmapped (turn_of x.piece) (heads_in x.bytes) turn.0 t turn.1 in
-      let inside : opened is.top ≡ there.front ++ r ∷ there.back = sym is.known.records ∙ sym (ap records_in (told_is is.input.file is.input.at_file)) ∙ there.stands in
+      let inside : unchunked is.top ≡ there.front ++ r ∷ there.back = sym is.known.records ∙ sym (ap records_in (told_is is.input.file is.input.at_file)) ∙ there.stands in
       record_by p x t r is e text same there (span_message is.read.tops is.front is.top is.back is.read.messages there.front r there.back is.split is.input.holds.scan inside there.kind)
 
   -- ---- the turn of a message
@@ -337,7 +337,7 @@ module _ (stores : List StoreState) (reads : List Read) (inputs : List Input) (p
       let spans : Has (spans_of r.tops) has.span = subst (λ (l : List Top). Has (spans_of l) has.span) (sym split) there in
       message_by m r front t at input has spans (span_known input.file r.tops front t back has.span input.begins input.holds.good spans split has.has)
 
-  pub message_told : (m : Sent) → TellsAt stores m.input → IsFrom (tops_of reads) m → MessageTold m
+  pub message_told : (m : Sent) → TellsAt stores m.input → IsFrom (read_tops reads) m → MessageTold m
   message_told m tell from =
       let found = from_read reads m (are_scanned reads inputs listed.hold) from in
       let r = found.read in

@@ -47,13 +47,13 @@ each_given_to P xs None g each one = each
 each_given_to P xs (Some x) None each one = each
 each_given_to P xs (Some x) (Some g) each one = each_given P xs x g each (one x refl)
 
-pub used_given : (inputs : List (List Top)) (t after : tables.Ids) (d : ChannelDef) (given : GivenIds) → Declares t d given after → IsUsed inputs d → TableIsUsed inputs t → TableIsUsed inputs after
+pub used_given : (inputs : List (List Top)) (t after : tables.IdContents) (d : ChannelDef) (given : GivenIds) → Declares t d given after → IsUsed inputs d → TableIsUsed inputs t → TableIsUsed inputs after
 used_given inputs t after d given declares used was = record {
   channels = subst (Each (IsUsed inputs)) (sym declares.channels) (each_given (IsUsed inputs) t.channels d given.channel was.channels used);
   schemas = subst (Each (SchemaIsUsed inputs)) (sym declares.schemas) (each_given_to (SchemaIsUsed inputs) t.schemas d.schema given.schema was.schemas (λ s is. (d, used, is)));
 }
 
-pub used_none : (inputs : List (List Top)) (t : tables.Ids) → t.schemas ≡ [] → t.channels ≡ [] → TableIsUsed inputs t
+pub used_none : (inputs : List (List Top)) (t : tables.IdContents) → t.schemas ≡ [] → t.channels ≡ [] → TableIsUsed inputs t
 used_none inputs t schemas channels = record {
   channels = subst (Each (IsUsed inputs)) (sym channels) (λ n x at. absurd (at_none n x at));
   schemas = subst (Each (SchemaIsUsed inputs)) (sym schemas) (λ n x at. absurd (at_none n x at));
@@ -106,23 +106,23 @@ channels_by false true e = refl
 channels_by false false e = absurd (none_channels e)
 
 -- a schema that is new where all ids are given
-record NewSchema (t : tables.Ids) (o : Option SchemaDef) : Type 0 where
+record NewSchema (t : tables.IdContents) (o : Option SchemaDef) : Type 0 where
   schema : SchemaDef
   is : o ≡ Some schema
   lacks : Lacks t.schemas schema
   many : 65535 ≤ length t.schemas
 
-new_schema_at_is : (t : tables.Ids) (s : SchemaDef) (spot : Option ℕ) → schema_place (ids_in t) s ≡ spot → (nat_lt 0 (length (new_schema_at spot (length (map fields_of_schema t.schemas)) s)) && nat_le 65535 (length (map fields_of_schema t.schemas))) ≡ true → NewSchema t (Some s)
+new_schema_at_is : (t : tables.IdContents) (s : SchemaDef) (spot : Option ℕ) → schema_place (ids_in t) s ≡ spot → (nat_lt 0 (length (new_schema_at spot (length (map fields_of_schema t.schemas)) s)) && nat_le 65535 (length (map fields_of_schema t.schemas))) ≡ true → NewSchema t (Some s)
 new_schema_at_is t s (Some k) e is = absurd (both_ways false refl is)
 new_schema_at_is t s None e is =
     let many = leb-true 65535 (length (map fields_of_schema t.schemas)) is in
     record { schema = s; is = refl; lacks = schema_missed t s e; many = omega (arith, many, length-map t.schemas fields_of_schema) }
 
-new_schema_is : (t : tables.Ids) (o : Option SchemaDef) → schemas_lack (ids_in t) o ≡ true → NewSchema t o
+new_schema_is : (t : tables.IdContents) (o : Option SchemaDef) → schemas_lack (ids_in t) o ≡ true → NewSchema t o
 new_schema_is t None is = absurd (both_ways false refl is)
 new_schema_is t (Some s) is = new_schema_at_is t s (schema_place (ids_in t) s) refl is
 
-pub used_lacking : (inputs : List (List Top)) (t after : tables.Ids) (d : ChannelDef) (why : IdRefused) → EachOnce t.schemas → EachOnce t.channels → length t.schemas ≤ 65535 → length t.channels ≤ 65535 → channel_place (ids_in t) d ≡ None
+pub used_lacking : (inputs : List (List Top)) (t after : tables.IdContents) (d : ChannelDef) (why : IdRefused) → EachOnce t.schemas → EachOnce t.channels → length t.schemas ≤ 65535 → length t.channels ≤ 65535 → channel_place (ids_in t) d ≡ None
     → IdsDeclared (ids_in t) d (Err why) (ids_in after) → IsUsed inputs d → TableIsUsed inputs t → LackMet inputs why
 used_lacking inputs t after d TooManySchemas once_s once_c few_s few_c none is used was =
     let ids = ids_in t in

@@ -12,7 +12,7 @@ use Rattle.mcap_merge.specs.declared.joining.Declared.{Declared}
 use Rattle.mcap_merge.specs.declared.joining.Choice.{Choice}
 use Rattle.mcap_merge.specs.Uses.{Use, with_use}
 use Rattle.mcap_merge.specs.Joining.{JoinerStands, IsChosen, declared_records}
-use Rattle.mcap_merge.specs.Writing.{on_channel, IsNext}
+use Rattle.mcap_merge.specs.Writing.{put_on_channel, ComesNext}
 use Rattle.mcap_merge.proofs.Joined.{stands_behind}
 
 pub channel_is : (d : ChannelDef) (id other schema same : ℕ) → id ≡ other → schema ≡ same → channel_of id (fields_with d schema) ≡ channel_of other (fields_with d same)
@@ -26,7 +26,7 @@ pub record IsTaken (history : List Rec) (u : Use) (declared : Option Declared) (
 message_is : (one other : ℕ) (m n : MessageFields) → one ≡ other → m ≡ n → message_of one m ≡ message_of other n
 message_is one other m n e f = cc
 
-module _ (inputs : List (List Top)) (history : List Rec) (j k : Joiner) (input : Input) (number channel : ℕ) (m : MessageFields) (u : Use) (choice : Choice) (next : IsNext inputs history j input number (on_channel channel m) u) (chosen : IsChosen inputs next.tops history channel k choice) where
+module _ (inputs : List (List Top)) (history : List Rec) (j k : Joiner) (input : Input) (number channel : ℕ) (m : MessageFields) (u : Use) (choice : Choice) (next : ComesNext inputs history j input number (put_on_channel channel m) u) (chosen : IsChosen inputs next.tops history channel k choice) where
   content_is : chosen.content ≡ u.content
   content_is = let content = next.content in content chosen.content chosen.is
 

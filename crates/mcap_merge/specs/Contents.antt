@@ -29,21 +29,21 @@ FitsUnderIds d = (id schema : ℕ) → id < 65536 → schema < 65536 → RecFits
 -- ---- one by one
 
 -- the content has an id or gets one
-abbrev pub Takes : tables.Ids → ChannelDef → tables.Ids → Type 0
-Takes old d new = (given : GivenIds) × Declares old d given new
+abbrev pub TakesId : tables.IdContents → ChannelDef → tables.IdContents → Type 0
+TakesId old d new = (given : GivenIds) × Declares old d given new
 
 -- so has the content of the channel of that id
-abbrev pub TakesOf : List Top → ℕ → tables.Ids → tables.Ids → Type 0
-TakesOf records source old new = (d : ChannelDef) × IsContent records source d × FitsUnderIds d × Takes old d new
+abbrev pub TakesOf : List Top → ℕ → tables.IdContents → tables.IdContents → Type 0
+TakesOf records source old new = (d : ChannelDef) × IsContent records source d × FitsUnderIds d × TakesId old d new
 
 -- why it hasn't: as many others are there as there are ids, or memory lacked
-abbrev pub LacksIdsOf : List Top → ℕ → tables.Ids → IdRefused → Type 0
+abbrev pub LacksIdsOf : List Top → ℕ → tables.IdContents → IdRefused → Type 0
 LacksIdsOf records source old TooManySchemas = (d : ChannelDef) × IsContent records source d × IsFullTo old.schemas d.schema
 LacksIdsOf records source old TooManyChannels = (d : ChannelDef) × IsContent records source d × IsFull old.channels d
 LacksIdsOf records source old Memory = Unit {0}
 
 -- no content stands twice, and there are no more than there are ids
-pub record IsIdTable (t : tables.Ids) : Type 0 where
+pub record IsIdTable (t : tables.IdContents) : Type 0 where
   pub schemas : EachOnce t.schemas
   pub channels : EachOnce t.channels
   pub few_schemas : length t.schemas ≤ id_limit

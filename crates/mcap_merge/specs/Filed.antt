@@ -22,10 +22,10 @@ use Rattle.chunk_writer.specs.Stops.{numbers, StopsAt, StopCause}
 use Rattle.mcap_merge.specs.declared.answers.MergeRefused.{MergeRefused}
 use Rattle.mcap_merge.specs.declared.answers.MergeRefused.TheVariants as merges
 use Rattle.mcap_merge.specs.declared.answers.Merged.{Merged}
-use Rattle.mcap_merge.specs.Inputs.{Read, tops_of}
-use Rattle.mcap_merge.specs.Reading.{IsReadOf, CountStands, OneRose, ReadStopped}
+use Rattle.mcap_merge.specs.Inputs.{Read, read_tops}
+use Rattle.mcap_merge.specs.Reading.{IsReadOf, FaultsStand, InputRose, ReadStopped}
 use Rattle.mcap_merge.specs.Gathering.{GatherRefused}
-use Rattle.mcap_merge.specs.Sound.{IsSound}
+use Rattle.mcap_merge.specs.Sound.{IsSoundHistory}
 use Rattle.mcap_merge.specs.Overlap.{IsPeak}
 
 abbrev pub merged_options : List ℕ → ℕ → FileOptions
@@ -40,11 +40,11 @@ AllTell stores = Each (λ s. (bytes : List ℕ) × (s.bytes ≡ Some bytes)) sto
 pub record MergeIs (stores : List StoreState) (profile : List ℕ) (extras : List Top) (history : List Rec) : Type 0 where
   pub reads : List Read
   pub are : AllZip IsReadOf stores reads
-  pub good : Each (Good reading_limits) (tops_of reads)
-  pub profile_is : CommonProfile (tops_of reads) profile
-  pub extras_are : extras ≡ flat_map (filter is_extra) (tops_of reads)
-  pub sound : IsSound extras history
-  pub of : AllTell stores → MergeOf (tops_of reads) profile extras history
+  pub good : Each (Good reading_limits) (read_tops reads)
+  pub profile_is : CommonProfile (read_tops reads) profile
+  pub extras_are : extras ≡ flat_map (filter is_extra) (read_tops reads)
+  pub sound : IsSoundHistory extras history
+  pub of : AllTell stores → MergeOf (read_tops reads) profile extras history
 
 -- the file of the merge stands behind what the store held, within the limits on files, and all of it is with the system; the
 -- counts are those of its records; no store failed
@@ -55,10 +55,10 @@ pub record MergesInto (stores news : List StoreState) (opened now : LiveState) (
   pub is : MergeIs stores profile extras history
   pub messages : m.messages ≡ length (filter is_message history)
   pub records : m.records ≡ length history
-  pub peak : IsPeak (tops_of is.reads) m.peak
+  pub peak : IsPeak (read_tops is.reads) m.peak
   pub file : Adds opened.held now.held (file_of (merged_options profile chunk) extras history)
   pub within : Holds (length (blocks_in (pieces_of (Some chunk) history))) (length (file_of (merged_options profile chunk) extras history))
-  pub inputs_still : AllZip CountStands stores news
+  pub inputs_still : AllZip FaultsStand stores news
   pub still : now.faults ≡ opened.faults
   pub through : now.waiting ≡ 0
 
@@ -86,7 +86,7 @@ TellsNot stores number = (s : StoreState) → At stores number s → (bytes : Li
 
 -- the input of that number couldn't be read again: it failed
 abbrev pub AgainHalted : List StoreState → List StoreState → ℕ → ReadingRefused → Type 0
-AgainHalted olds news input (refusals.Fault faults) = OneRose olds news input faults
+AgainHalted olds news input (refusals.Fault faults) = InputRose olds news input faults
 AgainHalted olds news input (refusals.Grammar offset rule) = ⊥
 AgainHalted olds news input (refusals.Compressed offset name) = ⊥
 AgainHalted olds news input (refusals.Limit offset) = ⊥
@@ -96,7 +96,7 @@ AgainHalted olds news input refusals.Memory = ⊥
 -- lacked.
 abbrev pub IsCutBy : List StoreState → List StoreState → MergeRefused → Type 0
 IsCutBy olds news (merges.Halted input why) = AgainHalted olds news input why
-IsCutBy olds news (merges.Changed input offset) = (input < length olds) × AllZip CountStands olds news × TellsNot olds input
+IsCutBy olds news (merges.Changed input offset) = (input < length olds) × AllZip FaultsStand olds news × TellsNot olds input
 IsCutBy olds news merges.TooManySchemas = ⊥
 IsCutBy olds news merges.TooManyChannels = ⊥
 IsCutBy olds news (merges.Stopped stop) = ReadStopped olds news stop
@@ -113,7 +113,7 @@ pub record MergeIsCut (stores news : List StoreState) (opened now : LiveState) (
 
 -- nothing was written; or the writer stopped behind inputs that were read whole; or one of them couldn't be read again
 abbrev pub MergeFails : List StoreState → List StoreState → LiveState → LiveState → ℕ → MergeRefused → Type 0
-MergeFails olds news opened now chunk why = ((now ≡ opened) × GatherRefused olds news why) ⊎ ((AllZip CountStands olds news × MergeStops olds opened now chunk why) ⊎ MergeIsCut olds news opened now chunk why)
+MergeFails olds news opened now chunk why = ((now ≡ opened) × GatherRefused olds news why) ⊎ ((AllZip FaultsStand olds news × MergeStops olds opened now chunk why) ⊎ MergeIsCut olds news opened now chunk why)
 
 -- no store was asked for more bytes than twice the length that it has answered
 pub record AsksTwice (old new : StoreState) : Type 0 where

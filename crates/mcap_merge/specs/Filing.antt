@@ -15,16 +15,16 @@ use Rattle.mcap_merge.specs.declared.answers.Merged.{Merged}
 use Rattle.mcap_merge.specs.declared.merge_stores.Ready.{Ready}
 use Rattle.mcap_merge.specs.declared.turns.PutRefused.{PutRefused}
 use Rattle.mcap_merge.specs.declared.turns.PutRefused.TheVariants as puts
-use Rattle.mcap_merge.specs.Reading.{CountStands, SpansFit, IsRefusalAt}
+use Rattle.mcap_merge.specs.Reading.{FaultsStand, SpansFit, IsRefusalAt}
 use Rattle.mcap_merge.specs.Gathering.{IsGathered}
 use Rattle.mcap_merge.specs.Turns.{stop_of}
 use Rattle.mcap_merge.specs.Putting.{IsBegun, MergeStart, WholeStands, PartStands}
 use Rattle.mcap_merge.specs.Filed.{merged_options, FileStands}
 
 -- all stores were read, and all that is needed for the writing is there
-pub record IsReady (olds news : List StoreState) (chunk : ℕ) (r : Ready) : Type 0 where
+pub record IsReadyToWrite (olds news : List StoreState) (chunk : ℕ) (r : Ready) : Type 0 where
   pub gathered : IsGathered olds r.gathered
-  pub still : AllZip CountStands olds news
+  pub still : AllZip FaultsStand olds news
   pub fits : AllZip SpansFit news r.gathered.inputs.items
   pub options_are : r.options ≡ merged_options r.gathered.profile chunk
   pub short : length r.options.profile ≤ content_limit

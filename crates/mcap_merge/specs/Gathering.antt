@@ -12,21 +12,21 @@ use Rattle.mcap_merge.specs.declared.answers.MergeRefused.TheVariants as merges
 use Rattle.mcap_merge.specs.declared.gathering.Gathered.{Gathered}
 use Rattle.mcap_model.specs.Merged.{Sent, AreInTurn, MergeOf, IsUsed, SchemaIsUsed, AtMost, MoreThan}
 use Rattle.mcap_merge.specs.Uses.{Use, history_of, AreUses}
-use Rattle.mcap_merge.specs.Inputs.{Read, tops_of, HoldInputs}
-use Rattle.mcap_merge.specs.Reading.{IsReadOf, CountStands, InputRefused}
+use Rattle.mcap_merge.specs.Inputs.{Read, read_tops, HoldInputs}
+use Rattle.mcap_merge.specs.Reading.{IsReadOf, FaultsStand, InputRefused}
 use Rattle.mcap_merge.specs.Contents.{IdsSuffice}
 use Rattle.mcap_merge.specs.Writing.{ExtrasMeet, extras_of}
 
 -- There are ids for what is used, and messages in their order, whose channels have contents; all make a merge whose records are
 -- read back. None of it is held.
 pub record IsPrepared (reads : List Read) (profile : List ℕ) (extras : List Top) : Type 0 where
-  pub suffice : IdsSuffice (tops_of reads)
+  pub suffice : IdsSuffice (read_tops reads)
   pub messages : List Sent
-  pub in_turn : AreInTurn (tops_of reads) messages
+  pub in_turn : AreInTurn (read_tops reads) messages
   pub uses : List Use
-  pub used : AreUses (tops_of reads) messages uses
+  pub used : AreUses (read_tops reads) messages uses
   pub back : Each IsReadBack (history_of uses)
-  pub merge : MergeOf (tops_of reads) profile extras (history_of uses)
+  pub merge : MergeOf (read_tops reads) profile extras (history_of uses)
 
 -- Why inputs with these records aren't merged: more schemas are used than there are ids; or more channels, where the schemas are
 -- no more than these; or memory lacked.
@@ -50,4 +50,4 @@ pub record IsGathered (stores : List StoreState) (g : Gathered) : Type 0 where
 
 -- why nothing is merged: an input wasn't read to its Data End; or all were, and no more can be made of their records
 abbrev pub GatherRefused : List StoreState → List StoreState → MergeRefused → Type 0
-GatherRefused olds news why = InputRefused olds news why ⊎ (AllZip CountStands olds news × (reads : List Read) × AllZip IsReadOf olds reads × PrepareRefused (tops_of reads) why)
+GatherRefused olds news why = InputRefused olds news why ⊎ (AllZip FaultsStand olds news × (reads : List Read) × AllZip IsReadOf olds reads × PrepareRefused (read_tops reads) why)

@@ -17,7 +17,7 @@ use Rattle.chunk_survey.specs.Spans.{spans_one, spans_of}
 use Rattle.mcap_merge.specs.declared.input.Extra.{Extra}
 use Rattle.mcap_merge.specs.declared.input.Holding.{Holding}
 use Rattle.mcap_merge.specs.declared.input.Input.{Input}
-use Rattle.mcap_merge.specs.Marks.{channels_in, with_marks, AreUnmarked, AreMarked}
+use Rattle.mcap_merge.specs.Marks.{listed_channels, with_marks, AreUnmarked, MarksChannels}
 
 abbrev pub extra_top : Extra → Top
 extra_top e = record { op = e.op; content = e.content }
@@ -42,7 +42,7 @@ pub record KeepsProfile (offset : ℕ) (content old new : List ℕ) : Type 0 whe
 -- a record more is held, which stands at that offset
 pub record HoldsRecord (offset : ℕ) (t : Top) (old new : Holding) : Type 0 where
   pub spans : new.spans.items ≡ old.spans.items ++ spans_one offset t
-  pub used : new.used.items ≡ with_marks old.used.items (channels_in (heads_under t))
+  pub used : new.used.items ≡ with_marks old.used.items (listed_channels (heads_under t))
   pub extra : KeepsExtra t old.extras.items new.extras.items
   pub profile : KeepsProfile offset t.content old.profile new.profile
 
@@ -64,8 +64,8 @@ pub record Read : Type 0 where
   pub tops : List Top
   pub messages : List Seen
 
-abbrev pub tops_of : List Read → List (List Top)
-tops_of reads = map (λ r. r.tops) reads
+abbrev pub read_tops : List Read → List (List Top)
+read_tops reads = map (λ r. r.tops) reads
 
 -- these records are good, and what is held are their profile, their declarations, their extras, where their messages stand, and
 -- which channels have some
@@ -74,7 +74,7 @@ pub record HoldsInput (r : Read) (i : Input) : Type 0 where
   pub scan : Scan r.tops r.messages
   pub tables_are : TablesOf (flat r.tops) i.tables
   pub spans_are : i.spans.items ≡ spans_of r.tops
-  pub used_are : AreMarked i.used.items r.messages
+  pub used_are : MarksChannels i.used.items r.messages
   pub extras_are : extra_tops i.extras.items ≡ filter is_extra r.tops
   pub profile_is : ProfileIs r.tops i.profile
 

@@ -13,7 +13,7 @@ use Rattle.id_table.specs.declared.given.IdRefused.{IdRefused}
 use Rattle.id_table.specs.declared.given.IdRefused.TheVariants.{TooManySchemas, TooManyChannels, Memory}
 use Rattle.id_table.specs.Given.{HasId}
 use Rattle.record_core.specs.Ids.{ids_of, channel_id, new_records, fields_with}
-use Rattle.record_core.specs.Tables.{ids_in, number_of, id_of, schema_with}
+use Rattle.record_core.specs.Tables.{ids_in, id_given, id_of, schema_with}
 use Rattle.record_core.specs.Sights.{DefFits}
 use Rattle.mcap_merge.specs.declared.joining.Joiner.{Joiner}
 use Rattle.mcap_merge.specs.declared.joining.Declared.{Declared}
@@ -25,21 +25,21 @@ abbrev pub IsSized : ℕ → Joiner → Type 0
 IsSized inputs j = length j.given.items ≡ inputs * 65536
 
 -- the channel of an input, which has that id there, has a content in the table, under the second id
-abbrev pub IsGiven : List Top → Joiner → ℕ → ℕ → Type 0
-IsGiven tops j source id = (d : ChannelDef) × IsContent (flat tops) source d × HasId j.table.channels d id
+abbrev pub HasMergedId : List Top → Joiner → ℕ → ℕ → Type 0
+HasMergedId tops j source id = (d : ChannelDef) × IsContent (flat tops) source d × HasId j.table.channels d id
 
 -- the table gives the ids of the history, and what is noted of the inputs' channels is so
 pub record JoinerStands (inputs : List (List Top)) (history : List Rec) (j : Joiner) : Type 0 where
   pub ids_are : ids_in j.table ≡ ids_of history
-  pub known : (number source id : ℕ) (tops : List Top) → source < 65536 → At inputs number tops → At j.given.items (number * 65536 + source) id → (id ≡ 0 → ⊥) → IsGiven tops j source id
+  pub known : (number source id : ℕ) (tops : List Top) → source < 65536 → At inputs number tops → At j.given.items (number * 65536 + source) id → (id ≡ 0 → ⊥) → HasMergedId tops j source id
 
 -- the records of what is declared
-abbrev pub records_of : Declared → List Rec
-records_of d = schema_with d.content.schema d.ids.schema ++ channel_of (number_of d.ids.channel) (fields_with d.content (id_of d.ids.schema)) ∷ []
+abbrev pub declaring_records : Declared → List Rec
+declaring_records d = schema_with d.content.schema d.ids.schema ++ channel_of (id_given d.ids.channel) (fields_with d.content (id_of d.ids.schema)) ∷ []
 
 abbrev pub declared_records : Option Declared → List Rec
 declared_records None = []
-declared_records (Some d) = records_of d
+declared_records (Some d) = declaring_records d
 
 abbrev pub FitsChoice : Option Declared → Type 0
 FitsChoice None = Unit {0}
@@ -56,7 +56,7 @@ pub record IsChosen (inputs : List (List Top)) (tops : List Top) (history : List
 -- ---- what is used
 
 -- each content of the table is that of a channel, or of its schema, that has a message
-pub record TableIsUsed (inputs : List (List Top)) (t : tables.Ids) : Type 0 where
+pub record TableIsUsed (inputs : List (List Top)) (t : tables.IdContents) : Type 0 where
   pub channels : Each (IsUsed inputs) t.channels
   pub schemas : Each (SchemaIsUsed inputs) t.schemas
 
@@ -80,6 +80,6 @@ WhyLacks inputs TooManySchemas = MoreThan id_limit (SchemaIsUsed inputs)
 WhyLacks inputs TooManyChannels = MoreThan id_limit (IsUsed inputs) × AtMost id_limit (SchemaIsUsed inputs)
 WhyLacks inputs Memory = Unit {0}
 
-abbrev pub AfterChoice : List (List Top) → tables.Ids → Result Choice IdRefused → Type 0
+abbrev pub AfterChoice : List (List Top) → tables.IdContents → Result Choice IdRefused → Type 0
 AfterChoice inputs t (Ok c) = TableIsUsed inputs t
 AfterChoice inputs t (Err why) = LackMet inputs why

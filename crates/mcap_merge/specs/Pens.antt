@@ -10,13 +10,13 @@ use Rattle.chunk_writer.specs.declared.phase.Phase.TheVariants as phases
 use Rattle.chunk_writer.specs.declared.scribe.Scribe.{Scribe}
 use Rattle.chunk_writer.specs.Stops.{numbers, StopsBehind}
 use Rattle.chunk_writer.specs.Limits.{Holds}
-use Rattle.chunk_writer.specs.Scribes.{Writes, EndsFile, phase_of}
+use Rattle.chunk_writer.specs.Scribes.{WritesHistory, EndsFile, phase_of}
 use Rattle.chunk_writer.specs.declared.tape.Written.{Written}
 
 -- of whatever extras and history the first scribe stands, the second stands for these with those behind them
 abbrev pub AddsTo : {L : Type 0} → (L → LiveState) → Scribe L → Scribe L → List Top → List Rec → Type 0
-AddsTo seen before after extras records = (options : FileOptions) (others : List Top) (opened : LiveState) (history : List Rec) → Writes seen options others opened history before
-    → Writes seen options (others ++ extras) opened (history ++ records) after
+AddsTo seen before after extras records = (options : FileOptions) (others : List Top) (opened : LiveState) (history : List Rec) → WritesHistory seen options others opened history before
+    → WritesHistory seen options (others ++ extras) opened (history ++ records) after
 
 -- the second scribe is the first with its end, and what it counts is within the limits on files
 abbrev pub EndsWithin : {L : Type 0} → (L → LiveState) → Scribe L → Scribe L → Result Unit Stop → Type 0
@@ -24,12 +24,12 @@ EndsWithin seen before after result = (written : Written) × EndsFile seen befor
 
 pub adds_none : {L : Type 0} (seen : L → LiveState) (s : Scribe L) → AddsTo seen s s [] []
 adds_none seen s = λ options others opened history writes.
-    subst (λ (e : List Top). Writes seen options e opened (history ++ []) s) (sym (append-nil others)) (subst (λ (h : List Rec). Writes seen options others opened h s) (sym (append-nil history)) writes)
+    subst (λ (e : List Top). WritesHistory seen options e opened (history ++ []) s) (sym (append-nil others)) (subst (λ (h : List Rec). WritesHistory seen options others opened h s) (sym (append-nil history)) writes)
 
 pub adds_on : {L : Type 0} (seen : L → LiveState) (one two three : Scribe L) (extras others : List Top) (records behind : List Rec) → AddsTo seen one two extras records → AddsTo seen two three others behind → AddsTo seen one three (extras ++ others) (records ++ behind)
 adds_on seen one two three extras others records behind first second = λ options all opened history writes.
-    subst (λ (e : List Top). Writes seen options e opened (history ++ (records ++ behind)) three) (append_assoc all extras others)
-    (subst (λ (h : List Rec). Writes seen options ((all ++ extras) ++ others) opened h three) (append_assoc history records behind) (second options (all ++ extras) opened (history ++ records) (first options all opened history writes)))
+    subst (λ (e : List Top). WritesHistory seen options e opened (history ++ (records ++ behind)) three) (append_assoc all extras others)
+    (subst (λ (h : List Rec). WritesHistory seen options ((all ++ extras) ++ others) opened h three) (append_assoc history records behind) (second options (all ++ extras) opened (history ++ records) (first options all opened history writes)))
 
 pub stopped_going : (stop : Stop) → phases.Stopped stop ≡ phases.Going → ⊥
 stopped_going stop e = cc

@@ -9,7 +9,7 @@ use Rattle.chunk_writer.specs.declared.phase.Phase.TheVariants as phases
 use Rattle.record_core.specs.Tables.{HasSchemas}
 use Rattle.chunk_walk.specs.declared.answers.Turn.{Turn}
 use Rattle.chunk_walk.specs.declared.walk.Walk.{Walk}
-use Rattle.chunk_walk.specs.Pieces.{Files}
+use Rattle.chunk_walk.specs.Pieces.{InputBytes}
 use Rattle.chunk_walk.specs.Walks.{Text, pieces_in, pieces_loaded, peak_of, WalkStands, AllGiven}
 use Rattle.mcap_merge.specs.declared.answers.Merged.{Merged}
 use Rattle.mcap_merge.specs.declared.input.Input.{Input}
@@ -25,19 +25,19 @@ use Rattle.mcap_merge.specs.Turns.{UsesOf, stop_of}
 -- The walk goes through just the pieces of the inputs, and has given nothing; no channel of theirs has an id.
 pub record IsBegun (inputs : List Input) (b : Begun) : Type 0 where
   pub pieces : IsPermutation (pieces_from 0 inputs) (pieces_in b.walk)
-  pub stands : (files : Files) → WalkStands files b.walk [] []
+  pub stands : (files : InputBytes) → WalkStands files b.walk [] []
   pub sized : IsSized (length inputs) b.joiner
   pub schemas : HasSchemas b.joiner.table
   pub none : (all : List (List Top)) → JoinerStands all [] b.joiner
 
 -- how many messages and records a history has
-pub record Counts (history : List Rec) (m : Merged) : Type 0 where
+pub record CountsMerged (history : List Rec) (m : Merged) : Type 0 where
   pub messages : m.messages ≡ length (filter is_message history)
   pub records : m.records ≡ min (length history) (2 ^ 64 - 1)
 
 -- what is merged: what the stores tell, the inputs as they were read of them, and a walk that has given nothing
 pub record MergeStart : Type 0 where
-  pub files : Files
+  pub files : InputBytes
   pub inputs : List Input
   pub walk : Walk
 
@@ -51,7 +51,7 @@ pub record WholeStands {P : Type 0} (adds : P → P → List Top → List Rec �
   pub given : List Turn
   pub stands : WalkStands start.files walk texts given
   pub all_given : AllGiven start.files (pieces_in walk) texts given
-  pub uses : UsesOf start.inputs texts given (λ tops uses. adds old all (extras_of start.inputs) (history_of uses) × Counts (history_of uses) m)
+  pub uses : UsesOf start.inputs texts given (λ tops uses. adds old all (extras_of start.inputs) (history_of uses) × CountsMerged (history_of uses) m)
   pub peak : m.peak ≡ peak_of walk
 
 -- it stands for the extras with what was put of some turns, and with whatever would have come behind them

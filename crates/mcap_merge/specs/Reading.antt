@@ -19,27 +19,27 @@ use Rattle.mcap_merge.specs.declared.input.Input.{Input}
 use Rattle.mcap_merge.specs.Inputs.{Read, HoldsInput, HoldInputs, ReadsInput}
 
 -- a source over the front of a store, which counts its own failures
-abbrev pub front_of : StoreState → ℕ → SourceState
-front_of store len = record { left = front_left store.bytes 0 len; faults = 0 }
+abbrev pub front_source : StoreState → ℕ → SourceState
+front_source store len = record { left = front_left store.bytes 0 len; faults = 0 }
 
 -- the first so many bytes of a store were read, none twice
 pub record FrontReads (old : StoreState) (len : ℕ) (new : StoreState) (result : Result Input ReadingRefused) : Type 0 where
   pub next : ℕ
   pub now : SourceState
   pub was : WasRead old new next len now.faults
-  pub reads : ReadsInput (front_of old len) now result
+  pub reads : ReadsInput (front_source old len) now result
 
 -- where the store tells, its bytes are as many
 abbrev pub HasLength : StoreState → ℕ → Type 0
 HasLength store len = (bytes : List ℕ) → store.bytes ≡ Some bytes → len ≡ length bytes
 
 -- a fault is told with that count
-abbrev pub IsCounted : ℕ → ReadingRefused → ReadingRefused → Type 0
-IsCounted count (refusals.Fault faults) result = result ≡ refusals.Fault count
-IsCounted count (refusals.Grammar offset rule) result = result ≡ refusals.Grammar offset rule
-IsCounted count (refusals.Compressed offset name) result = result ≡ refusals.Compressed offset name
-IsCounted count (refusals.Limit offset) result = result ≡ refusals.Limit offset
-IsCounted count refusals.Memory result = result ≡ refusals.Memory
+abbrev pub TellsFaultCount : ℕ → ReadingRefused → ReadingRefused → Type 0
+TellsFaultCount count (refusals.Fault faults) result = result ≡ refusals.Fault count
+TellsFaultCount count (refusals.Grammar offset rule) result = result ≡ refusals.Grammar offset rule
+TellsFaultCount count (refusals.Compressed offset name) result = result ≡ refusals.Compressed offset name
+TellsFaultCount count (refusals.Limit offset) result = result ≡ refusals.Limit offset
+TellsFaultCount count refusals.Memory result = result ≡ refusals.Memory
 
 -- each of these spans ends within so many bytes
 abbrev pub EndWithin : ℕ → List Span → Type 0
@@ -55,7 +55,7 @@ abbrev pub SpansFit : StoreState → Input → Type 0
 SpansFit s i = Each (λ x. x.at + x.length ≤ s.known) i.spans.items
 
 -- no more bytes were asked for than the length that it has answered
-pub record AsksOnce (old new : StoreState) : Type 0 where
+pub record AsksWithinLength (old new : StoreState) : Type 0 where
   pub once : new.asked ≤ old.asked + new.known
 
 -- the store tells the same bytes, and its count hasn't fallen
@@ -65,8 +65,8 @@ pub record StoreKeeps (old new : StoreState) : Type 0 where
   pub faults : old.faults ≤ new.faults
 
 -- its count stood still
-abbrev pub CountStands : StoreState → StoreState → Type 0
-CountStands old new = new.faults ≡ old.faults
+abbrev pub FaultsStand : StoreState → StoreState → Type 0
+FaultsStand old new = new.faults ≡ old.faults
 
 -- where the store tells, a reading of its bytes comes to its Data End, and these are its records
 abbrev pub IsReadOf : StoreState → Read → Type 0
@@ -94,8 +94,8 @@ IsRefusalAt input (refusals.Limit offset) why = why ≡ merges.Halted input (ref
 IsRefusalAt input refusals.Memory why = why ≡ merges.Stopped stops.Memory
 
 -- all stores were read to their Data Ends, and this is held of them
-abbrev pub AreHeld : List StoreState → List Input → Type 0
-AreHeld stores inputs = (reads : List Read) × HoldInputs reads inputs × AllZip IsReadOf stores reads
+abbrev pub AllReadWhole : List StoreState → List Input → Type 0
+AllReadWhole stores inputs = (reads : List Read) × HoldInputs reads inputs × AllZip IsReadOf stores reads
 
 -- those before that number can be read to their Data Ends
 abbrev pub AreReadBefore : List StoreState → ℕ → Type 0
@@ -106,23 +106,23 @@ abbrev pub HaltsFirst : List StoreState → ℕ → (List ℕ → Type 0) → Ty
 HaltsFirst stores n halts = AreReadBefore stores n × (s : StoreState) × At stores n s × ((bytes : List ℕ) → s.bytes ≡ Some bytes → halts bytes)
 
 -- the count of the one of that number has risen by one, to this, and those of the others stood still
-abbrev pub OneRose : List StoreState → List StoreState → ℕ → ℕ → Type 0
-OneRose olds news k faults = (old new : StoreState) × At olds k old × At news k new × RisesOnce old.faults new.faults × (faults ≡ new.faults)
-    × ((n : ℕ) (was is : StoreState) → (n ≡ k → ⊥) → At olds n was → At news n is → CountStands was is)
+abbrev pub InputRose : List StoreState → List StoreState → ℕ → ℕ → Type 0
+InputRose olds news k faults = (old new : StoreState) × At olds k old × At news k new × RisesOnce old.faults new.faults × (faults ≡ new.faults)
+    × ((n : ℕ) (was is : StoreState) → (n ≡ k → ⊥) → At olds n was → At news n is → FaultsStand was is)
 
 -- why the input of that number wasn't read; but for a fault the counts stood still
 abbrev pub ReadHalted : List StoreState → List StoreState → ℕ → ReadingRefused → Type 0
-ReadHalted olds news input (refusals.Fault faults) = OneRose olds news input faults
-ReadHalted olds news input (refusals.Grammar offset rule) = AllZip CountStands olds news × HaltsFirst olds input (λ bytes. (tops : List Top) × Halts reading_limits bytes tops (grammar offset rule))
-ReadHalted olds news input (refusals.Compressed offset name) = AllZip CountStands olds news × HaltsFirst olds input (λ bytes. (tops : List Top) × Halts reading_limits bytes tops (compressed offset name))
-ReadHalted olds news input (refusals.Limit offset) = AllZip CountStands olds news × HaltsFirst olds input (λ bytes. (tops : List Top) × Halts reading_limits bytes tops (beyond offset))
+ReadHalted olds news input (refusals.Fault faults) = InputRose olds news input faults
+ReadHalted olds news input (refusals.Grammar offset rule) = AllZip FaultsStand olds news × HaltsFirst olds input (λ bytes. (tops : List Top) × Halts reading_limits bytes tops (grammar offset rule))
+ReadHalted olds news input (refusals.Compressed offset name) = AllZip FaultsStand olds news × HaltsFirst olds input (λ bytes. (tops : List Top) × Halts reading_limits bytes tops (compressed offset name))
+ReadHalted olds news input (refusals.Limit offset) = AllZip FaultsStand olds news × HaltsFirst olds input (λ bytes. (tops : List Top) × Halts reading_limits bytes tops (beyond offset))
 ReadHalted olds news input refusals.Memory = ⊥
 
 -- where nothing was written, the merge stopped for want of memory alone, and the counts stood still
 abbrev pub ReadStopped : List StoreState → List StoreState → Stop → Type 0
 ReadStopped olds news (stops.Fault faults) = ⊥
 ReadStopped olds news (stops.Limit blocks bytes) = ⊥
-ReadStopped olds news stops.Memory = AllZip CountStands olds news
+ReadStopped olds news stops.Memory = AllZip FaultsStand olds news
 
 -- why the inputs weren't all read
 abbrev pub InputRefused : List StoreState → List StoreState → MergeRefused → Type 0

@@ -15,7 +15,7 @@ use Rattle.id_table.specs.declared.given.IdRefused.TheVariants.{TooManySchemas, 
 abbrev pub bare : SchemaDef → ChannelDef
 bare s = record { topic = []; message_encoding = []; metadata = []; schema = Some s }
 
-abbrev pub AreBare : tables.Ids → Type 0
+abbrev pub AreBare : tables.IdContents → Type 0
 AreBare t = t.channels ≡ map bare t.schemas
 
 -- the schema was there, or was added

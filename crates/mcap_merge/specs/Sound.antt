@@ -22,7 +22,7 @@ LoggedInTurn (Message channel sequence log_time publish_time payload) r = Logged
 
 -- they are numbered from 1 in the order of first use, each is declared before its use and read back as itself, no message was
 -- logged before one in front of it, and the extras are such
-pub record IsSound (extras : List Top) (history : List Rec) : Type 0 where
+pub record IsSoundHistory (extras : List Top) (history : List Rec) : Type 0 where
   pub flat_kinds : Each (λ r. is_flat_kind (rec_top r) ≡ true) history
   pub numbered : Numbered history
   pub placed : StandBeforeUse history

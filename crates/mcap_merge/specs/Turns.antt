@@ -18,9 +18,9 @@ use Rattle.chunk_walk.specs.declared.answers.WalkRefused.{WalkRefused}
 use Rattle.chunk_walk.specs.declared.answers.WalkRefused.TheVariants as walks
 use Rattle.chunk_walk.specs.declared.pieces.Piece.{Piece}
 use Rattle.chunk_walk.specs.declared.walk.Walk.{Walk}
-use Rattle.chunk_walk.specs.Pieces.{Files}
-use Rattle.chunk_walk.specs.Stores.{CountsStand, RefusedCounts}
-use Rattle.chunk_walk.specs.Walks.{Text, turns_in, pieces_in, pieces_loaded, IsTextOf, IsMessageAt, IsRefused, WalkStands, AllGiven}
+use Rattle.chunk_walk.specs.Pieces.{InputBytes}
+use Rattle.chunk_walk.specs.Stores.{AllCountsStand, RefusedCounts}
+use Rattle.chunk_walk.specs.Walks.{Text, turns_in, pieces_in, pieces_loaded, IsTextOf, IsMessageAt, IsWalkRefused, WalkStands, AllGiven}
 use Rattle.mcap_merge.specs.declared.input.Input.{Input}
 use Rattle.mcap_merge.specs.declared.turns.PutRefused.{PutRefused}
 use Rattle.mcap_merge.specs.declared.turns.PutRefused.TheVariants as puts
@@ -28,7 +28,7 @@ use Rattle.mcap_merge.specs.declared.joining.Joiner.{Joiner}
 use Rattle.mcap_merge.specs.Uses.{Use, history_of}
 use Rattle.mcap_merge.specs.Contents.{HasContent, IdsSuffice}
 use Rattle.mcap_merge.specs.Joining.{JoinerStands}
-use Rattle.mcap_merge.specs.Inputs.{Read, tops_of, HoldInputs}
+use Rattle.mcap_merge.specs.Inputs.{Read, read_tops, HoldInputs}
 
 -- ---- one message
 
@@ -60,14 +60,14 @@ pub record IsUseOfTurn (inputs : List (List Top)) (texts : List Text) (t : Turn)
 
 -- of the inputs as they were read first, these are the uses of the turns, and so it is with them
 abbrev pub UsesOf : List Input → List Text → List Turn → (List (List Top) → List Use → Type 0) → Type 0
-UsesOf inputs texts given is = (reads : List Read) → HoldInputs reads inputs → IdsSuffice (tops_of reads) → (uses : List Use) × AllZip (IsUseOfTurn (tops_of reads) texts) given uses × is (tops_of reads) uses
+UsesOf inputs texts given is = (reads : List Read) → HoldInputs reads inputs → IdsSuffice (read_tops reads) → (uses : List Use) × AllZip (IsUseOfTurn (read_tops reads) texts) given uses × is (read_tops reads) uses
 
 -- what the stores tell, and the inputs as they were read of them
 pub record Sources : Type 0 where
-  pub files : Files
+  pub files : InputBytes
   pub inputs : List Input
 
-abbrev pub sources : Files → List Input → Sources
+abbrev pub sources : InputBytes → List Input → Sources
 sources files inputs = record { files = files; inputs = inputs }
 
 -- so many turns were given by the walk, and their records were put
@@ -85,7 +85,7 @@ pub record PutAll {P : Type 0} (adds : P → P → List Top → List Rec → Typ
   pub loaded : pieces_loaded w ≡ pieces_in w
 
 -- of a walk through the same pieces the records of some turns were put, and the pen stands for whatever would have come
-pub record PutSome {P : Type 0} (adds : P → P → List Top → List Rec → Type 0) (files : Files) (inputs : List Input) (start : Walk) (old now : P) : Type 0 where
+pub record PutSome {P : Type 0} (adds : P → P → List Top → List Rec → Type 0) (files : InputBytes) (inputs : List Input) (start : Walk) (old now : P) : Type 0 where
   pub walk : Walk
   pub pieces : walk.pieces ≡ start.pieces
   pub texts : List Text
@@ -94,7 +94,7 @@ pub record PutSome {P : Type 0} (adds : P → P → List Top → List Rec → Ty
   pub uses : UsesOf inputs texts given (λ all uses. (more : List Rec) → adds old now [] (history_of uses ++ more))
 
 -- a record that was loaded again for one of the pieces is no Message on a channel that has messages
-pub record IsOther (files : Files) (pieces : List Piece) (inputs : List Input) (input offset : ℕ) : Type 0 where
+pub record IsOther (files : InputBytes) (pieces : List Piece) (inputs : List Input) (input offset : ℕ) : Type 0 where
   pub text : Text
   pub among : Has pieces text.piece
   pub of : IsTextOf files text.piece text
@@ -111,14 +111,14 @@ pub record IsOther (files : Files) (pieces : List Piece) (inputs : List Input) (
 -- ---- why not all
 
 -- a piece isn't what it was: the walk through the pieces found it so, or a record of it is another
-abbrev pub IsChanged : Files → Walk → List Input → ℕ → ℕ → Type 0
-IsChanged files start inputs input offset = ((w : Walk) × (pieces_in w ≡ pieces_in start) × IsRefused files w (walks.Changed input offset)) ⊎ IsOther files (pieces_in start) inputs input offset
+abbrev pub IsChanged : InputBytes → Walk → List Input → ℕ → ℕ → Type 0
+IsChanged files start inputs input offset = ((w : Walk) × (pieces_in w ≡ pieces_in start) × IsWalkRefused files w (walks.Changed input offset)) ⊎ IsOther files (pieces_in start) inputs input offset
 
-abbrev pub WhyUnread : Files → Walk → List Input → WalkRefused → Type 0
+abbrev pub WhyUnread : InputBytes → Walk → List Input → WalkRefused → Type 0
 WhyUnread files start inputs (walks.Changed input offset) = IsChanged files start inputs input offset
 WhyUnread files start inputs (walks.Refused input why) = Unit {0}
 
-abbrev pub WhyNotAll : Files → Walk → List Input → PutRefused → Type 0
+abbrev pub WhyNotAll : InputBytes → Walk → List Input → PutRefused → Type 0
 WhyNotAll files start inputs (puts.Stopped stop) = Unit {0}
 WhyNotAll files start inputs (puts.Unread why) = WhyUnread files start inputs why
 
@@ -129,6 +129,6 @@ stop_of (puts.Unread why) = stops.Memory
 
 -- The counts of the stores and of the pen: one rises, and only where its failure is what is answered.
 abbrev pub PutCounts : {X : Type 0} → List StoreState → List StoreState → ℕ → ℕ → Result X PutRefused → Type 0
-PutCounts olds news before now (Ok it) = CountsStand olds news × (now ≡ before)
-PutCounts olds news before now (Err (puts.Stopped stop)) = CountsStand olds news × StopCause before now stop
+PutCounts olds news before now (Ok it) = AllCountsStand olds news × (now ≡ before)
+PutCounts olds news before now (Err (puts.Stopped stop)) = AllCountsStand olds news × StopCause before now stop
 PutCounts olds news before now (Err (puts.Unread why)) = RefusedCounts olds news why × (now ≡ before)

@@ -3,7 +3,7 @@ ghost use Rattle.std.specs.Prelude.{◌≡◌, ◌≤◌, ◌<◌, ◌*◌, ◌+
 ghost use Rattle.mcap_model.specs.Places.{At};
 ghost use Rattle.mcap_model.specs.Tops.{Top};
 ghost use Rattle.mcap_model.specs.Declarations.{TablesOf};
-ghost use Rattle.mcap_merge.specs.Inputs.{Read, tops_of, HoldInputs};
+ghost use Rattle.mcap_merge.specs.Inputs.{Read, read_tops, HoldInputs};
 ghost use Rattle.mcap_merge.specs.Joining.{LackMet};
 ghost use Rattle.mcap_merge.specs.Contents.{TakesOf, LacksIdsOf, IsIdTable, IdsSuffice};
 
@@ -54,8 +54,8 @@ fn enter_channel(
 pub(crate) fn check_ids(alloc: Global, inputs: &[Input]) -> Result<(), IdRefused>
     requires few { length inputs.now ≤ 64 }
     requires held { (reads : List Read) × HoldInputs reads inputs.now }
-    ensures suffice { OnOk result ((reads : List Read) → HoldInputs reads inputs.now → IdsSuffice (tops_of reads)) }
-    ensures refused { IfErr result (λ why. (reads : List Read) → HoldInputs reads inputs.now → LackMet (tops_of reads) why) }
+    ensures suffice { OnOk result ((reads : List Read) → HoldInputs reads inputs.now → IdsSuffice (read_tops reads)) }
+    ensures refused { IfErr result (λ why. (reads : List Read) → HoldInputs reads inputs.now → LackMet (read_tops reads) why) }
 {
     let mut table = match IdTable::new(alloc) {
         Ok(table) => table,

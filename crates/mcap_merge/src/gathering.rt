@@ -5,8 +5,8 @@ ghost use Rattle.mcap_model.specs.Tops.{Top};
 ghost use Rattle.mcap_merge.specs.Contents.{IdsSuffice};
 ghost use Rattle.mcap_merge.specs.Joining.{LackMet, WhyLacks};
 ghost use Rattle.mcap_merge.specs.Writing.{extras_of};
-ghost use Rattle.mcap_merge.specs.Inputs.{Read, tops_of, HoldInputs};
-ghost use Rattle.mcap_merge.specs.Reading.{StoreKeeps, CountStands, SpansFit, AsksOnce};
+ghost use Rattle.mcap_merge.specs.Inputs.{Read, read_tops, HoldInputs};
+ghost use Rattle.mcap_merge.specs.Reading.{StoreKeeps, FaultsStand, SpansFit, AsksWithinLength};
 ghost use Rattle.mcap_merge.specs.Gathering.{IsPrepared, PrepareRefused, IsGathered, GatherRefused};
 
 use crate::answers::MergeRefused;
@@ -44,7 +44,7 @@ fn id_refusal(why: IdRefused) -> MergeRefused
 fn first_refusal(alloc: Global, inputs: &[Input], met: IdRefused) -> IdRefused
     requires few { length inputs.now ≤ 64 }
     requires held { (reads : List Read) × HoldInputs reads inputs.now }
-    ensures { (reads : List Read) → HoldInputs reads inputs.now → LackMet (tops_of reads) met → WhyLacks (tops_of reads) result }
+    ensures { (reads : List Read) → HoldInputs reads inputs.now → LackMet (read_tops reads) met → WhyLacks (read_tops reads) result }
 {
     match met {
         IdRefused::TooManySchemas => return IdRefused::TooManySchemas,
@@ -60,8 +60,8 @@ fn first_refusal(alloc: Global, inputs: &[Input], met: IdRefused) -> IdRefused
 fn see_ids(alloc: Global, inputs: &[Input]) -> Result<(), IdRefused>
     requires few { length inputs.now ≤ 64 }
     requires held { (reads : List Read) × HoldInputs reads inputs.now }
-    ensures suffice { OnOk result ((reads : List Read) → HoldInputs reads inputs.now → IdsSuffice (tops_of reads)) }
-    ensures refused { IfErr result (λ why. (reads : List Read) → HoldInputs reads inputs.now → WhyLacks (tops_of reads) why) }
+    ensures suffice { OnOk result ((reads : List Read) → HoldInputs reads inputs.now → IdsSuffice (read_tops reads)) }
+    ensures refused { IfErr result (λ why. (reads : List Read) → HoldInputs reads inputs.now → WhyLacks (read_tops reads) why) }
 {
     match check_ids(alloc, inputs) {
         Ok(()) => return Ok(()),
@@ -75,7 +75,7 @@ fn prepare(alloc: Global, inputs: &[Input]) -> Result<Text, MergeRefused>
     requires few { length inputs.now ≤ 64 }
     requires held { (reads : List Read) × HoldInputs reads inputs.now }
     ensures prepared { IfOk result (λ profile. (reads : List Read) → HoldInputs reads inputs.now → IsPrepared reads profile (extras_of inputs.now)) }
-    ensures refused { IfErr result (λ why. (reads : List Read) → HoldInputs reads inputs.now → PrepareRefused (tops_of reads) why) }
+    ensures refused { IfErr result (λ why. (reads : List Read) → HoldInputs reads inputs.now → PrepareRefused (read_tops reads) why) }
 {
     match see_ids(alloc, inputs) {
         Ok(()) => {}
@@ -92,11 +92,11 @@ pub(crate) fn gather<T: Store>(alloc: Global, stores: &mut Vec<T>) -> Result<Gat
     requires some { 0 < length stores.old.items }
     requires few { length stores.old.items ≤ 64 }
     ensures gathered { IfOk result (λ g. IsGathered (map (λ s. T.state s) stores.old.items) g) }
-    ensures still { OnOk result (AllZip CountStands (map (λ s. T.state s) stores.old.items) (map (λ s. T.state s) stores.new.items)) }
+    ensures still { OnOk result (AllZip FaultsStand (map (λ s. T.state s) stores.old.items) (map (λ s. T.state s) stores.new.items)) }
     ensures refused { IfErr result (λ why. GatherRefused (map (λ s. T.state s) stores.old.items) (map (λ s. T.state s) stores.new.items) why) }
     ensures keeps { AllZip StoreKeeps (map (λ s. T.state s) stores.old.items) (map (λ s. T.state s) stores.new.items) }
     ensures fits { IfOk result (λ g. AllZip SpansFit (map (λ s. T.state s) stores.new.items) g.inputs.items) }
-    ensures asked { AllZip AsksOnce (map (λ s. T.state s) stores.old.items) (map (λ s. T.state s) stores.new.items) }
+    ensures asked { AllZip AsksWithinLength (map (λ s. T.state s) stores.old.items) (map (λ s. T.state s) stores.new.items) }
 {
     let inputs = match read_inputs(alloc, stores) {
         Ok(inputs) => inputs,

@@ -12,7 +12,7 @@ ghost use Rattle.record_core.specs.Tables.{HasSchemas};
 ghost use Rattle.record_core.specs.Sights.{SchemaFits, DefFits};
 ghost use Rattle.mcap_model.specs.Merged.{Sent, IsContent};
 ghost use Rattle.mcap_merge.specs.Contents.{FitsUnderIds};
-ghost use Rattle.mcap_merge.specs.Joining.{JoinerStands, IsChosen, FitsChoice, IsSized, TableIsUsed, IsAskedFor, AfterChoice, declared_records, records_of};
+ghost use Rattle.mcap_merge.specs.Joining.{JoinerStands, IsChosen, FitsChoice, IsSized, TableIsUsed, IsAskedFor, AfterChoice, declared_records, declaring_records};
 
 use crate::input::Input;
 use feed_lane::definition;
@@ -94,7 +94,7 @@ fn see_channel(content: &ChannelDef, id: u16, schema_id: u16)
 // The same of both.
 fn see_fields(content: &ChannelDef, ids: &GivenIds)
     requires { DefFits content.now }
-    ensures { Each IsReadBack (records_of (record { content = content.now; ids = ids.now })) }
+    ensures { Each IsReadBack (declaring_records (record { content = content.now; ids = ids.now })) }
 {
     let id = number_of(&ids.channel);
     let schema_id = id_of(&ids.schema);

@@ -1,6 +1,6 @@
 //! The channels of an input that have messages, marked at their ids.
 ghost use Rattle.std.specs.Prelude.{◌≡◌, length, IfOk};
-ghost use Rattle.mcap_merge.specs.Marks.{channels_in, with_marks, AreUnmarked};
+ghost use Rattle.mcap_merge.specs.Marks.{listed_channels, with_marks, AreUnmarked};
 
 use mcap_wire::Memory;
 use record_walk::MessageHead;
@@ -24,7 +24,7 @@ pub(crate) fn no_marks(alloc: Global) -> Result<Vec<bool>, Memory>
 pub(crate) fn mark_channels(marks: &mut Vec<bool>, heads: &[MessageHead])
     requires { length marks.old.items ≡ 65536 }
     ensures sized { length marks.new.items ≡ 65536 }
-    ensures marked { marks.new.items ≡ with_marks marks.old.items (channels_in heads.now) }
+    ensures marked { marks.new.items ≡ with_marks marks.old.items (listed_channels heads.now) }
 {
     'messages: for i in 0..heads.len() {
         marks[heads[i].channel as usize] = true;

@@ -7,12 +7,12 @@ ghost use Rattle.chunk_walk.specs.Stores.{files_of, StoresFit, StoresStay, Asked
 ghost use Rattle.chunk_walk.specs.Walks.{pieces_in};
 ghost use Rattle.mcap_merge.specs.Inputs.{Read, HoldInputs};
 ghost use Rattle.mcap_merge.specs.Writing.{ExtrasMeet};
-ghost use Rattle.mcap_merge.specs.Reading.{StoreKeeps, AsksOnce};
+ghost use Rattle.mcap_merge.specs.Reading.{StoreKeeps, AsksWithinLength};
 ghost use Rattle.mcap_merge.specs.Gathering.{GatherRefused};
 ghost use Rattle.mcap_merge.specs.Turns.{WhyNotAll, PutCounts};
 ghost use Rattle.mcap_merge.specs.Putting.{IsBegun, WholeStands};
 ghost use Rattle.mcap_merge.specs.Filed.{merged_options, MergesInto, MergeFails, AsksTwice};
-ghost use Rattle.mcap_merge.specs.Filing.{IsReady, FilesAs, FileStops, IsPutRefusal};
+ghost use Rattle.mcap_merge.specs.Filing.{IsReadyToWrite, FilesAs, FileStops, IsPutRefusal};
 
 use crate::answers::{MergeRefused, Merged};
 use crate::gathering::{Gathered, gather};
@@ -77,10 +77,10 @@ fn make_ready<T: Store>(
 ) -> Result<Ready, MergeRefused>
     requires some { 0 < length stores.old.items }
     requires few { length stores.old.items ≤ 64 }
-    ensures ready { IfOk result (λ r. IsReady (map (λ s. T.state s) stores.old.items) (map (λ s. T.state s) stores.new.items) chunk r) }
+    ensures ready { IfOk result (λ r. IsReadyToWrite (map (λ s. T.state s) stores.old.items) (map (λ s. T.state s) stores.new.items) chunk r) }
     ensures refused { IfErr result (λ why. GatherRefused (map (λ s. T.state s) stores.old.items) (map (λ s. T.state s) stores.new.items) why) }
     ensures keeps { AllZip StoreKeeps (map (λ s. T.state s) stores.old.items) (map (λ s. T.state s) stores.new.items) }
-    ensures asked { AllZip AsksOnce (map (λ s. T.state s) stores.old.items) (map (λ s. T.state s) stores.new.items) }
+    ensures asked { AllZip AsksWithinLength (map (λ s. T.state s) stores.old.items) (map (λ s. T.state s) stores.new.items) }
 {
     let gathered = match gather(alloc, stores) {
         Ok(gathered) => gathered,

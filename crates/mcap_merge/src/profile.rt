@@ -1,7 +1,7 @@
 //! The profile that all inputs have.
 ghost use Rattle.std.specs.Prelude.{◌<◌, ◌≤◌, List, length, IfOk};
 ghost use Rattle.mcap_model.specs.Merged.{CommonProfile};
-ghost use Rattle.mcap_merge.specs.Inputs.{Read, tops_of, HoldInputs};
+ghost use Rattle.mcap_merge.specs.Inputs.{Read, read_tops, HoldInputs};
 
 use crate::input::Input;
 use mcap_wire::{Memory, Text};
@@ -10,7 +10,7 @@ use std::alloc::Global;
 /// The profile that all inputs have, or none.
 pub(crate) fn common_profile(alloc: Global, inputs: &[Input]) -> Result<Text, Memory>
     requires some { 0 < length inputs.now }
-    ensures { IfOk result (λ profile. (reads : List Read) → HoldInputs reads inputs.now → CommonProfile (tops_of reads) profile) }
+    ensures { IfOk result (λ profile. (reads : List Read) → HoldInputs reads inputs.now → CommonProfile (read_tops reads) profile) }
 {
     let first = &inputs[0].profile;
     'inputs: for i in 1..inputs.len() {

@@ -2,7 +2,7 @@
 ghost use Rattle.std.specs.Prelude.{◌≡◌, ◌+◌, ◌≤◌, List, map, length, IfOk, IfErr, OnOk};
 ghost use Rattle.std.specs.List.{AllZip};
 ghost use Rattle.mcap_io.specs.Stores.{StoreStays};
-ghost use Rattle.mcap_merge.specs.Reading.{FrontReads, HasLength, StoreKeeps, CountStands, ReadsWhole, IsCounted, FindsOutside, EndWithin, SpansFit, AsksOnce, IsRefusalAt, AreHeld, InputRefused};
+ghost use Rattle.mcap_merge.specs.Reading.{FrontReads, HasLength, StoreKeeps, FaultsStand, ReadsWhole, TellsFaultCount, FindsOutside, EndWithin, SpansFit, AsksWithinLength, IsRefusalAt, AllReadWhole, InputRefused};
 
 use crate::answers::MergeRefused;
 use crate::input::{Input, read_input};
@@ -23,7 +23,7 @@ fn read_front<T: Store>(alloc: Global, store: &mut T, len: u64) -> Result<Input,
 
 // A refusal with the count of the store.
 fn counted<T: Store>(store: &T, why: ReadingRefused) -> ReadingRefused
-    ensures { IsCounted (T.state store.now).faults why result }
+    ensures { TellsFaultCount (T.state store.now).faults why result }
 {
     match why {
         ReadingRefused::Fault { faults: _ } => {
@@ -77,7 +77,7 @@ fn read_store<T: Store>(alloc: Global, store: &mut T) -> Result<Input, ReadingRe
     ensures reads { ReadsWhole (T.state store.old) (T.state store.new) result }
     ensures keeps { StoreKeeps (T.state store.old) (T.state store.new) }
     ensures fits { IfOk result (λ input. SpansFit (T.state store.new) input) }
-    ensures asked { AsksOnce (T.state store.old) (T.state store.new) }
+    ensures asked { AsksWithinLength (T.state store.old) (T.state store.new) }
 {
     let len = match store.len() {
         Ok(len) => len,
@@ -104,12 +104,12 @@ pub(crate) fn read_inputs<T: Store>(
     stores: &mut Vec<T>,
 ) -> Result<Vec<Input>, MergeRefused>
     requires few { length stores.old.items ≤ 64 }
-    ensures read { IfOk result (λ inputs. AreHeld (map (λ s. T.state s) stores.old.items) inputs.items) }
-    ensures still { OnOk result (AllZip CountStands (map (λ s. T.state s) stores.old.items) (map (λ s. T.state s) stores.new.items)) }
+    ensures read { IfOk result (λ inputs. AllReadWhole (map (λ s. T.state s) stores.old.items) inputs.items) }
+    ensures still { OnOk result (AllZip FaultsStand (map (λ s. T.state s) stores.old.items) (map (λ s. T.state s) stores.new.items)) }
     ensures refused { IfErr result (λ why. InputRefused (map (λ s. T.state s) stores.old.items) (map (λ s. T.state s) stores.new.items) why) }
     ensures keeps { AllZip StoreKeeps (map (λ s. T.state s) stores.old.items) (map (λ s. T.state s) stores.new.items) }
     ensures fits { IfOk result (λ inputs. AllZip SpansFit (map (λ s. T.state s) stores.new.items) inputs.items) }
-    ensures asked { AllZip AsksOnce (map (λ s. T.state s) stores.old.items) (map (λ s. T.state s) stores.new.items) }
+    ensures asked { AllZip AsksWithinLength (map (λ s. T.state s) stores.old.items) (map (λ s. T.state s) stores.new.items) }
 {
     let mut inputs = Vec::new(alloc);
     'inputs: for i in 0..stores.len() {

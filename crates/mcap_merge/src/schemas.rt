@@ -6,7 +6,7 @@ ghost use Rattle.mcap_wire.specs.Limits.{id_limit};
 ghost use Rattle.mcap_model.specs.Tops.{Top};
 ghost use Rattle.mcap_model.specs.Declarations.{TablesOf};
 ghost use Rattle.mcap_model.specs.Merged.{IsContent, SchemaIsUsed, AtMost};
-ghost use Rattle.mcap_merge.specs.Inputs.{Read, tops_of, HoldInputs};
+ghost use Rattle.mcap_merge.specs.Inputs.{Read, read_tops, HoldInputs};
 ghost use Rattle.mcap_merge.specs.Schemas.{bare, AreBare, Enters, EntersOf, LacksPlace, LacksPlaceOf, LacksSchemas};
 
 use crate::checking::{ID_COUNT, channel_at};
@@ -92,8 +92,8 @@ fn enter_of(
 pub(crate) fn see_schemas(alloc: Global, inputs: &[Input]) -> Result<(), IdRefused>
     requires few { length inputs.now ≤ 64 }
     requires held { (reads : List Read) × HoldInputs reads inputs.now }
-    ensures few { OnOk result ((reads : List Read) → HoldInputs reads inputs.now → AtMost id_limit (SchemaIsUsed (tops_of reads))) }
-    ensures refused { IfErr result (λ why. (reads : List Read) → HoldInputs reads inputs.now → LacksSchemas (tops_of reads) why) }
+    ensures few { OnOk result ((reads : List Read) → HoldInputs reads inputs.now → AtMost id_limit (SchemaIsUsed (read_tops reads))) }
+    ensures refused { IfErr result (λ why. (reads : List Read) → HoldInputs reads inputs.now → LacksSchemas (read_tops reads) why) }
 {
     let mut table = match IdTable::new(alloc) {
         Ok(table) => table,

@@ -9,8 +9,8 @@ ghost use Rattle.chunk_writer.specs.Stops.{Cause};
 ghost use Rattle.record_core.specs.Tables.{HasSchemas, schema_with};
 ghost use Rattle.record_core.specs.Sights.{SchemaFits, DefFits};
 ghost use Rattle.mcap_merge.specs.Uses.{Use, added_by, with_use};
-ghost use Rattle.mcap_merge.specs.Joining.{JoinerStands, records_of, declared_records, FitsChoice};
-ghost use Rattle.mcap_merge.specs.Writing.{on_channel, IsNext};
+ghost use Rattle.mcap_merge.specs.Joining.{JoinerStands, declaring_records, declared_records, FitsChoice};
+ghost use Rattle.mcap_merge.specs.Writing.{put_on_channel, ComesNext};
 
 use crate::framing::{frame_channel, frame_message, frame_schema};
 use crate::input::Input;
@@ -53,7 +53,7 @@ fn put_schema<P: Pen>(
 fn put_declared<P: Pen>(framed: &mut Vec<u8>, declared: &Declared, pen: &mut P) -> Result<(), Stop>
     requires fits { DefFits declared.now.content }
     requires going { P.phase pen.old ≡ phases.Going }
-    ensures adds { P.adds pen.old pen.new [] (records_of declared.now) }
+    ensures adds { P.adds pen.old pen.new [] (declaring_records declared.now) }
     ensures goes_on { OnOk result (P.phase pen.new ≡ phases.Going) }
     ensures stopped { IfErr result (λ stop. P.phase pen.new ≡ phases.Stopped stop) }
     ensures cause { Cause (P.failures pen.old) (P.failures pen.new) result }
@@ -121,8 +121,8 @@ pub(crate) fn write_message<P: Pen>(
     requires within { number * 65536 + 65535 < length joiner.old.given.items }
     requires schemas { HasSchemas joiner.old.table }
     requires going { P.phase pen.old ≡ phases.Going }
-    ensures adds { (inputs : List (List Top)) (history : List Rec) (u : Use) → IsNext inputs history joiner.old input.now number (on_channel message.now.channel_id (message_fields message.now)) u → P.adds pen.old pen.new [] (added_by history u) }
-    ensures stands { OnOk result ((inputs : List (List Top)) (history : List Rec) (u : Use) → IsNext inputs history joiner.old input.now number (on_channel message.now.channel_id (message_fields message.now)) u → JoinerStands inputs (with_use history u) joiner.new) }
+    ensures adds { (inputs : List (List Top)) (history : List Rec) (u : Use) → ComesNext inputs history joiner.old input.now number (put_on_channel message.now.channel_id (message_fields message.now)) u → P.adds pen.old pen.new [] (added_by history u) }
+    ensures stands { OnOk result ((inputs : List (List Top)) (history : List Rec) (u : Use) → ComesNext inputs history joiner.old input.now number (put_on_channel message.now.channel_id (message_fields message.now)) u → JoinerStands inputs (with_use history u) joiner.new) }
     ensures schemas { OnOk result (HasSchemas joiner.new.table) }
     ensures sized { OnOk result (length joiner.new.given.items ≡ length joiner.old.given.items) }
     ensures goes_on { OnOk result (P.phase pen.new ≡ phases.Going) }

@@ -9,7 +9,7 @@ use Rattle.mcap_wire.proofs.Contents.{shows_decided, begins_decided}
 use Rattle.rec_data.specs.Records.{channel_kinds, channel_values, message_kinds, message_values}
 use Rattle.mcap_model.specs.declared.replay.Place.{Place}
 use Rattle.mcap_model.specs.Places.{At, Each, EachBehind}
-use Rattle.mcap_model.specs.Tops.{Top, top_bytes, is_chunk, inner_tops, records_in, opened, is_flat_kind, flattened, flat, Placed, placed_inside, placed_one, placed_from, placed}
+use Rattle.mcap_model.specs.Tops.{Top, top_bytes, is_chunk, inner_tops, records_in, unchunked, is_flat_kind, flattened, flat, Placed, placed_inside, placed_one, placed_from, placed}
 use Rattle.mcap_model.specs.Fields.{ChunkFields, IsChunk, ChannelFields, IsChannel}
 use Rattle.mcap_model.specs.Rules.{V6, V7, V8, Agrees, HasChannel}
 use Rattle.mcap_model.specs.Kept.{Limits, NamesCompression}
@@ -73,7 +73,7 @@ flat_meets : (limits : Limits) (before tops : List Top) → Each (λ t. V6 t × 
 flat_meets limits before [] each = λ n x at. absurd (at_none n x at)
 flat_meets limits before (t ∷ ts) each =
     let here = each 0 t refl in
-    each_joined V6 (flattened t) (flat ts) (each_filter V6 is_flat_kind (opened t) (opened_by t (is_chunk t) refl here.0 here.1 here.2)) (flat_meets limits before ts (λ n x at. each (suc n) x at))
+    each_joined V6 (flattened t) (flat ts) (each_filter V6 is_flat_kind (unchunked t) (opened_by t (is_chunk t) refl here.0 here.1 here.2)) (flat_meets limits before ts (λ n x at. each (suc n) x at))
 
 pub good_lists_agree : GoodListsAgree
 good_lists_agree limits tops good = (

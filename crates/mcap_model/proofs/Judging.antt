@@ -21,7 +21,7 @@ use Rattle.mcap_model.specs.Made.{top}
 use Rattle.mcap_model.specs.declared.tops.Judged.TheVariants as judged
 use Rattle.mcap_model.specs.Declarations.{TablesOf, AgreesButMetadata, Judges, AttachmentJudged}
 use Rattle.mcap_model.specs.Chunked.{flat_of, AgreeBehind, HasSizeAndCrc, ChunkTaken}
-use Rattle.mcap_model.specs.Judging.{as_judged, kept_or_breaks, IsPlain, KeepsRules, MayWantMemory, JudgedAs}
+use Rattle.mcap_model.specs.Judging.{as_judged, kept_or_breaks, NamesNoCompression, KeepsRules, MayWantMemory, JudgedAs}
 use Rattle.mcap_model.proofs.Meets.{chunk_meets, unknown_meets}
 use Rattle.mcap_model.proofs.Agreeing.{but_metadata}
 use Rattle.mcap_model.proofs.Inside.{unknown_not_flat}
@@ -50,7 +50,7 @@ silent_agrees t silent before = subst (AgreeBehind before) (sym silent) (λ n u 
 
 -- ---- kinds
 
-not_chunk : (t : Top) → (t.op ≡ 6 → ⊥) → IsPlain t
+not_chunk : (t : Top) → (t.op ≡ 6 → ⊥) → NamesNoCompression t
 not_chunk t other name names = let is = names.is in other is.kind
 
 no_v8 : (t : Top) → (t.op ≡ 6 → ⊥) → V8 t
@@ -114,9 +114,9 @@ unknown_fits first more op content tables high are =
     silent_keeps first more t tables (unknown_in_section op high) (λ e. omega (arith, e, high)) (λ e. omega (arith, e, high)) (flat_unknown t high) (unknown_meets t high) (no_v10 t (λ e. omega (arith, e, high))) are
 
 -- a broken rule of a record that is no chunk
-pub breaks_plain : (tops : List Top) (op n : ℕ) (content : List ℕ) (rule : ℕ) → op ≡ n → (n ≡ 6 → ⊥) → Breaks tops (top n content) rule → ((tops ≡ [] → ⊥) → IsPlain (top op content)) × Breaks tops (top op content) rule
+pub breaks_plain : (tops : List Top) (op n : ℕ) (content : List ℕ) (rule : ℕ) → op ≡ n → (n ≡ 6 → ⊥) → Breaks tops (top n content) rule → ((tops ≡ [] → ⊥) → NamesNoCompression (top op content)) × Breaks tops (top op content) rule
 breaks_plain tops op n content rule is closed breaks =
-    subst (λ (m : ℕ). ((tops ≡ [] → ⊥) → IsPlain (top m content)) × Breaks tops (top m content) rule) (sym is) ((λ some. not_chunk (top n content) closed), breaks)
+    subst (λ (m : ℕ). ((tops ≡ [] → ⊥) → NamesNoCompression (top m content)) × Breaks tops (top m content) rule) (sym is) ((λ some. not_chunk (top n content) closed), breaks)
 
 -- ---- chunks
 
@@ -125,7 +125,7 @@ chunk_once t f g one other =
     let same = shows_decided chunk_kinds t.content (chunk_values f) (chunk_values g) one.layout other.layout in
     ap (λ v. record { start = v.0; end = v.1.0; size = v.1.1.0; crc = v.1.1.1.0; compression = v.1.1.1.1.0; records = v.1.1.1.1.1.0 }) same
 
-chunk_plain : (t : Top) (f : ChunkFields) → IsChunk t f → f.compression ≡ [] → IsPlain t
+chunk_plain : (t : Top) (f : ChunkFields) → IsChunk t f → f.compression ≡ [] → NamesNoCompression t
 chunk_plain t f is plain name names =
     let some = names.some in
     some (sym names.named ∙ ap (λ (g : ChunkFields). g.compression) (chunk_once t names.shown f names.is is) ∙ plain)
@@ -169,7 +169,7 @@ chunk_judged first more content f tables rulings.Memory is plain taken =
       agrees = λ other. absurd (other refl);
     }
 
-pub chunk_unshown : (tops : List Top) (content : List ℕ) → ((f : ChunkFields) → IsChunk (top 6 content) f → ⊥) → ((tops ≡ [] → ⊥) → IsPlain (top 6 content)) × Breaks tops (top 6 content) 6
+pub chunk_unshown : (tops : List Top) (content : List ℕ) → ((f : ChunkFields) → IsChunk (top 6 content) f → ⊥) → ((tops ≡ [] → ⊥) → NamesNoCompression (top 6 content)) × Breaks tops (top 6 content) 6
 chunk_unshown tops content none = ((λ some name names. none names.shown names.is), breaks_6 (λ v6. let s = v6.chunk refl in none s.0 s.1))
 
 -- ---- a record that fits
@@ -216,7 +216,7 @@ pub judged_by : (tops : List Top) (t : Top) (tables : Tables) (b : Bool) (rule :
 judged_by tops t tables true rule fits breaks = fits refl
 judged_by tops t tables false rule fits breaks = breaks refl
 
-pub attachment_broken : (tops : List Top) (op : ℕ) (content : List ℕ) (rule : ℕ) → op ≡ 9 → AttachmentJudged content (Some rule) → ((tops ≡ [] → ⊥) → IsPlain (top op content)) × Breaks tops (top op content) rule
+pub attachment_broken : (tops : List Top) (op : ℕ) (content : List ℕ) (rule : ℕ) → op ≡ 9 → AttachmentJudged content (Some rule) → ((tops ≡ [] → ⊥) → NamesNoCompression (top op content)) × Breaks tops (top op content) rule
 attachment_broken tops op content rule is (inl layout) =
     breaks_plain tops op 9 content rule is (λ e. omega (arith, e)) (subst (Breaks tops (top 9 content)) (sym layout.0) (breaks_6 (λ v6. let s = v6.attachment refl in let none = layout.1 in none s.0 s.1)))
 attachment_broken tops op content rule is (inr crc) =

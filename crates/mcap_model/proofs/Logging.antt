@@ -2,7 +2,7 @@
 use Rattle.std.proofs.Common.{◌≡◌, ℕ, suc, ◌+◌, ◌*◌, ◌^◌, ◌<◌, ◌≤◌, Bool, true, false, ◌==◌, List, [], ◌∷◌, length, map, get_or, refl, arith}
 use Rattle.std.specs.Prelude.{All, fold, filter, cond, nat_lt, if◌then◌else◌}
 use Rattle.std.proofs.lemmas.List.{length-append, length-map}
-use Rattle.mcap_wire.specs.Arrays.{IsEntry, entry_texts}
+use Rattle.mcap_wire.specs.Arrays.{EntryFits, entry_texts}
 use Rattle.mcap_wire.proofs.ArrayLemmas.{length-entry_texts}
 use Rattle.mcap_wire.proofs.Numbers.{length-le}
 use Rattle.mcap_wire.proofs.Contents.{row_shown}
@@ -105,11 +105,11 @@ pub indexes_are_written : IndexesAreWritten
 indexes_are_written records back short n channel at =
     let logs = logs_fit 0 (length (history_bytes records)) records back (omega arith) in
     let mine = filter (λ (e : Logged). e.channel == channel) (logged records) in
-    let fits : Each (IsEntry 8) (entries_for records channel) =
-    each_map (λ (e : Logged). (e.time, e.offset)) (IsEntry 8) mine
-    (each_filter (λ e. IsEntry 8 (e.time, e.offset)) (λ (e : Logged). e.channel == channel) (logged records)
+    let fits : Each (EntryFits 8) (entries_for records channel) =
+    each_map (λ (e : Logged). (e.time, e.offset)) (EntryFits 8) mine
+    (each_filter (λ e. EntryFits 8 (e.time, e.offset)) (λ (e : Logged). e.channel == channel) (logged records)
     (λ k e there. let fit = logs k e there in record { first_fits = fit.time; second_fits = let before = fit.before in omega (arith, before, short) })) in
-    let all : All (IsEntry 8) (entries_for records channel) = λ k d less. fits k (get_or (entries_for records channel) k d) (at_read (entries_for records channel) k d less) in
+    let all : All (EntryFits 8) (entries_for records channel) = λ k d less. fits k (get_or (entries_for records channel) k d) (at_read (entries_for records channel) k d less) in
     let id_fits = ids_fold (λ id. id < 2 ^ 16) [] (map (λ (e : Logged). e.channel) (logged records)) (λ k id there. absurd (at_none k id there))
     (each_map (λ (e : Logged). e.channel) (λ id. id < 2 ^ 16) (logged records) (λ k e there. let fit = logs k e there in fit.channel)) in
     record {

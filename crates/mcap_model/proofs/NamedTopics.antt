@@ -22,7 +22,7 @@ use Rattle.mcap_model.specs.Scan.{Seen, HasTopic, IsSeen, is_message_top}
 use Rattle.mcap_model.specs.Declarations.{TablesOf, FirstOf}
 use Rattle.mcap_model.specs.Made.{top}
 use Rattle.mcap_model.specs.Showing.{shown_as, TopicsOf}
-use Rattle.mcap_model.specs.Plain.{ReadTo, TakesRecord, cut_top, IsShown, AddsThose, IsNamed, DeclareChannels, AreDeclared, HaveTopics, AreNamed, PlacesDiffer, IsScanned}
+use Rattle.mcap_model.specs.Plain.{ReadTo, TakesRecord, cut_top, IsShown, AddsThose, HasDeclaredTopic, DeclareChannels, AreDeclared, HaveTopics, AreNamed, PlacesDiffer, IsScanned}
 use Rattle.mcap_model.proofs.Places.{at_none, at_within, at_read, at_one}
 use Rattle.mcap_model.proofs.Lists.{pairs_at, pairs_from}
 use Rattle.mcap_model.proofs.Flat.{topic_once, at_mapped, placed_tops, good_lists_agree, good_lists_are_scanned}
@@ -88,7 +88,7 @@ id_declared channels shown ids i id declared ids_are at =
 
 -- the entry of a channel that was declared
 abbrev pub IsEntry : List Declared → ℕ → Topic → Type 0
-IsEntry channels id t = (t.channel ≡ id) × IsNamed channels id t.topic
+IsEntry channels id t = (t.channel ≡ id) × HasDeclaredTopic channels id t.topic
 
 pub topics_named : (channels : List Declared) (shown : List Shown) (ids : List ℕ) (topics : List Topic) → IsStrictlyIncreasing ids → ((id : ℕ) → Contains ids id ↔ Contains (map (λ s. s.channel) shown) id) → AllZip (IsEntry channels) ids topics → HaveTopics channels shown topics
 topics_named channels shown ids topics rising ids_are zip = record {
@@ -104,7 +104,7 @@ topics_named channels shown ids topics rising ids_are zip = record {
       let entry = a.2 in
       let there = has_there (map (λ (s : Shown). s.channel) shown) a.0 ((ids_are a.0).0 (contained ids a.0 (has.0, a.1))) in
       let s = unmapped (λ (s : Shown). s.channel) shown there.0 a.0 there.1 in
-      (subst (λ (id : ℕ). IsNamed channels id t.topic) (sym entry.0) entry.1, (s.0, (there.0, s.1), s.2 ∙ sym entry.0));
+      (subst (λ (id : ℕ). HasDeclaredTopic channels id t.topic) (sym entry.0) entry.1, (s.0, (there.0, s.1), s.2 ∙ sym entry.0));
   all = λ s has.
       let there = has_there ids s.channel ((ids_are s.channel).1 (contained (map (λ (r : Shown). r.channel) shown) s.channel (has.0, at_mapped (λ (r : Shown). r.channel) shown has.0 s has.1))) in
       let t = zip_front (IsEntry channels) ids topics there.0 s.channel zip there.1 in
@@ -121,7 +121,7 @@ unnamed channels id content (k, d, at, id_is, same) are none =
     none d.id f.0 is.layout
 
 pub named : (channels : List Declared) (id : ℕ) (content : List ℕ) (other : ℕ) (g : ChannelFields) → (k : ℕ) × (d : Declared) × At channels k d × (d.id ≡ id) × (d.content ≡ content) → DeclareChannels channels
-    → ShowsChannel content other g → IsNamed channels id g.topic
+    → ShowsChannel content other g → HasDeclaredTopic channels id g.topic
 named channels id content other g (k, d, at, id_is, same) are shows =
     let f = are.are k d at in
     let is = subst (λ (l : List ℕ). IsChannel (top 4 l) d.id f.0) same f.1 in
@@ -172,7 +172,7 @@ are_declared records tables messages shown are known same s has =
     let first = channels.covers named.place m.0.channel named.top named.shown named.at named.is in
     (first.0, first.1, first.3, first.4 ∙ ap (λ (z : Shown). z.channel) m.2)
 
-pub named_topic : (records : List Top) (tables : Tables) (id : ℕ) (topic : List ℕ) → TablesOf records tables → IsNamed tables.channels id topic → HasTopic records id topic
+pub named_topic : (records : List Top) (tables : Tables) (id : ℕ) (topic : List ℕ) → TablesOf records tables → HasDeclaredTopic tables.channels id topic → HasTopic records id topic
 named_topic records tables id topic are named =
     let channels = are.channels in
     let held = channels.holds named.place named.declared named.at in

@@ -21,7 +21,7 @@ use Rattle.mcap_model.specs.declared.replay.Replayed.{Replayed}
 use Rattle.mcap_model.specs.Places.{At, Has}
 use Rattle.mcap_model.specs.Scan.{Seen, InRange, OnTopic, IsAsked, ComesBefore, Replay}
 use Rattle.mcap_model.specs.Showing.{shown_as, topic_as, TopicsOf, Shows}
-use Rattle.mcap_model.specs.Plain.{is_used, is_before, is_within, is_named, is_chosen, PlacesDiffer, NotBehind, InOrder}
+use Rattle.mcap_model.specs.Plain.{is_used, is_before_end, is_within, is_named, is_chosen, PlacesDiffer, NotBehind, InOrder}
 use Rattle.mcap_model.proofs.Places.{at_none, at_within, at_read, at_one}
 use Rattle.mcap_model.proofs.Lists.{pairs_at, pairs_from, pairs_cons, filter_passed, filter_has}
 use Rattle.mcap_model.proofs.Flat.{at_mapped}
@@ -161,7 +161,7 @@ shown_back topics (x ∷ xs) = ap (λ (l : List Shown). x ∷ l) (shown_back top
 
 -- ---- what is asked for
 
-before_decided : (end : Option ℕ) (time : ℕ) → Decides (is_before end time) ((e : ℕ) → end ≡ Some e → time < e)
+before_decided : (end : Option ℕ) (time : ℕ) → Decides (is_before_end end time) ((e : ℕ) → end ≡ Some e → time < e)
 before_decided None time = (λ yes e is. absurd (none_some e is), λ all. refl)
   where
     none_some : (e : ℕ) → None ≡ Some e → ⊥
@@ -174,7 +174,7 @@ before_decided (Some end) time = (
 pub range_decided : (range : Range) (time : ℕ) → Decides (is_within range time) (InRange range time)
 range_decided range time =
     Decides-like (is_within range time) (λ e. record { from = e.0; before = e.1 }) (λ in_range. (in_range.from, in_range.before))
-    (Decides-and (nat_le range.start time) (is_before range.end time) (leb-true range.start time, le-leb range.start time) (before_decided range.end time))
+    (Decides-and (nat_le range.start time) (is_before_end range.end time) (leb-true range.start time, le-leb range.start time) (before_decided range.end time))
 
 abbrev gives : ℕ → List ℕ → Topic → Bool
 gives channel asked t = (t.channel == channel) && pointwise nat_eq t.topic asked

@@ -2,7 +2,7 @@
 use Rattle.std.proofs.Common.{◌≡◌, ℕ, zero, suc, ◌+◌, ◌^◌, ◌<◌, ◌≤◌, List, [], ◌∷◌, length, take, Option, Some, refl, sym, ap, subst, ◌∙◌, arith}
 use Rattle.std.specs.Prelude.{◌≢◌}
 use Rattle.std.proofs.lemmas.List.{length-append}
-use Rattle.mcap_wire.specs.Arrays.{IsEntry, entry_texts}
+use Rattle.mcap_wire.specs.Arrays.{EntryFits, entry_texts}
 use Rattle.mcap_wire.specs.Maps.{KeysDiffer}
 use Rattle.mcap_wire.proofs.Contents.{row_shown, shows_decided}
 use Rattle.rec_data.specs.declared.owned.Rec.{Rec}
@@ -26,7 +26,7 @@ pub index_shown : (records : List Rec) (channel : ℕ) → Each IsReadBack recor
     → IsMessageIndex (index_top records channel) channel (entries_for records channel)
 index_shown records channel back has few small = record {
   kind = refl;
-  layout = row_shown message_index_kinds (message_index_values channel (entries_for records channel)) (channel_small, ((array_small, all_from (IsEntry 8) (entries_for records channel) fit), tt));
+  layout = row_shown message_index_kinds (message_index_values channel (entries_for records channel)) (channel_small, ((array_small, all_from (EntryFits 8) (entries_for records channel) fit), tt));
 }
   where
     channel_small : channel < 256 ^ 2
@@ -38,7 +38,7 @@ index_shown records channel back has few small = record {
         let count = count_entries records channel in
         omega (arith, size, count, few)
 
-    fit : Each (IsEntry 8) (entries_for records channel)
+    fit : Each (EntryFits 8) (entries_for records channel)
     fit n entry at =
         let (k, m, there, time, offset) = entries_are records channel entry (n, at) in
         let shown = (back k (message_of channel m) there).1 in
@@ -95,7 +95,7 @@ chunk_index_shown offset records back small room =
     record {
       kind = refl;
       layout = row_shown chunk_index_kinds (chunk_index_values f)
-          (least_fits (log_times records) fit, (greatest_fits (log_times records) fit, (omega (arith, room), (omega (arith, room), ((map_small, all_from (IsEntry 2) (written_index offset records).indexes entry, differ), (omega (arith, room), ((omega arith, empty_utf8), (small, (small, tt)))))))));
+          (least_fits (log_times records) fit, (greatest_fits (log_times records) fit, (omega (arith, room), (omega (arith, room), ((map_small, all_from (EntryFits 2) (written_index offset records).indexes entry, differ), (omega (arith, room), ((omega arith, empty_utf8), (small, (small, tt)))))))));
     }
   where
     map_small : length (entry_texts 2 (index_offsets records (offset + length (chunk_bytes records)) (logged_channels records))) < 2 ^ 32
@@ -105,7 +105,7 @@ chunk_index_shown offset records back small room =
         let few = few_channels records back in
         omega (arith, size, count, few)
 
-    entry : Each (IsEntry 2) (index_offsets records (offset + length (chunk_bytes records)) (logged_channels records))
+    entry : Each (EntryFits 2) (index_offsets records (offset + length (chunk_bytes records)) (logged_channels records))
     entry n p there =
         let (id, place) = offset_is records (offset + length (chunk_bytes records)) (logged_channels records) n p there in
         let low = channels_fit records back n p.0 id in

@@ -16,7 +16,7 @@ use Rattle.mcap_model.specs.Rules.{V1, HasDataEnd, Breaks, breaks_3}
 use Rattle.mcap_model.specs.Kept.{reading_limits, is_beyond, NamesCompression, Fits, Good, Halt, at_end, grammar, compressed, beyond, HasOpcode, IsDue, HaltsThere, short_head, zero_opcode, past_limit, cut_short, packed_chunk, broken_rule, Halts, no_magic, at_data_end, behind_kept}
 use Rattle.mcap_model.specs.Declarations.{TablesOf}
 use Rattle.mcap_model.specs.Made.{top}
-use Rattle.mcap_model.specs.Judging.{IsPlain, KeepsRules, JudgedAs, FirstJudged}
+use Rattle.mcap_model.specs.Judging.{NamesNoCompression, KeepsRules, JudgedAs, FirstJudged}
 use Rattle.mcap_model.specs.declared.tables.Tables.{Tables}
 use Rattle.mcap_model.specs.declared.tops.Judged.{Judged}
 use Rattle.mcap_model.specs.declared.tops.Judged.TheVariants as judged
@@ -174,7 +174,7 @@ cut_due bytes at c tops is place near =
     due_there tops (drop at bytes) at place (front.head, λ (e : opcode (drop at bytes) ≡ 0). is.valid (sym front.op_is ∙ e)) near
 
 pub cut_broken : (bytes : List ℕ) (at : ℕ) (c : Cut) (tables : Tables) (tops : List Top) (rule : ℕ) → ReadTo bytes at tables tops → IsCut bytes at c → (HasOpcode (drop at bytes) × (is_beyond reading_limits at (declared_length (drop at bytes)) ≡ true) → ⊥)
-    → ((tops ≡ [] → ⊥) → IsPlain (cut_top bytes c)) × Breaks tops (cut_top bytes c) rule → (others : List Top) × Halts reading_limits bytes others (grammar at rule)
+    → ((tops ≡ [] → ⊥) → NamesNoCompression (cut_top bytes c)) × Breaks tops (cut_top bytes c) rule → (others : List Top) × Halts reading_limits bytes others (grammar at rule)
 cut_broken bytes at c tables tops rule was is near (plain, breaks) =
     let front = cut_begun bytes at c is in
     grammar_there bytes at tables tops rule was

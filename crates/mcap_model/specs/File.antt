@@ -6,7 +6,7 @@ use Rattle.rec_data.specs.declared.owned.Rec.{Rec}
 use Rattle.mcap_model.specs.declared.options.FileOptions.{FileOptions}
 use Rattle.mcap_model.specs.Tops.{Top, top_bytes, spelled}
 use Rattle.mcap_model.specs.Blocks.{Piece, block, alone, cuts, pieces_of, piece_bytes, pieces_bytes}
-use Rattle.mcap_model.specs.Summary.{Noted, footer_fields, summary_text}
+use Rattle.mcap_model.specs.Summary.{Noted, footer_of_offsets, summary_text}
 
 abbrev pub library : List ℕ
 library = codes "mcaprec 1"
@@ -48,7 +48,7 @@ noted options extras history = record {
 
 -- what stands behind the Data End: without a chunk size a Footer that names no summary
 abbrev pub tail_by : Option ℕ → Noted → ℕ → List ℕ
-tail_by None n at = framed 2 (footer_text (footer_fields 0 0 0)) ++ magic
+tail_by None n at = framed 2 (footer_text (footer_of_offsets 0 0 0)) ++ magic
 tail_by (Some size) n at = summary_text n at
 
 -- the file of these options, of these extras and of this history

@@ -24,8 +24,8 @@ kept_or_breaks true rule = judged.Fits
 kept_or_breaks false rule = judged.Breaks rule
 
 -- the record names no compression
-abbrev pub IsPlain : Top → Type 0
-IsPlain t = (name : List ℕ) → NamesCompression t name → ⊥
+abbrev pub NamesNoCompression : Top → Type 0
+NamesNoCompression t = (name : List ℕ) → NamesCompression t name → ⊥
 
 -- the record keeps the rules behind those before it
 pub record KeepsRules (tops : List Top) (t : Top) : Type 0 where
@@ -35,7 +35,7 @@ pub record KeepsRules (tops : List Top) (t : Top) : Type 0 where
   pub v7 : V7 tops t
   pub v8 : V8 t
   pub v10 : V10 t
-  pub plain : IsPlain t
+  pub plain : NamesNoCompression t
 
 -- The record breaks no rule as far as that is told without memory: it may stand there, has its layout, names no
 -- compression, and its CRCs and a chunk's size are right. Left open are the records inside a chunk, and the metadata of a
@@ -45,7 +45,7 @@ pub record MayWantMemory (tops : List Top) (t : Top) : Type 0 where
   pub v5 : V5 tops t
   pub v6 : V6 t
   pub v10 : V10 t
-  pub plain : IsPlain t
+  pub plain : NamesNoCompression t
   pub chunk : (f : ChunkFields) → IsChunk t f → HasSizeAndCrc f
   pub agrees : (t.op ≡ 6 → ⊥) → AgreesButMetadata (flat tops) t
 
@@ -53,7 +53,7 @@ pub record MayWantMemory (tops : List Top) (t : Top) : Type 0 where
 -- or memory lacked.
 abbrev pub JudgedAs : List Top → Top → Tables → Judged → Type 0
 JudgedAs tops t tables judged.Fits = KeepsRules tops t × TablesOf (flat (tops ++ t ∷ [])) tables
-JudgedAs tops t tables (judged.Breaks rule) = ((tops ≡ [] → ⊥) → IsPlain t) × Breaks tops t rule
+JudgedAs tops t tables (judged.Breaks rule) = ((tops ≡ [] → ⊥) → NamesNoCompression t) × Breaks tops t rule
 JudgedAs tops t tables (judged.Compressed name) = (tops ≡ [] → ⊥) × NamesCompression t name.now
 JudgedAs tops t tables judged.Memory = MayWantMemory tops t
 

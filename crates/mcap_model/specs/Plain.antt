@@ -113,7 +113,7 @@ AddsMessages offset t old new = V6 t → V8 t → ((name : List ℕ) → NamesCo
 -- ---- topics
 
 -- a channel of that id was declared with that topic
-pub record IsNamed (channels : List Declared) (id : ℕ) (topic : List ℕ) : Type 0 where
+pub record HasDeclaredTopic (channels : List Declared) (id : ℕ) (topic : List ℕ) : Type 0 where
   pub place : ℕ
   pub declared : Declared
   pub shown : ChannelFields
@@ -129,12 +129,12 @@ pub record DeclareChannels (channels : List Declared) : Type 0 where
 
 -- the topic of the channel of that id, which was declared, is added
 abbrev pub AddsTopic : List Declared → ℕ → List Topic → List Topic → Type 0
-AddsTopic channels id old new = DeclareChannels channels → ((k : ℕ) × (d : Declared) × At channels k d × (d.id ≡ id)) → (topic : List ℕ) × IsNamed channels id topic × (new ≡ old ++ (record { channel = id; topic = topic }) ∷ [])
+AddsTopic channels id old new = DeclareChannels channels → ((k : ℕ) × (d : Declared) × At channels k d × (d.id ≡ id)) → (topic : List ℕ) × HasDeclaredTopic channels id topic × (new ≡ old ++ (record { channel = id; topic = topic }) ∷ [])
 
 -- one entry for each channel of the messages, in ascending order of ids, with the topic that was declared
 pub record HaveTopics (channels : List Declared) (shown : List Shown) (topics : List Topic) : Type 0 where
   pub rises : AllPairs (λ t u. t.channel < u.channel) topics
-  pub are : (t : Topic) → Has topics t → IsNamed channels t.channel t.topic × ((s : Shown) × Has shown s × (s.channel ≡ t.channel))
+  pub are : (t : Topic) → Has topics t → HasDeclaredTopic channels t.channel t.topic × ((s : Shown) × Has shown s × (s.channel ≡ t.channel))
   pub all : (s : Shown) → Has shown s → (topic : List ℕ) × Has topics (record { channel = s.channel; topic = topic })
 
 -- the channel of each message was declared
@@ -150,13 +150,13 @@ AreNamed channels shown topics = DeclareChannels channels → AreDeclared channe
 abbrev pub is_used : List Shown → ℕ → Bool
 is_used shown channel = list_any (λ s. s.channel == channel) shown
 
-abbrev pub is_before : Option ℕ → ℕ → Bool
-is_before None time = true
-is_before (Some end) time = nat_lt time end
+abbrev pub is_before_end : Option ℕ → ℕ → Bool
+is_before_end None time = true
+is_before_end (Some end) time = nat_lt time end
 
 -- whether the range has the time
 abbrev pub is_within : Range → ℕ → Bool
-is_within range time = nat_le range.start time && is_before range.end time
+is_within range time = nat_le range.start time && is_before_end range.end time
 
 abbrev pub asked_topic : Option (Bor (List ℕ)) → Option (List ℕ)
 asked_topic None = None

@@ -37,16 +37,16 @@ capped n = min n (2 ^ 32 - 1)
 abbrev pub messages_on : List Rec → ℕ → ℕ
 messages_on records channel = length (filter (λ e. e.channel == channel) (logged records))
 
-abbrev pub of_kind : ℕ → List (ℕ × Top) → List (ℕ × Top)
-of_kind op extras = filter (λ e. e.1.op == op) extras
+abbrev pub extras_of_kind : ℕ → List (ℕ × Top) → List (ℕ × Top)
+extras_of_kind op extras = filter (λ e. e.1.op == op) extras
 
 abbrev pub written_statistics : Noted → StatisticsFields
 written_statistics n = record {
   messages = length (logged n.records);
   schemas = length (schemas_of n.records);
   channels = capped (length (channels_of n.records));
-  attachments = capped (length (of_kind 9 n.extras));
-  metadata = capped (length (of_kind 12 n.extras));
+  attachments = capped (length (extras_of_kind 9 n.extras));
+  metadata = capped (length (extras_of_kind 12 n.extras));
   chunks = capped (length n.blocks);
   start = least (log_times n.records);
   end = greatest (log_times n.records);
@@ -130,8 +130,8 @@ groups_of n = filter (λ g. has_some g.contents) (
     ∷ record { op = 4; contents = map rec_text (channels_of n.records) }
     ∷ record { op = 11; contents = statistics_content n ∷ [] }
     ∷ record { op = 8; contents = map chunk_index_content n.blocks }
-    ∷ record { op = 10; contents = map attachment_index_content (of_kind 9 n.extras) }
-    ∷ record { op = 13; contents = map metadata_index_content (of_kind 12 n.extras) } ∷ [])
+    ∷ record { op = 10; contents = map attachment_index_content (extras_of_kind 9 n.extras) }
+    ∷ record { op = 13; contents = map metadata_index_content (extras_of_kind 12 n.extras) } ∷ [])
 
 -- the fields of the Summary Offset of a group that stands at that offset
 abbrev pub group_fields : Group → ℕ → SummaryOffsetFields
@@ -142,8 +142,8 @@ abbrev pub offset_contents : ℕ → List Group → List (List ℕ)
 offset_contents at [] = []
 offset_contents at (g ∷ gs) = summary_offset_text (group_fields g at) ∷ offset_contents (at + length (group_bytes g)) gs
 
-abbrev pub footer_fields : ℕ → ℕ → ℕ → FooterFields
-footer_fields summary offsets crc = record { summary_start = summary; summary_offset_start = offsets; summary_crc = crc }
+abbrev pub footer_of_offsets : ℕ → ℕ → ℕ → FooterFields
+footer_of_offsets summary offsets crc = record { summary_start = summary; summary_offset_start = offsets; summary_crc = crc }
 
 -- The summary at that offset, its Summary Offsets, the Footer and the magic. The Footer's CRC is that of all before it,
 -- and of the Footer's front with the two offsets.
@@ -152,5 +152,5 @@ summary_text n at =
     let groups = flat_map group_bytes (groups_of n) in
     let offsets = flat_map (framed 14) (offset_contents at (groups_of n)) in
     let behind = at + length groups in
-    let front = take 25 (framed 2 (footer_text (footer_fields at behind 0))) in
-    groups ++ (offsets ++ (framed 2 (footer_text (footer_fields at behind (remainder (groups ++ (offsets ++ front))))) ++ magic))
+    let front = take 25 (framed 2 (footer_text (footer_of_offsets at behind 0))) in
+    groups ++ (offsets ++ (framed 2 (footer_text (footer_of_offsets at behind (remainder (groups ++ (offsets ++ front))))) ++ magic))

@@ -88,8 +88,8 @@ abbrev pub inner_tops : Top → List Top
 inner_tops t = records_in (chunk_records t.content)
 
 -- a record of the top level, or the records inside it where it is a chunk
-abbrev pub opened : Top → List Top
-opened t = if is_chunk t then inner_tops t else t ∷ []
+abbrev pub unchunked : Top → List Top
+unchunked t = if is_chunk t then inner_tops t else t ∷ []
 
 -- a Schema, a Channel or a Message
 abbrev pub is_flat_kind : Top → Bool
@@ -97,7 +97,7 @@ is_flat_kind t = list_any (λ kind. kind == t.op) (3 ∷ 4 ∷ 5 ∷ [])
 
 -- the Schemas, Channels and Messages that a record is or holds
 abbrev pub flattened : Top → List Top
-flattened t = filter is_flat_kind (opened t)
+flattened t = filter is_flat_kind (unchunked t)
 
 -- those of a file, in the order in which a scan comes to them
 abbrev pub flat : List Top → List Top

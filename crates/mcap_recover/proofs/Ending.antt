@@ -37,7 +37,7 @@ use Rattle.mcap_scan.specs.Scanning.{HaltsSo, FaultStands, MemoryStands, Refusal
 use Rattle.record_walk.specs.declared.flat_reader.FlatReader.{FlatReader}
 use Rattle.chunk_writer.specs.declared.tape.Written.{Written}
 use Rattle.chunk_writer.specs.Stops.{numbers, StopsAt, StopCause}
-use Rattle.chunk_writer.specs.Scribes.{ScribeStands, phase_of, blocks_of, bytes_of, store_of}
+use Rattle.chunk_writer.specs.Scribes.{ScribeStands, phase_of, blocks_of, planned_bytes, store_of}
 use Rattle.chunk_writer.specs.declared.phase.Phase.TheVariants as phases
 use Rattle.chunk_writer.proofs.Writing.{holding}
 use Rattle.chunk_writer.proofs.Stopping.{put_lacks}
@@ -48,9 +48,9 @@ use Rattle.mcap_recover.specs.declared.answers.Why.{Why}
 use Rattle.mcap_recover.specs.declared.answers.Why.TheVariants as whys
 use Rattle.mcap_recover.specs.declared.answers.RecoverRefused.{RecoverRefused}
 use Rattle.mcap_recover.specs.declared.answers.RecoverRefused.TheVariants as refusals
-use Rattle.mcap_recover.specs.Keeping.{Keeps, counted}
-use Rattle.mcap_recover.specs.Readings.{HasMagic, lacks, GrammarTold, RefusalTold, HaltTold, OverSo, KeepsNone, Repairing, KeptOf, origin, IsOver, IsStopped, BeginsFile, Begun}
-use Rattle.mcap_recover.specs.Recovering.{recovered_options, TellsHalt, OfRead, OfBoth, OfRepaired, StandsPart, LacksMagic, FaultsStill, Finishes, Recovers}
+use Rattle.mcap_recover.specs.Keeping.{KeepingStandsFor, counted}
+use Rattle.mcap_recover.specs.Readings.{HasMagic, lacks, GrammarTold, RefusalTold, HaltTold, OverSo, KeepsNone, Repairing, KeptOf, origin, ReadingCameToEnd, IsStopped, BeginsFile, BeginsReading}
+use Rattle.mcap_recover.specs.Recovering.{recovered_options, TellsHalt, OfRead, OfBoth, OfRepaired, StandsPart, LacksMagic, FaultsStill, FinishesFile, Recovers}
 
 -- ---- the first ones of some records
 
@@ -148,19 +148,19 @@ stopped_recovers chunk before now opened stored stop written cause still magic_i
 pub is_stopped_recovers : {L : Type 0} (seen : L → LiveState) (chunk : ℕ) (profile : List ℕ) (before now : SourceState) (opened : LiveState) (k : Keeping L) (stop : Stop)
     → StopCause opened.faults (seen k.scribe.store).faults stop → IsStopped seen (recovered_options profile chunk) before now opened k stop → Recovers chunk before now opened (seen k.scribe.store) (Err (refusals.Stopped stop))
 is_stopped_recovers seen chunk profile before now opened k stop cause it =
-    stopped_recovers chunk before now opened (seen k.scribe.store) stop (numbers (blocks_of k.scribe) (bytes_of k.scribe)) cause it.still
+    stopped_recovers chunk before now opened (seen k.scribe.store) stop (numbers (blocks_of k.scribe) (planned_bytes k.scribe)) cause it.still
     (λ bytes told. let (rest, there) = it.read bytes told in (spelled it.tops ++ rest, there.split))
-    (of_longer chunk before it.tops it.extras profile it.history (λ options extras history. StopsAt options extras history opened.held (seen k.scribe.store).held stop (numbers (blocks_of k.scribe) (bytes_of k.scribe)))
+    (of_longer chunk before it.tops it.extras profile it.history (λ options extras history. StopsAt options extras history opened.held (seen k.scribe.store).held stop (numbers (blocks_of k.scribe) (planned_bytes k.scribe)))
     it.good (λ bytes told. inr (it.read bytes told)) (λ none. absurd (it.some none)) it.repairs
     (λ others behind. (it.keeps.writes.0.stopped stop it.stopped others behind).stops))
 
 -- ---- where the source failed, or memory lacked
 
-going_part : {L : Type 0} (seen : L → LiveState) (options : FileOptions) (extras : List Top) (opened : LiveState) (history : List Rec) (k : Keeping L) → phase_of k.scribe ≡ phases.Going → Keeps seen options extras opened history k
+going_part : {L : Type 0} (seen : L → LiveState) (options : FileOptions) (extras : List Top) (opened : LiveState) (history : List Rec) (k : Keeping L) → phase_of k.scribe ≡ phases.Going → KeepingStandsFor seen options extras opened history k
     → (others : List Top) (behind : List Rec) → StandsPart opened (seen k.scribe.store) options others (history ++ behind)
 going_part seen options extras opened history k going keeps others behind =
-    part_of_stop options others (history ++ behind) opened (seen k.scribe.store) stops.Memory (blocks_of k.scribe) (bytes_of k.scribe)
-    (put_lacks options others opened.held (seen k.scribe.store).held history (blocks_of k.scribe) (bytes_of k.scribe) behind (holding options opened.held (seen k.scribe.store).held history k.scribe.plan going keeps.writes.0))
+    part_of_stop options others (history ++ behind) opened (seen k.scribe.store) stops.Memory (blocks_of k.scribe) (planned_bytes k.scribe)
+    (put_lacks options others opened.held (seen k.scribe.store).held history (blocks_of k.scribe) (planned_bytes k.scribe) behind (holding options opened.held (seen k.scribe.store).held history k.scribe.plan going keeps.writes.0))
 
 place_of : Halt → ℕ
 place_of (at_end n) = n
@@ -193,7 +193,7 @@ nothing_of chunk before opened = of_none chunk before (StandsPart opened opened)
 pub nothing_recovers : (chunk : ℕ) (before now : SourceState) (opened : LiveState) → now.faults ≡ before.faults → Recovers chunk before now opened opened (Err lacks)
 nothing_recovers chunk before now opened still = (record { source = still; store = refl }, inl refl, nothing_of chunk before opened)
 
-pub begun_recovers : (chunk : ℕ) (before now : SourceState) (opened : LiveState) (flat : FlatReader) (refusal : RecoverRefused) → Begun before now flat (Err refusal) → Recovers chunk before now opened opened (Err refusal)
+pub begun_recovers : (chunk : ℕ) (before now : SourceState) (opened : LiveState) (flat : FlatReader) (refusal : RecoverRefused) → BeginsReading before now flat (Err refusal) → Recovers chunk before now opened opened (Err refusal)
 begun_recovers chunk before now opened flat refusals.NoMagic (rule, halts) = (
   λ bytes told has. no_front bytes [] (grammar 0 rule) rule (halts.halts bytes told).there refl has,
   record { source = halts.still; store = refl },
@@ -208,7 +208,7 @@ begun_recovers chunk before now opened flat (refusals.Stopped stop) begun = absu
 
 -- the reading failed behind records that were kept
 pub over_recovers : {L : Type 0} (seen : L → LiveState) (chunk : ℕ) (profile : List ℕ) (before now : SourceState) (opened : LiveState) (reader : Reader) (k : Keeping L) (over : Over) (refusal : RecoverRefused)
-    → IsOver seen (origin (recovered_options profile chunk) before opened) now reader k over → HaltTold reader over (Err refusal) → phase_of k.scribe ≡ phases.Going → (seen k.scribe.store).faults ≡ opened.faults
+    → ReadingCameToEnd seen (origin (recovered_options profile chunk) before opened) now reader k over → HaltTold reader over (Err refusal) → phase_of k.scribe ≡ phases.Going → (seen k.scribe.store).faults ≡ opened.faults
     → Recovers chunk before now opened (seen k.scribe.store) (Err refusal)
 over_recovers seen chunk profile before now opened reader k over refusal it told going still = by over it.over_so told
   where
@@ -373,7 +373,7 @@ of_exact chunk before tops extras profile history holds good keeps repairs it = 
 }
 
 pub finish_recovers : {L : Type 0} (seen : L → LiveState) (chunk : ℕ) (profile : List ℕ) (before now : SourceState) (opened stored : LiveState) (reader : Reader) (k : Keeping L) (over : Over) (at : ℕ) (why : Why) (result : Result Recovered RecoverRefused)
-    → IsOver seen (origin (recovered_options profile chunk) before opened) now reader k over → HaltTold reader over (Ok (at, why)) → (seen k.scribe.store).faults ≡ opened.faults → Finishes seen k stored at why result
+    → ReadingCameToEnd seen (origin (recovered_options profile chunk) before opened) now reader k over → HaltTold reader over (Ok (at, why)) → (seen k.scribe.store).faults ≡ opened.faults → FinishesFile seen k stored at why result
     → Recovers chunk before now opened stored result
 finish_recovers seen chunk profile before now opened stored reader k over at why (Ok r) it told still finishes =
     let was = it.kept in
@@ -414,7 +414,7 @@ finish_recovers seen chunk profile before now opened stored reader k over at why
 -- ---- the begin of the new file
 
 pub begin_repairing : {L : Type 0} (seen : L → LiveState) (chunk : ℕ) (profile : List ℕ) (before now : SourceState) (opened : LiveState) (flat : FlatReader) (k : Keeping L) → BeginsFile before now flat profile
-    → Keeps seen (recovered_options profile chunk) [] opened [] k → Repairing seen (recovered_options profile chunk) before now opened flat k
+    → KeepingStandsFor seen (recovered_options profile chunk) [] opened [] k → Repairing seen (recovered_options profile chunk) before now opened flat k
 begin_repairing seen chunk profile before now opened flat k begins keeps = record {
   tops = begins.tops;
   given = begins.given;

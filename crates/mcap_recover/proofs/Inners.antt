@@ -15,7 +15,7 @@ use Rattle.rec_data.proofs.OwnedReading.{rec_shown}
 use Rattle.rec_data.specs.Records.{ShowsMessage, ShowsSchema, ShowsChannel, schema_text, channel_text}
 use Rattle.mcap_io.specs.Outside.{LiveState}
 use Rattle.mcap_model.specs.declared.inner.Inner.{Inner}
-use Rattle.mcap_model.specs.Tops.{Top, top_bytes, spelled, records_in, inner_tops, chunk_records, is_chunk, is_flat_kind, flattened, opened}
+use Rattle.mcap_model.specs.Tops.{Top, top_bytes, spelled, records_in, inner_tops, chunk_records, is_chunk, is_flat_kind, flattened, unchunked}
 use Rattle.mcap_model.specs.Fields.{SchemaFields, ChannelFields, MessageFields, ChunkFields, IsChunk}
 use Rattle.mcap_model.specs.Rules.{V6, V10}
 use Rattle.mcap_model.specs.declared.ends.Stop.{Stop}
@@ -30,8 +30,8 @@ use Rattle.mcap_model.proofs.Walks.{WalkedSoFar, walked_all}
 use Rattle.chunk_build.specs.Chunker.{AreFramed}
 use Rattle.mcap_recover.specs.declared.keeping.Keeping.{Keeping}
 use Rattle.chunk_writer.specs.declared.phase.Phase.TheVariants as phases
-use Rattle.chunk_writer.specs.Scribes.{Grows, phase_of}
-use Rattle.mcap_recover.specs.Keeping.{is_declared, declared_with, counted, CountsSo, Takes, TakesRecord, Adds}
+use Rattle.chunk_writer.specs.Scribes.{ScribeGrows, phase_of}
+use Rattle.mcap_recover.specs.Keeping.{is_declared, declared_with, counted, CountsSo, AddsFlatRecords, AddsOneRecord, AddsRecords}
 use Rattle.mcap_recover.proofs.Keepings.{going_apart, schema_known, channel_known, message_known, adds_put, adds_left, takes_by, schema_counts, channel_counts, message_counts}
 
 pub message_framed : (bytes content : List ℕ) (channel : ℕ) (m : MessageFields) → bytes ≡ framed 5 content → ShowsMessage content channel m → AreFramed bytes (message_of channel m)
@@ -64,16 +64,16 @@ shown_no_channel content none (Message channel sequence log_time publish_time pa
 
 -- ---- messages
 
-pub message_put : {L : Type 0} (seen : L → LiveState) (old new : Keeping L) (bytes content : List ℕ) (channel : ℕ) (m : MessageFields) → ShowsMessage content channel m → phase_of old.scribe ≡ phases.Going → Grows seen old.scribe new.scribe (message_of channel m ∷ [])
+pub message_put : {L : Type 0} (seen : L → LiveState) (old new : Keeping L) (bytes content : List ℕ) (channel : ℕ) (m : MessageFields) → ShowsMessage content channel m → phase_of old.scribe ≡ phases.Going → ScribeGrows seen old.scribe new.scribe (message_of channel m ∷ [])
     → (phase_of new.scribe ≡ phases.Going → (new.schemas.keys ≡ old.schemas.keys) × (new.channels.keys ≡ old.channels.keys) × (new.messages ≡ counted (old.messages + 1)) × (new.extras ≡ old.extras) × (new.records ≡ counted (old.records + 1)))
-    → Takes seen old new (top 5 content ∷ [])
+    → AddsFlatRecords seen old new (top 5 content ∷ [])
 message_put seen old new bytes content channel m shown going grows same =
     takes_by seen old new (top 5 content) (message_of channel m) (refl, shown)
     (adds_put seen old new (message_of channel m) going (λ extras history c. message_known channel m history) grows
     (λ after extras history c. let (a, b, d, e, f) = same after in message_counts extras history channel m old new c a b d e f))
 
 pub message_lacks : {L : Type 0} (seen : L → LiveState) (old new : Keeping L) (content : List ℕ) (stop : Stop) → phase_of old.scribe ≡ phases.Going → phase_of new.scribe ≡ phases.Stopped stop
-    → ((r : Rec) → Grows seen old.scribe new.scribe (r ∷ [])) → Takes seen old new (top 5 content ∷ [])
+    → ((r : Rec) → ScribeGrows seen old.scribe new.scribe (r ∷ [])) → AddsFlatRecords seen old new (top 5 content ∷ [])
 message_lacks seen old new content stop going stopped grows [] zip = absurd zip
 message_lacks seen old new content stop going stopped grows (Schema id schema ∷ rs) zip = absurd (omega (arith, zip.0.0))
 message_lacks seen old new content stop going stopped grows (Channel id schema topic encoding metadata ∷ rs) zip = absurd (omega (arith, zip.0.0))
@@ -89,9 +89,9 @@ schema_fresh : {L : Type 0} (old : Keeping L) (id : ℕ) (f : SchemaFields) (b :
 schema_fresh old id f b is extras history c = schema_known id f history ∙ ap (λ (ids : List ℕ). is_declared ids id) (sym c.schema_ids) ∙ is
 
 pub schema_put : {L : Type 0} (seen : L → LiveState) (old new : Keeping L) (content : List ℕ) (id : ℕ) (f : SchemaFields) → ShowsSchema content id f → phase_of old.scribe ≡ phases.Going → is_declared old.schemas.keys id ≡ false
-    → Grows seen old.scribe new.scribe (schema_of id f ∷ [])
+    → ScribeGrows seen old.scribe new.scribe (schema_of id f ∷ [])
     → (phase_of new.scribe ≡ phases.Going → (new.schemas.keys ≡ declared_with old.schemas.keys id) × (new.channels.keys ≡ old.channels.keys) × (new.messages ≡ old.messages) × (new.extras ≡ old.extras) × (new.records ≡ counted (old.records + 1)))
-    → Takes seen old new (top 3 content ∷ [])
+    → AddsFlatRecords seen old new (top 3 content ∷ [])
 schema_put seen old new content id f shown going fresh grows same =
     takes_by seen old new (top 3 content) (schema_of id f) (refl, shown)
     (adds_put seen old new (schema_of id f) going (schema_fresh old id f false fresh) grows
@@ -99,7 +99,7 @@ schema_put seen old new content id f shown going fresh grows same =
 
 pub schema_left : {L : Type 0} (seen : L → LiveState) (old new : Keeping L) (content : List ℕ) (id : ℕ) (f : SchemaFields) → ShowsSchema content id f → phase_of old.scribe ≡ phases.Going → is_declared old.schemas.keys id ≡ true
     → new.scribe ≡ old.scribe → new.schemas.keys ≡ declared_with old.schemas.keys id → new.channels.keys ≡ old.channels.keys → new.messages ≡ old.messages → new.extras ≡ old.extras → new.records ≡ old.records
-    → Takes seen old new (top 3 content ∷ [])
+    → AddsFlatRecords seen old new (top 3 content ∷ [])
 schema_left seen old new content id f shown going known same schemas channels messages others records =
     takes_by seen old new (top 3 content) (schema_of id f) (refl, shown)
     (adds_left seen old new (schema_of id f) going (schema_fresh old id f true known) same
@@ -117,9 +117,9 @@ channel_fresh : {L : Type 0} (old : Keeping L) (id : ℕ) (f : ChannelFields) (b
 channel_fresh old id f b is extras history c = channel_known id f history ∙ ap (λ (ids : List ℕ). is_declared ids id) (sym c.channel_ids) ∙ is
 
 pub channel_put : {L : Type 0} (seen : L → LiveState) (old new : Keeping L) (content : List ℕ) (id : ℕ) (f : ChannelFields) → ShowsChannel content id f → phase_of old.scribe ≡ phases.Going → is_declared old.channels.keys id ≡ false
-    → Grows seen old.scribe new.scribe (channel_of id f ∷ [])
+    → ScribeGrows seen old.scribe new.scribe (channel_of id f ∷ [])
     → (phase_of new.scribe ≡ phases.Going → (new.channels.keys ≡ declared_with old.channels.keys id) × (new.schemas.keys ≡ old.schemas.keys) × (new.messages ≡ old.messages) × (new.extras ≡ old.extras) × (new.records ≡ counted (old.records + 1)))
-    → Takes seen old new (top 4 content ∷ [])
+    → AddsFlatRecords seen old new (top 4 content ∷ [])
 channel_put seen old new content id f shown going fresh grows same =
     takes_by seen old new (top 4 content) (channel_of id f) (refl, shown)
     (adds_put seen old new (channel_of id f) going (channel_fresh old id f false fresh) grows
@@ -127,7 +127,7 @@ channel_put seen old new content id f shown going fresh grows same =
 
 pub channel_left : {L : Type 0} (seen : L → LiveState) (old new : Keeping L) (content : List ℕ) (id : ℕ) (f : ChannelFields) → ShowsChannel content id f → phase_of old.scribe ≡ phases.Going → is_declared old.channels.keys id ≡ true
     → new.scribe ≡ old.scribe → new.channels.keys ≡ declared_with old.channels.keys id → new.schemas.keys ≡ old.schemas.keys → new.messages ≡ old.messages → new.extras ≡ old.extras → new.records ≡ old.records
-    → Takes seen old new (top 4 content ∷ [])
+    → AddsFlatRecords seen old new (top 4 content ∷ [])
 channel_left seen old new content id f shown going known same channels schemas messages others records =
     takes_by seen old new (top 4 content) (channel_of id f) (refl, shown)
     (adds_left seen old new (channel_of id f) going (channel_fresh old id f true known) same
@@ -144,33 +144,33 @@ channel_left seen old new content id f shown going known same channels schemas m
 pub extra_of : (op : ℕ) (content : List ℕ) → V6 (top op content) → V10 (top op content) → (op ≡ 9) ⊎ (op ≡ 12) → IsExtra (top op content)
 extra_of op content v6 v10 kind = record { kind = kind; v6 = v6; v10 = v10 }
 
-pub one_taken : {L : Type 0} (seen : L → LiveState) (old new : Keeping L) (op : ℕ) (content : List ℕ) → ((op ≡ 3) ⊎ ((op ≡ 4) ⊎ (op ≡ 5))) → Takes seen old new (top op content ∷ []) → TakesRecord seen old new (top op content)
-one_taken seen old new op content (inl is) takes = subst (λ (n : ℕ). Takes seen old new (top n content ∷ []) → TakesRecord seen old new (top n content)) (sym is) (λ it. it) takes
-one_taken seen old new op content (inr (inl is)) takes = subst (λ (n : ℕ). Takes seen old new (top n content ∷ []) → TakesRecord seen old new (top n content)) (sym is) (λ it. it) takes
-one_taken seen old new op content (inr (inr is)) takes = subst (λ (n : ℕ). Takes seen old new (top n content ∷ []) → TakesRecord seen old new (top n content)) (sym is) (λ it. it) takes
+pub one_taken : {L : Type 0} (seen : L → LiveState) (old new : Keeping L) (op : ℕ) (content : List ℕ) → ((op ≡ 3) ⊎ ((op ≡ 4) ⊎ (op ≡ 5))) → AddsFlatRecords seen old new (top op content ∷ []) → AddsOneRecord seen old new (top op content)
+one_taken seen old new op content (inl is) takes = subst (λ (n : ℕ). AddsFlatRecords seen old new (top n content ∷ []) → AddsOneRecord seen old new (top n content)) (sym is) (λ it. it) takes
+one_taken seen old new op content (inr (inl is)) takes = subst (λ (n : ℕ). AddsFlatRecords seen old new (top n content ∷ []) → AddsOneRecord seen old new (top n content)) (sym is) (λ it. it) takes
+one_taken seen old new op content (inr (inr is)) takes = subst (λ (n : ℕ). AddsFlatRecords seen old new (top n content ∷ []) → AddsOneRecord seen old new (top n content)) (sym is) (λ it. it) takes
 
-pub one_taken_at : {L : Type 0} (seen : L → LiveState) (old new : Keeping L) (op n : ℕ) (content : List ℕ) → ((op ≡ 3) ⊎ ((op ≡ 4) ⊎ (op ≡ 5))) → op ≡ n → Takes seen old new (top n content ∷ []) → TakesRecord seen old new (top op content)
-one_taken_at seen old new op n content kind is takes = one_taken seen old new op content kind (subst (λ (k : ℕ). Takes seen old new (top k content ∷ [])) (sym is) takes)
+pub one_taken_at : {L : Type 0} (seen : L → LiveState) (old new : Keeping L) (op n : ℕ) (content : List ℕ) → ((op ≡ 3) ⊎ ((op ≡ 4) ⊎ (op ≡ 5))) → op ≡ n → AddsFlatRecords seen old new (top n content ∷ []) → AddsOneRecord seen old new (top op content)
+one_taken_at seen old new op n content kind is takes = one_taken seen old new op content kind (subst (λ (k : ℕ). AddsFlatRecords seen old new (top k content ∷ [])) (sym is) takes)
 
 none_left : (records : List Rec) → AllZip IsRec [] records → records ≡ []
 none_left [] zip = refl
 none_left (r ∷ rs) zip = absurd zip
 
-pub extra_taken : {L : Type 0} (seen : L → LiveState) (old new : Keeping L) (op : ℕ) (content : List ℕ) → ((op ≡ 9) ⊎ (op ≡ 12)) → Adds seen old new (top op content ∷ []) [] → TakesRecord seen old new (top op content)
+pub extra_taken : {L : Type 0} (seen : L → LiveState) (old new : Keeping L) (op : ℕ) (content : List ℕ) → ((op ≡ 9) ⊎ (op ≡ 12)) → AddsRecords seen old new (top op content ∷ []) [] → AddsOneRecord seen old new (top op content)
 extra_taken seen old new op content (inl is) adds =
-    subst (λ (n : ℕ). Adds seen old new (top n content ∷ []) [] → TakesRecord seen old new (top n content)) (sym is) (λ it records zip. subst (λ (l : List Rec). Adds seen old new (top 9 content ∷ []) l) (sym (none_left records zip)) it) adds
+    subst (λ (n : ℕ). AddsRecords seen old new (top n content ∷ []) [] → AddsOneRecord seen old new (top n content)) (sym is) (λ it records zip. subst (λ (l : List Rec). AddsRecords seen old new (top 9 content ∷ []) l) (sym (none_left records zip)) it) adds
 extra_taken seen old new op content (inr is) adds =
-    subst (λ (n : ℕ). Adds seen old new (top n content ∷ []) [] → TakesRecord seen old new (top n content)) (sym is) (λ it records zip. subst (λ (l : List Rec). Adds seen old new (top 12 content ∷ []) l) (sym (none_left records zip)) it) adds
+    subst (λ (n : ℕ). AddsRecords seen old new (top n content ∷ []) [] → AddsOneRecord seen old new (top n content)) (sym is) (λ it records zip. subst (λ (l : List Rec). AddsRecords seen old new (top 12 content ∷ []) l) (sym (none_left records zip)) it) adds
 
 -- no other kind shows or is anything that is kept
 pub other_taken : {L : Type 0} (seen : L → LiveState) (old : Keeping L) (op : ℕ) (content : List ℕ) → (op ≡ 3 → ⊥) → (op ≡ 4 → ⊥) → (op ≡ 5 → ⊥) → (op ≡ 9 → ⊥) → (op ≡ 12 → ⊥)
-    → Adds seen old old [] [] → TakesRecord seen old old (top op content)
+    → AddsRecords seen old old [] [] → AddsOneRecord seen old old (top op content)
 other_taken seen old op content no3 no4 no5 no9 no12 none records zip =
     let t = top op content in
     let empty : filter is_flat_kind (t ∷ []) ≡ [] = ap (λ (b : Bool). if b then t ∷ [] else []) (flat_not op content no3 no4 no5) in
     let silent : filter is_extra (t ∷ []) ≡ [] = ap (λ (b : Bool). if b then t ∷ [] else []) (extra_not op content no9 no12) in
-    subst (λ (l : List Top). Adds seen old old l records) (sym silent)
-    (subst (λ (l : List Rec). Adds seen old old [] l) (sym (none_left records (subst (λ (l : List Top). AllZip IsRec l records) empty zip))) none)
+    subst (λ (l : List Top). AddsRecords seen old old l records) (sym silent)
+    (subst (λ (l : List Rec). AddsRecords seen old old [] l) (sym (none_left records (subst (λ (l : List Top). AllZip IsRec l records) empty zip))) none)
   where
     flat_not : (n : ℕ) (c : List ℕ) → (n ≡ 3 → ⊥) → (n ≡ 4 → ⊥) → (n ≡ 5 → ⊥) → is_flat_kind (top n c) ≡ false
     flat_not n c a b d = let x = ne_eqb 3 n (λ e. a (sym e)) in let y = ne_eqb 4 n (λ e. b (sym e)) in let z = ne_eqb 5 n (λ e. d (sym e)) in cc

@@ -17,10 +17,10 @@ use Rattle.mcap_model.specs.Written.{IsRec}
 use Rattle.mcap_model.proofs.Repairs.{kept_new, kept_old, fold_more, fold_grows, zip_parts}
 use Rattle.chunk_writer.specs.declared.phase.Phase.{Phase}
 use Rattle.chunk_writer.specs.declared.phase.Phase.TheVariants as phases
-use Rattle.chunk_writer.specs.Scribes.{Writes, Grows, Gathers, phase_of}
+use Rattle.chunk_writer.specs.Scribes.{WritesHistory, ScribeGrows, GathersExtra, phase_of}
 use Rattle.chunk_writer.proofs.Taking.{stopped_on}
 use Rattle.mcap_recover.specs.declared.keeping.Keeping.{Keeping}
-use Rattle.mcap_recover.specs.Keeping.{is_declared, declared_with, id_of, counted, CountsSo, Keeps, Adds, Takes}
+use Rattle.mcap_recover.specs.Keeping.{is_declared, declared_with, record_id, counted, CountsSo, KeepingStandsFor, AddsRecords, AddsFlatRecords}
 
 pub going_apart : (p : Phase) (stop : Stop) → p ≡ phases.Stopped stop → p ≡ phases.Going → ⊥
 going_apart p stop stopped going = cc
@@ -41,13 +41,13 @@ so false is = absurd (let same : false ≡ true = is in cc)
 
 -- ---- what was declared before
 
-pub schema_known : (id : ℕ) (f : SchemaFields) (history : List Rec) → list_any (declare_same (schema_of id f)) history ≡ is_declared (map id_of (filter is_schema history)) id
+pub schema_known : (id : ℕ) (f : SchemaFields) (history : List Rec) → list_any (declare_same (schema_of id f)) history ≡ is_declared (map record_id (filter is_schema history)) id
 schema_known id f [] = refl
 schema_known id f (Schema other s ∷ rs) = ap (λ (b : Bool). eqb id other || b) (schema_known id f rs)
 schema_known id f (Channel other s topic encoding metadata ∷ rs) = schema_known id f rs
 schema_known id f (Message channel sequence log_time publish_time payload ∷ rs) = schema_known id f rs
 
-pub channel_known : (id : ℕ) (f : ChannelFields) (history : List Rec) → list_any (declare_same (channel_of id f)) history ≡ is_declared (map id_of (filter is_channel history)) id
+pub channel_known : (id : ℕ) (f : ChannelFields) (history : List Rec) → list_any (declare_same (channel_of id f)) history ≡ is_declared (map record_id (filter is_channel history)) id
 channel_known id f [] = refl
 channel_known id f (Schema other s ∷ rs) = channel_known id f rs
 channel_known id f (Channel other s topic encoding metadata ∷ rs) = ap (λ (b : Bool). eqb id other || b) (channel_known id f rs)
@@ -64,12 +64,12 @@ message_known channel m (Message other sequence log_time publish_time payload �
 -- a new record was put
 pub adds_put : {L : Type 0} (seen : L → LiveState) (old new : Keeping L) (r : Rec) → phase_of old.scribe ≡ phases.Going
     → ((extras : List Top) (history : List Rec) → CountsSo extras history old → list_any (declare_same r) history ≡ false)
-    → Grows seen old.scribe new.scribe (r ∷ []) → (phase_of new.scribe ≡ phases.Going → (extras : List Top) (history : List Rec) → CountsSo extras history old → CountsSo extras (history ++ r ∷ []) new)
-    → Adds seen old new [] (r ∷ [])
+    → ScribeGrows seen old.scribe new.scribe (r ∷ []) → (phase_of new.scribe ≡ phases.Going → (extras : List Top) (history : List Rec) → CountsSo extras history old → CountsSo extras (history ++ r ∷ []) new)
+    → AddsRecords seen old new [] (r ∷ [])
 adds_put seen old new r going fresh grows counts options extras opened history keeps =
     let c = keeps.counts going in
-    subst (λ (l : List Rec). Keeps seen options (extras ++ []) opened l new) (sym (kept_new history r (fresh extras history c)))
-    (subst (λ (l : List Top). Keeps seen options l opened (history ++ r ∷ []) new) (sym (append-nil extras)) (record {
+    subst (λ (l : List Rec). KeepingStandsFor seen options (extras ++ []) opened l new) (sym (kept_new history r (fresh extras history c)))
+    (subst (λ (l : List Top). KeepingStandsFor seen options l opened (history ++ r ∷ []) new) (sym (append-nil extras)) (record {
       writes = grows options extras opened history keeps.writes;
       counts = λ after. counts after extras history c;
     }))
@@ -77,60 +77,60 @@ adds_put seen old new r going fresh grows counts options extras opened history k
 -- a record was left out, whose id was declared before
 pub adds_left : {L : Type 0} (seen : L → LiveState) (old new : Keeping L) (r : Rec) → phase_of old.scribe ≡ phases.Going
     → ((extras : List Top) (history : List Rec) → CountsSo extras history old → list_any (declare_same r) history ≡ true)
-    → new.scribe ≡ old.scribe → ((extras : List Top) (history : List Rec) → CountsSo extras history old → CountsSo extras history new) → Adds seen old new [] (r ∷ [])
+    → new.scribe ≡ old.scribe → ((extras : List Top) (history : List Rec) → CountsSo extras history old → CountsSo extras history new) → AddsRecords seen old new [] (r ∷ [])
 adds_left seen old new r going known same counts options extras opened history keeps =
     let c = keeps.counts going in
-    subst (λ (l : List Rec). Keeps seen options (extras ++ []) opened l new) (sym (kept_old history r (known extras history c)))
-    (subst (λ (l : List Top). Keeps seen options l opened history new) (sym (append-nil extras)) (record {
-      writes = subst (λ s. Writes seen options extras opened history s) (sym same) keeps.writes;
+    subst (λ (l : List Rec). KeepingStandsFor seen options (extras ++ []) opened l new) (sym (kept_old history r (known extras history c)))
+    (subst (λ (l : List Top). KeepingStandsFor seen options l opened history new) (sym (append-nil extras)) (record {
+      writes = subst (λ s. WritesHistory seen options extras opened history s) (sym same) keeps.writes;
       counts = λ after. counts extras history c;
     }))
 
-pub adds_none : {L : Type 0} (seen : L → LiveState) (old : Keeping L) → Adds seen old old [] []
-adds_none seen old options extras opened history keeps = subst (λ (l : List Top). Keeps seen options l opened history old) (sym (append-nil extras)) keeps
+pub adds_none : {L : Type 0} (seen : L → LiveState) (old : Keeping L) → AddsRecords seen old old [] []
+adds_none seen old options extras opened history keeps = subst (λ (l : List Top). KeepingStandsFor seen options l opened history old) (sym (append-nil extras)) keeps
 
 -- what a record of a file shows is one
-pub takes_by : {L : Type 0} (seen : L → LiveState) (old new : Keeping L) (t : Top) (r : Rec) → IsRec t r → Adds seen old new [] (r ∷ []) → Takes seen old new (t ∷ [])
+pub takes_by : {L : Type 0} (seen : L → LiveState) (old new : Keeping L) (t : Top) (r : Rec) → IsRec t r → AddsRecords seen old new [] (r ∷ []) → AddsFlatRecords seen old new (t ∷ [])
 takes_by seen old new t r is adds [] zip = absurd zip
-takes_by seen old new t r is adds (s ∷ []) zip = subst (λ (x : Rec). Adds seen old new [] (x ∷ [])) (shown_once t.op t.content r s is zip.0) adds
+takes_by seen old new t r is adds (s ∷ []) zip = subst (λ (x : Rec). AddsRecords seen old new [] (x ∷ [])) (shown_once t.op t.content r s is zip.0) adds
 takes_by seen old new t r is adds (s ∷ u ∷ us) zip = absurd zip.1
 
-pub takes_absurd : {L : Type 0} (seen : L → LiveState) (old new : Keeping L) (t : Top) → ((r : Rec) → IsRec t r → ⊥) → Takes seen old new (t ∷ [])
+pub takes_absurd : {L : Type 0} (seen : L → LiveState) (old new : Keeping L) (t : Top) → ((r : Rec) → IsRec t r → ⊥) → AddsFlatRecords seen old new (t ∷ [])
 takes_absurd seen old new t none [] zip = absurd zip
 takes_absurd seen old new t none (s ∷ ss) zip = absurd (none s zip.0)
 
-pub takes_none : {L : Type 0} (seen : L → LiveState) (old : Keeping L) → Takes seen old old []
+pub takes_none : {L : Type 0} (seen : L → LiveState) (old : Keeping L) → AddsFlatRecords seen old old []
 takes_none seen old [] zip = adds_none seen old
 takes_none seen old (s ∷ ss) zip = absurd zip
 
 -- ---- several records
 
-pub adds_on : {L : Type 0} (seen : L → LiveState) (old mid new : Keeping L) (one two : List Top) (rs ss : List Rec) → Adds seen old mid one rs → Adds seen mid new two ss → Adds seen old new (one ++ two) (rs ++ ss)
+pub adds_on : {L : Type 0} (seen : L → LiveState) (old mid new : Keeping L) (one two : List Top) (rs ss : List Rec) → AddsRecords seen old mid one rs → AddsRecords seen mid new two ss → AddsRecords seen old new (one ++ two) (rs ++ ss)
 adds_on seen old mid new one two rs ss first second options extras opened history keeps =
-    subst (λ (l : List Rec). Keeps seen options (extras ++ (one ++ two)) opened l new) (sym (fold_more history rs ss))
-    (subst (λ (l : List Top). Keeps seen options l opened (fold kept_with (fold kept_with history rs) ss) new) (append_assoc extras one two)
+    subst (λ (l : List Rec). KeepingStandsFor seen options (extras ++ (one ++ two)) opened l new) (sym (fold_more history rs ss))
+    (subst (λ (l : List Top). KeepingStandsFor seen options l opened (fold kept_with (fold kept_with history rs) ss) new) (append_assoc extras one two)
     (second options (extras ++ one) opened (fold kept_with history rs) (first options extras opened history keeps)))
 
-pub takes_on : {L : Type 0} (seen : L → LiveState) (old mid new : Keeping L) (us vs : List Top) → Takes seen old mid us → Takes seen mid new vs → Takes seen old new (us ++ vs)
+pub takes_on : {L : Type 0} (seen : L → LiveState) (old mid new : Keeping L) (us vs : List Top) → AddsFlatRecords seen old mid us → AddsFlatRecords seen mid new vs → AddsFlatRecords seen old new (us ++ vs)
 takes_on seen old mid new us vs first second records zip =
     let (rs, ss, is, one, two) = zip_parts IsRec us vs records zip in
-    subst (λ (l : List Rec). Adds seen old new [] l) (sym is) (adds_on seen old mid new [] [] rs ss (first rs one) (second ss two))
+    subst (λ (l : List Rec). AddsRecords seen old new [] l) (sym is) (adds_on seen old mid new [] [] rs ss (first rs one) (second ss two))
 
 -- one that stopped stands for whatever more
 pub stopped_more : {L : Type 0} (seen : L → LiveState) (options : FileOptions) (extras : List Top) (opened : LiveState) (history ss : List Rec) (k : Keeping L) (stop : Stop) → phase_of k.scribe ≡ phases.Stopped stop
-    → Keeps seen options extras opened history k → Keeps seen options extras opened (fold kept_with history ss) k
+    → KeepingStandsFor seen options extras opened history k → KeepingStandsFor seen options extras opened (fold kept_with history ss) k
 stopped_more seen options extras opened history ss k stop stopped keeps =
     let (more, is) = fold_grows history ss in
-    subst (λ (l : List Rec). Keeps seen options extras opened l k) is (record {
+    subst (λ (l : List Rec). KeepingStandsFor seen options extras opened l k) is (record {
       writes = (stopped_on options opened.held (seen k.scribe.store).held history more k.scribe.plan stop stopped keeps.writes.0, keeps.writes.1, keeps.writes.2);
       counts = λ going. absurd (going_apart (phase_of k.scribe) stop stopped going);
     })
 
-pub takes_stopped : {L : Type 0} (seen : L → LiveState) (old new : Keeping L) (us vs : List Top) (stop : Stop) → phase_of new.scribe ≡ phases.Stopped stop → Takes seen old new us → Takes seen old new (us ++ vs)
+pub takes_stopped : {L : Type 0} (seen : L → LiveState) (old new : Keeping L) (us vs : List Top) (stop : Stop) → phase_of new.scribe ≡ phases.Stopped stop → AddsFlatRecords seen old new us → AddsFlatRecords seen old new (us ++ vs)
 takes_stopped seen old new us vs stop stopped first records zip =
     let (rs, ss, is, one, two) = zip_parts IsRec us vs records zip in
-    subst (λ (l : List Rec). Adds seen old new [] l) (sym is) (λ options extras opened history keeps.
-    subst (λ (l : List Rec). Keeps seen options (extras ++ []) opened l new) (sym (fold_more history rs ss))
+    subst (λ (l : List Rec). AddsRecords seen old new [] l) (sym is) (λ options extras opened history keeps.
+    subst (λ (l : List Rec). KeepingStandsFor seen options (extras ++ []) opened l new) (sym (fold_more history rs ss))
     (stopped_more seen options (extras ++ []) opened (fold kept_with history rs) ss new stop stopped (first rs one options extras opened history keeps)))
 
 -- ---- the counts with a record more
@@ -156,9 +156,9 @@ pub schema_counts : {L : Type 0} (extras : List Top) (history : List Rec) (id : 
 schema_counts extras history id f old new c fresh schemas channels messages others records =
     let r = schema_of id f in
     record {
-      schema_ids = ids_on (map id_of (filter is_schema history)) old.schemas.keys new.schemas.keys id c.schema_ids fresh schemas
-          ∙ sym (map-append id_of (filter is_schema history) (r ∷ [])) ∙ ap (map id_of) (sym (more_of is_schema history r refl));
-      channel_ids = channels ∙ c.channel_ids ∙ ap (map id_of) (sym (same_of is_channel history r refl));
+      schema_ids = ids_on (map record_id (filter is_schema history)) old.schemas.keys new.schemas.keys id c.schema_ids fresh schemas
+          ∙ sym (map-append record_id (filter is_schema history) (r ∷ [])) ∙ ap (map record_id) (sym (more_of is_schema history r refl));
+      channel_ids = channels ∙ c.channel_ids ∙ ap (map record_id) (sym (same_of is_channel history r refl));
       messages = messages ∙ c.messages ∙ ap (λ (l : List Rec). counted (length l)) (sym (same_of is_message history r refl));
       records = count_on (length history) old.records new.records c.records records ∙ ap counted (sym (longer history r));
       extras_are = others ∙ c.extras_are;
@@ -170,9 +170,9 @@ pub channel_counts : {L : Type 0} (extras : List Top) (history : List Rec) (id :
 channel_counts extras history id f old new c fresh channels schemas messages others records =
     let r = channel_of id f in
     record {
-      schema_ids = schemas ∙ c.schema_ids ∙ ap (map id_of) (sym (same_of is_schema history r refl));
-      channel_ids = ids_on (map id_of (filter is_channel history)) old.channels.keys new.channels.keys id c.channel_ids fresh channels
-          ∙ sym (map-append id_of (filter is_channel history) (r ∷ [])) ∙ ap (map id_of) (sym (more_of is_channel history r refl));
+      schema_ids = schemas ∙ c.schema_ids ∙ ap (map record_id) (sym (same_of is_schema history r refl));
+      channel_ids = ids_on (map record_id (filter is_channel history)) old.channels.keys new.channels.keys id c.channel_ids fresh channels
+          ∙ sym (map-append record_id (filter is_channel history) (r ∷ [])) ∙ ap (map record_id) (sym (more_of is_channel history r refl));
       messages = messages ∙ c.messages ∙ ap (λ (l : List Rec). counted (length l)) (sym (same_of is_message history r refl));
       records = count_on (length history) old.records new.records c.records records ∙ ap counted (sym (longer history r));
       extras_are = others ∙ c.extras_are;
@@ -185,17 +185,17 @@ message_counts extras history channel m old new c schemas channels messages othe
     let r = message_of channel m in
     let more = ap (λ (l : List Rec). length l) (more_of is_message history r refl) ∙ longer (filter is_message history) r in
     record {
-      schema_ids = schemas ∙ c.schema_ids ∙ ap (map id_of) (sym (same_of is_schema history r refl));
-      channel_ids = channels ∙ c.channel_ids ∙ ap (map id_of) (sym (same_of is_channel history r refl));
+      schema_ids = schemas ∙ c.schema_ids ∙ ap (map record_id) (sym (same_of is_schema history r refl));
+      channel_ids = channels ∙ c.channel_ids ∙ ap (map record_id) (sym (same_of is_channel history r refl));
       messages = count_on (length (filter is_message history)) old.messages new.messages c.messages messages ∙ ap counted (sym more);
       records = count_on (length history) old.records new.records c.records records ∙ ap counted (sym (longer history r));
       extras_are = others ∙ c.extras_are;
     }
 
 -- an extra more
-pub extra_adds : {L : Type 0} (seen : L → LiveState) (old new : Keeping L) (t : Top) → phase_of old.scribe ≡ phases.Going → Gathers seen old.scribe new.scribe t
+pub extra_adds : {L : Type 0} (seen : L → LiveState) (old new : Keeping L) (t : Top) → phase_of old.scribe ≡ phases.Going → GathersExtra seen old.scribe new.scribe t
     → (phase_of new.scribe ≡ phases.Going → (new.schemas.keys ≡ old.schemas.keys) × (new.channels.keys ≡ old.channels.keys) × (new.messages ≡ old.messages) × (new.records ≡ old.records) × (new.extras ≡ counted (old.extras + 1)))
-    → Adds seen old new (t ∷ []) []
+    → AddsRecords seen old new (t ∷ []) []
 extra_adds seen old new t going gathers same options extras opened history keeps = record {
   writes = gathers options extras opened history keeps.writes;
   counts = λ after.

@@ -37,9 +37,9 @@ use Rattle.mcap_scan.proofs.Scanning.{good_stand, lacks_behind}
 use Rattle.chunk_writer.specs.Scribes.{phase_of}
 use Rattle.chunk_writer.specs.declared.phase.Phase.TheVariants as phases
 use Rattle.mcap_recover.specs.declared.keeping.Keeping.{Keeping}
-use Rattle.mcap_recover.specs.Keeping.{Keeps, TakesRecord, IsFrame, tops_at}
+use Rattle.mcap_recover.specs.Keeping.{KeepingStandsFor, AddsOneRecord, IsFrame, tops_at}
 use Rattle.mcap_recover.specs.declared.recovering.Over.TheVariants as overs
-use Rattle.mcap_recover.specs.Readings.{lacks, FirstShows, RepairsGiven, Repairing, KeptOf, origin, IsOver as ReadingIsOver, IsStopped, OverSo, BeginsFile, UnbegunSo, Begun, StartsSo, StartsUntold, HaltsStart, KeepsNone, HasMagic}
+use Rattle.mcap_recover.specs.Readings.{lacks, FirstShows, RepairsGiven, Repairing, KeptOf, origin, ReadingCameToEnd as ReadingIsOver, IsStopped, OverSo, BeginsFile, UnbegunSo, BeginsReading, StartsSo, StartsUntold, HaltsStart, KeepsNone, HasMagic}
 use Rattle.mcap_recover.proofs.Given.{flat_given, extras_walked, repairs_whole, profile_given, given_none, tops_some, recs_ahead, recs_one, repairs_more, not_none}
 use Rattle.mcap_recover.proofs.Keepings.{stopped_more}
 use Rattle.record_walk.specs.declared.flat_reader.FlatReader.{FlatReader}
@@ -108,7 +108,7 @@ frame_held flat op content (Some bytes) same held each = each bytes.now held ∙
 
 -- one record more was read, and kept
 pub repairing_on : {L : Type 0} (seen : L → LiveState) (options : FileOptions) (before mid now : SourceState) (opened : LiveState) (flat next : FlatReader) (k after : Keeping L) (op : ℕ) (place : Place)
-    → (was : Repairing seen options before mid opened flat k) → (IsFlatDone flat → ⊥) → FlatGives next before now was.tops was.given op place → TakesRecord seen k after (top op (flat_content next)) → Repairing seen options before now opened next after
+    → (was : Repairing seen options before mid opened flat k) → (IsFlatDone flat → ⊥) → FlatGives next before now was.tops was.given op place → AddsOneRecord seen k after (top op (flat_content next)) → Repairing seen options before now opened next after
 repairing_on seen options before mid now opened flat next k after op place was undone gives takes =
     let t = top op (flat_content next) in
     let p = placed_at place op (flat_content next) in
@@ -136,7 +136,7 @@ ended_some (t ∷ ts) ended none = cc
 
 -- it was read, and the writer stopped at what it shows: it stands for the records of the chunk too that weren't given
 pub stopped_on_it : {L : Type 0} (seen : L → LiveState) (options : FileOptions) (before mid now : SourceState) (opened : LiveState) (flat next : FlatReader) (k after : Keeping L) (op : ℕ) (place : Place) (stop : Stop)
-    → (was : Repairing seen options before mid opened flat k) → (IsFlatDone flat → ⊥) → FlatGives next before now was.tops was.given op place → TakesRecord seen k after (top op (flat_content next)) → phase_of after.scribe ≡ phases.Stopped stop
+    → (was : Repairing seen options before mid opened flat k) → (IsFlatDone flat → ⊥) → FlatGives next before now was.tops was.given op place → AddsOneRecord seen k after (top op (flat_content next)) → phase_of after.scribe ≡ phases.Stopped stop
     → IsStopped seen options before now opened after stop
 unfolding repairing_on
 stopped_on_it seen options before mid now opened flat next k after op place stop was undone gives takes stopped =
@@ -263,7 +263,7 @@ one_begins bytes t ts rest stands = inr (
 )
 
 pub begun_header : (flat : FlatReader) (before now : SourceState) (op : ℕ) (place : Place) (profile : List ℕ) → FlatGives flat before now [] [] op place → ((f : HeaderFields) → ShowsHeader (flat_content flat) f → profile ≡ f.profile)
-    → Begun before now flat (Ok profile)
+    → BeginsReading before now flat (Ok profile)
 begun_header flat before now op place profile gives reads =
     let p = placed_at place op (flat_content flat) in
     let t = p.top in
@@ -305,7 +305,7 @@ magic_by bytes halt (no_magic none) other = absurd (other refl)
 magic_by bytes halt (at_data_end rest stands ended) other = (rest, stands.split)
 magic_by bytes halt (behind_kept rest stands unended it there) other = (rest, stands.split)
 
-pub begun_refused : (flat : FlatReader) (before now : SourceState) (why : ReadingRefused) (result : Result (List ℕ) RecoverRefused) → FlatStands flat before now [] [] → IsFlatDone flat → RefusalStands why before now [] → StartsSo why result → Begun before now flat result
+pub begun_refused : (flat : FlatReader) (before now : SourceState) (why : ReadingRefused) (result : Result (List ℕ) RecoverRefused) → FlatStands flat before now [] [] → IsFlatDone flat → RefusalStands why before now [] → StartsSo why result → BeginsReading before now flat result
 begun_refused flat before now why (Ok profile) was done stands (none, halts) = record {
   tops = [];
   given = [];
@@ -361,7 +361,7 @@ begun_refused flat before now why (Err (refusals.Refused told)) was done stands 
     untold scans.Memory scans.Memory it others = it.still
 begun_refused flat before now why (Err (refusals.Stopped stop)) was done stands is = absurd is
 
-pub begun_lacks : (flat : FlatReader) (before now : SourceState) (op : ℕ) (place : Place) → FlatGives flat before now [] [] op place → Begun before now flat (Err lacks)
+pub begun_lacks : (flat : FlatReader) (before now : SourceState) (op : ℕ) (place : Place) → FlatGives flat before now [] [] op place → BeginsReading before now flat (Err lacks)
 begun_lacks flat before now op place gives = let stands = gives.stands in (lacks_behind flat.reader before now gives.tops gives.going stands.stands).still
 
 -- of a reader that keeps a refusal nothing is due
@@ -372,7 +372,7 @@ refused_done flat before now tops given why stage was = (subst IsOver (sym stage
     by [] going = refl
     by (p ∷ ps) going = absurd (subst IsGoing stage (going (λ none. let size : length (p ∷ ps) ≡ 0 = ap length none in omega (arith, size))))
 
-pub refused_begun : (flat : FlatReader) (before now : SourceState) (why : ReadingRefused) (result : Result (List ℕ) RecoverRefused) → FlatRefuses flat before now [] [] → flat.reader.stage ≡ stages.Stopped why → StartsSo why result → Begun before now flat result
+pub refused_begun : (flat : FlatReader) (before now : SourceState) (why : ReadingRefused) (result : Result (List ℕ) RecoverRefused) → FlatRefuses flat before now [] [] → flat.reader.stage ≡ stages.Stopped why → StartsSo why result → BeginsReading before now flat result
 refused_begun flat before now why result refuses stage starts =
     let it = refuses.refuses in
     let none = refuses.same in

@@ -11,7 +11,7 @@ use Rattle.mcap_model.specs.History.{is_schema, is_channel, is_message, kept_wit
 use Rattle.mcap_model.specs.Written.{IsRec}
 use Rattle.mcap_model.specs.Repaired.{is_extra}
 use Rattle.chunk_writer.specs.declared.phase.Phase.TheVariants as phases
-use Rattle.chunk_writer.specs.Scribes.{Writes, phase_of}
+use Rattle.chunk_writer.specs.Scribes.{WritesHistory, phase_of}
 use Rattle.mcap_recover.specs.declared.keeping.Keeping.{Keeping}
 use denote.Ref.{Bor}
 
@@ -25,10 +25,10 @@ abbrev pub declared_with : List ℕ → ℕ → List ℕ
 declared_with ids id = if is_declared ids id then ids else ids ++ id ∷ []
 
 -- the id that a record declares, or that it is on
-abbrev pub id_of : Rec → ℕ
-id_of (Schema id schema) = id
-id_of (Channel id schema topic encoding metadata) = id
-id_of (Message channel sequence log_time publish_time payload) = channel
+abbrev pub record_id : Rec → ℕ
+record_id (Schema id schema) = id
+record_id (Channel id schema topic encoding metadata) = id
+record_id (Message channel sequence log_time publish_time payload) = channel
 
 -- ---- what was kept so far
 
@@ -38,29 +38,29 @@ counted n = min n (2 ^ 64 - 1)
 
 -- the ids and the counts are those of these extras and this history
 pub record CountsSo {L : Type 0} (extras : List Top) (history : List Rec) (k : Keeping L) : Type 0 where
-  pub schema_ids : k.schemas.keys ≡ map id_of (filter is_schema history)
-  pub channel_ids : k.channels.keys ≡ map id_of (filter is_channel history)
+  pub schema_ids : k.schemas.keys ≡ map record_id (filter is_schema history)
+  pub channel_ids : k.channels.keys ≡ map record_id (filter is_channel history)
   pub messages : k.messages ≡ counted (length (filter is_message history))
   pub records : k.records ≡ counted (length history)
   pub extras_are : k.extras ≡ counted (length extras)
 
 -- The scribe stands for these extras and this history; while it goes on, so do the ids and the counts.
-pub record Keeps {L : Type 0} (seen : L → LiveState) (options : FileOptions) (extras : List Top) (opened : LiveState) (history : List Rec) (k : Keeping L) : Type 0 where
-  pub writes : Writes seen options extras opened history k.scribe
+pub record KeepingStandsFor {L : Type 0} (seen : L → LiveState) (options : FileOptions) (extras : List Top) (opened : LiveState) (history : List Rec) (k : Keeping L) : Type 0 where
+  pub writes : WritesHistory seen options extras opened history k.scribe
   pub counts : phase_of k.scribe ≡ phases.Going → CountsSo extras history k
 
 -- the second one stands for these extras and these records more, but for what declares an id again
-abbrev pub Adds : {L : Type 0} → (L → LiveState) → Keeping L → Keeping L → List Top → List Rec → Type 0
-Adds seen before after more records = (options : FileOptions) (extras : List Top) (opened : LiveState) (history : List Rec) → Keeps seen options extras opened history before
-    → Keeps seen options (extras ++ more) opened (fold kept_with history records) after
+abbrev pub AddsRecords : {L : Type 0} → (L → LiveState) → Keeping L → Keeping L → List Top → List Rec → Type 0
+AddsRecords seen before after more records = (options : FileOptions) (extras : List Top) (opened : LiveState) (history : List Rec) → KeepingStandsFor seen options extras opened history before
+    → KeepingStandsFor seen options (extras ++ more) opened (fold kept_with history records) after
 
 -- the same of what these records of a file show
-abbrev pub Takes : {L : Type 0} → (L → LiveState) → Keeping L → Keeping L → List Top → Type 0
-Takes seen before after flat = (records : List Rec) → AllZip IsRec flat records → Adds seen before after [] records
+abbrev pub AddsFlatRecords : {L : Type 0} → (L → LiveState) → Keeping L → Keeping L → List Top → Type 0
+AddsFlatRecords seen before after flat = (records : List Rec) → AllZip IsRec flat records → AddsRecords seen before after [] records
 
 -- the same of what one record shows or is, of the top level or inside a chunk
-abbrev pub TakesRecord : {L : Type 0} → (L → LiveState) → Keeping L → Keeping L → Top → Type 0
-TakesRecord seen before after t = (records : List Rec) → AllZip IsRec (filter is_flat_kind (t ∷ [])) records → Adds seen before after (filter is_extra (t ∷ [])) records
+abbrev pub AddsOneRecord : {L : Type 0} → (L → LiveState) → Keeping L → Keeping L → Top → Type 0
+AddsOneRecord seen before after t = (records : List Rec) → AllZip IsRec (filter is_flat_kind (t ∷ [])) records → AddsRecords seen before after (filter is_extra (t ∷ [])) records
 
 -- ---- records that are given
 

@@ -28,7 +28,7 @@ use Rattle.mcap_recover.specs.declared.answers.Why.{Why}
 use Rattle.mcap_recover.specs.declared.answers.Why.TheVariants as whys
 use Rattle.mcap_recover.specs.declared.answers.RecoverRefused.{RecoverRefused}
 use Rattle.mcap_recover.specs.declared.answers.RecoverRefused.TheVariants as refusals
-use Rattle.mcap_recover.specs.Keeping.{Keeps, tops_at}
+use Rattle.mcap_recover.specs.Keeping.{KeepingStandsFor, tops_at}
 
 -- the answer where memory lacked beside the writer's own
 abbrev pub lacks : RecoverRefused
@@ -88,7 +88,7 @@ pub record Repairing {L : Type 0} (seen : L → LiveState) (options : FileOption
   pub extras : List Top
   pub history : List Rec
   pub repairs : RepairsGiven given options.profile extras history
-  pub keeps : Keeps seen options extras opened history k
+  pub keeps : KeepingStandsFor seen options extras opened history k
 
 -- these good records were read, and what repairing makes of them was kept
 pub record KeptOf {L : Type 0} (seen : L → LiveState) (options : FileOptions) (before : SourceState) (opened : LiveState) (k : Keeping L) : Type 0 where
@@ -100,7 +100,7 @@ pub record KeptOf {L : Type 0} (seen : L → LiveState) (options : FileOptions) 
   pub extras : List Top
   pub history : List Rec
   pub repairs : Repairs tops options.profile extras history
-  pub keeps : Keeps seen options extras opened history k
+  pub keeps : KeepingStandsFor seen options extras opened history k
 
 -- how the new file is written, and the states of the source and of the store before
 pub record Origin : Type 0 where
@@ -112,7 +112,7 @@ abbrev pub origin : FileOptions → SourceState → LiveState → Origin
 origin options before opened = record { options = options; before = before; opened = opened }
 
 -- the reading came to its end
-pub record IsOver {L : Type 0} (seen : L → LiveState) (from : Origin) (now : SourceState) (reader : Reader) (k : Keeping L) (over : Over) : Type 0 where
+pub record ReadingCameToEnd {L : Type 0} (seen : L → LiveState) (from : Origin) (now : SourceState) (reader : Reader) (k : Keeping L) (over : Over) : Type 0 where
   pub kept : KeptOf seen from.options from.before from.opened k
   pub over_so : OverSo reader from.before now kept.tops over
 
@@ -127,11 +127,11 @@ pub record IsStopped {L : Type 0} (seen : L → LiveState) (options : FileOption
   pub history : List Rec
   pub repairs : Repairs tops options.profile extras history
   pub earlier : List Top
-  pub keeps : Keeps seen options earlier opened history k
+  pub keeps : KeepingStandsFor seen options earlier opened history k
   pub stopped : phase_of k.scribe ≡ phases.Stopped stop
 
 abbrev pub ReadsOn : {L : Type 0} → (L → LiveState) → Origin → SourceState → FlatReader → Keeping L → Result Over Stop → Type 0
-ReadsOn seen from now flat k (Ok over) = IsOver seen from now flat.reader k over
+ReadsOn seen from now flat k (Ok over) = ReadingCameToEnd seen from now flat.reader k over
 ReadsOn seen from now flat k (Err stop) = IsStopped seen from.options from.before now from.opened k stop
 
 -- ---- the first record
@@ -190,8 +190,8 @@ UnbegunSo before now (scans.Limit offset) = ⊥
 UnbegunSo before now scans.Memory = now.faults ≡ before.faults
 
 -- That; or the source doesn't begin with the magic.
-abbrev pub Begun : SourceState → SourceState → FlatReader → Result (List ℕ) RecoverRefused → Type 0
-Begun before now flat (Ok profile) = BeginsFile before now flat profile
-Begun before now flat (Err refusals.NoMagic) = (rule : ℕ) × HaltsSo before now [] (grammar 0 rule)
-Begun before now flat (Err (refusals.Refused why)) = UnbegunSo before now why
-Begun before now flat (Err (refusals.Stopped stop)) = ⊥
+abbrev pub BeginsReading : SourceState → SourceState → FlatReader → Result (List ℕ) RecoverRefused → Type 0
+BeginsReading before now flat (Ok profile) = BeginsFile before now flat profile
+BeginsReading before now flat (Err refusals.NoMagic) = (rule : ℕ) × HaltsSo before now [] (grammar 0 rule)
+BeginsReading before now flat (Err (refusals.Refused why)) = UnbegunSo before now why
+BeginsReading before now flat (Err (refusals.Stopped stop)) = ⊥

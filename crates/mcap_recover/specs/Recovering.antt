@@ -17,7 +17,7 @@ use Rattle.mcap_scan.specs.Scanning.{HaltsSo}
 use Rattle.chunk_writer.specs.Limits.{Holds}
 use Rattle.chunk_writer.specs.declared.tape.Written.{Written}
 use Rattle.chunk_writer.specs.Stops.{StopsAt, StopCause}
-use Rattle.mcap_recover.specs.Keeping.{counted, Keeps}
+use Rattle.mcap_recover.specs.Keeping.{counted, KeepingStandsFor}
 use Rattle.mcap_recover.specs.Readings.{HasMagic}
 use Rattle.mcap_recover.specs.declared.keeping.Keeping.{Keeping}
 use Rattle.mcap_recover.specs.declared.answers.Why.{Why}
@@ -81,8 +81,8 @@ Finished last new opened stored at why (Err (refusals.Refused told)) = ⊥
 Finished last new opened stored at why (Err (refusals.Stopped stop)) = (written : Written) × StopsAt new.options new.extras new.history opened.held stored.held stop written × StopCause last.faults stored.faults stop
 
 -- The new file was ended behind extras and a history for which the writer stands, and this is answered; or the writer stopped.
-abbrev pub Finishes : {L : Type 0} → (L → LiveState) → Keeping L → LiveState → ℕ → Why → Result Recovered RecoverRefused → Type 0
-Finishes seen k stored at why result = (options : FileOptions) (extras : List Top) (opened : LiveState) (history : List Rec) → Keeps seen options extras opened history k
+abbrev pub FinishesFile : {L : Type 0} → (L → LiveState) → Keeping L → LiveState → ℕ → Why → Result Recovered RecoverRefused → Type 0
+FinishesFile seen k stored at why result = (options : FileOptions) (extras : List Top) (opened : LiveState) (history : List Rec) → KeepingStandsFor seen options extras opened history k
     → Finished (seen k.scribe.store) (repair options extras history) opened stored at why result
 
 -- of each file that repairing makes of the source's bytes: this holds of its options, extras and history

@@ -11,8 +11,8 @@ ghost use Rattle.mcap_model.specs.Rules.{V6, V10};
 ghost use Rattle.chunk_build.specs.Chunker.{AreFramed};
 ghost use Rattle.chunk_writer.specs.declared.phase.Phase.TheVariants as phases;
 ghost use Rattle.chunk_writer.specs.Stops.{Cause};
-ghost use Rattle.chunk_writer.specs.Scribes.{Grows, Gathers, store_of, phase_of};
-ghost use Rattle.mcap_recover.specs.Keeping.{Takes, TakesRecord, IsFrame, counted};
+ghost use Rattle.chunk_writer.specs.Scribes.{ScribeGrows, GathersExtra, store_of, phase_of};
+ghost use Rattle.mcap_recover.specs.Keeping.{AddsFlatRecords, AddsOneRecord, IsFrame, counted};
 
 use crate::ids::declare;
 use chunk_writer::Scribe;
@@ -39,7 +39,7 @@ pub(crate) struct Keeping<L> {
 fn put<L: LiveStore>(k: &mut Keeping<L>, framed: &[u8]) -> Result<(), Stop>
     requires going { phase_of k.old.scribe ≡ phases.Going }
     requires framed { (r : Rec) × AreFramed framed.now r }
-    ensures grows { (r : Rec) → AreFramed framed.now r → Grows L.state k.old.scribe k.new.scribe (r ∷ []) }
+    ensures grows { (r : Rec) → AreFramed framed.now r → ScribeGrows L.state k.old.scribe k.new.scribe (r ∷ []) }
     ensures counts { phase_of k.new.scribe ≡ phases.Going → k.new.records ≡ counted (k.old.records + 1) }
     ensures same { (k.new.schemas ≡ k.old.schemas) × (k.new.channels ≡ k.old.channels) × (k.new.messages ≡ k.old.messages) × (k.new.extras ≡ k.old.extras) }
     ensures goes_on { OnOk result (phase_of k.new.scribe ≡ phases.Going) }
@@ -58,7 +58,7 @@ fn put<L: LiveStore>(k: &mut Keeping<L>, framed: &[u8]) -> Result<(), Stop>
 fn keep_message<L: LiveStore>(k: &mut Keeping<L>, bytes: &[u8], content: &[u8]) -> Result<(), Stop>
     requires going { phase_of k.old.scribe ≡ phases.Going }
     requires is { bytes.now ≡ framed 5 content.now }
-    ensures takes { Takes L.state k.old k.new (top 5 content.now ∷ []) }
+    ensures takes { AddsFlatRecords L.state k.old k.new (top 5 content.now ∷ []) }
     ensures goes_on { OnOk result (phase_of k.new.scribe ≡ phases.Going) }
     ensures stopped { IfErr result (λ stop. phase_of k.new.scribe ≡ phases.Stopped stop) }
     ensures cause { Cause (L.state (store_of k.old.scribe)).faults (L.state (store_of k.new.scribe)).faults result }
@@ -82,7 +82,7 @@ fn keep_lone_message<L: LiveStore>(
     content: &[u8],
 ) -> Result<(), Stop>
     requires going { phase_of k.old.scribe ≡ phases.Going }
-    ensures takes { Takes L.state k.old k.new (top 5 content.now ∷ []) }
+    ensures takes { AddsFlatRecords L.state k.old k.new (top 5 content.now ∷ []) }
     ensures goes_on { OnOk result (phase_of k.new.scribe ≡ phases.Going) }
     ensures stopped { IfErr result (λ stop. phase_of k.new.scribe ≡ phases.Stopped stop) }
     ensures cause { Cause (L.state (store_of k.old.scribe)).faults (L.state (store_of k.new.scribe)).faults result }
@@ -100,7 +100,7 @@ fn keep_lone_message<L: LiveStore>(
 // Keeps the Schema of that content, if it is the first of its id. Bytes behind its fields are dropped.
 fn keep_schema<L: LiveStore>(alloc: Global, k: &mut Keeping<L>, content: &[u8]) -> Result<(), Stop>
     requires going { phase_of k.old.scribe ≡ phases.Going }
-    ensures takes { Takes L.state k.old k.new (top 3 content.now ∷ []) }
+    ensures takes { AddsFlatRecords L.state k.old k.new (top 3 content.now ∷ []) }
     ensures goes_on { OnOk result (phase_of k.new.scribe ≡ phases.Going) }
     ensures stopped { IfErr result (λ stop. phase_of k.new.scribe ≡ phases.Stopped stop) }
     ensures cause { Cause (L.state (store_of k.old.scribe)).faults (L.state (store_of k.new.scribe)).faults result }
@@ -125,7 +125,7 @@ fn keep_schema<L: LiveStore>(alloc: Global, k: &mut Keeping<L>, content: &[u8]) 
 // Does the same with a Channel. The order of its metadata stays.
 fn keep_channel<L: LiveStore>(alloc: Global, k: &mut Keeping<L>, content: &[u8]) -> Result<(), Stop>
     requires going { phase_of k.old.scribe ≡ phases.Going }
-    ensures takes { Takes L.state k.old k.new (top 4 content.now ∷ []) }
+    ensures takes { AddsFlatRecords L.state k.old k.new (top 4 content.now ∷ []) }
     ensures goes_on { OnOk result (phase_of k.new.scribe ≡ phases.Going) }
     ensures stopped { IfErr result (λ stop. phase_of k.new.scribe ≡ phases.Stopped stop) }
     ensures cause { Cause (L.state (store_of k.old.scribe)).faults (L.state (store_of k.new.scribe)).faults result }
@@ -151,7 +151,7 @@ fn keep_channel<L: LiveStore>(alloc: Global, k: &mut Keeping<L>, content: &[u8])
 fn keep_extra<L: LiveStore>(k: &mut Keeping<L>, op: u8, content: &[u8]) -> Result<(), Stop>
     requires going { phase_of k.old.scribe ≡ phases.Going }
     requires meets { IsExtra (top op content.now) }
-    ensures gathers { Gathers L.state k.old.scribe k.new.scribe (top op content.now) }
+    ensures gathers { GathersExtra L.state k.old.scribe k.new.scribe (top op content.now) }
     ensures counts { phase_of k.new.scribe ≡ phases.Going → k.new.extras ≡ counted (k.old.extras + 1) }
     ensures same { (k.new.schemas ≡ k.old.schemas) × (k.new.channels ≡ k.old.channels) × (k.new.messages ≡ k.old.messages) × (k.new.records ≡ k.old.records) }
     ensures goes_on { OnOk result (phase_of k.new.scribe ≡ phases.Going) }
@@ -178,7 +178,7 @@ pub(crate) fn keep_record<L: LiveStore>(
     requires v6 { V6 (top op content.now) }
     requires v10 { V10 (top op content.now) }
     requires framed { IsFrame op content.now frame }
-    ensures takes { TakesRecord L.state k.old k.new (top op content.now) }
+    ensures takes { AddsOneRecord L.state k.old k.new (top op content.now) }
     ensures goes_on { OnOk result (phase_of k.new.scribe ≡ phases.Going) }
     ensures stopped { IfErr result (λ stop. phase_of k.new.scribe ≡ phases.Stopped stop) }
     ensures cause { Cause (L.state (store_of k.old.scribe)).faults (L.state (store_of k.new.scribe)).faults result }

@@ -9,9 +9,9 @@ ghost use Rattle.chunk_writer.specs.declared.phase.Phase.TheVariants as phases;
 ghost use Rattle.chunk_writer.specs.Stops.{Cause};
 ghost use Rattle.chunk_writer.specs.Scribes.{store_of, phase_of};
 ghost use Rattle.mcap_recover.specs.Recovering.{Recovers};
-ghost use Rattle.mcap_recover.specs.Readings.{lacks, Begun, StartsSo, GrammarTold, HaltTold, Repairing, origin, ReadsOn};
+ghost use Rattle.mcap_recover.specs.Readings.{lacks, BeginsReading, StartsSo, GrammarTold, HaltTold, Repairing, origin, ReadsOn};
 ghost use Rattle.mcap_recover.specs.Keeping.{CountsSo};
-ghost use Rattle.mcap_recover.specs.Recovering.{Finishes};
+ghost use Rattle.mcap_recover.specs.Recovering.{FinishesFile};
 ghost use Rattle.mcap_model.specs.declared.options.FileOptions.{FileOptions as Options};
 
 use crate::answers::{RecoverRefused, Recovered, Why};
@@ -117,7 +117,7 @@ fn profile_in(alloc: Global, content: &[u8]) -> Result<Text, Memory>
 
 // The profile of the new file: that of the Header, or an empty one; or why there is no new file.
 fn profile_of(alloc: Global, reader: &FlatReader, first: FlatStep) -> Result<Text, RecoverRefused>
-    ensures { (before now : SourceState) → FlatAdvanced reader.now before now [] [] first → Begun before now reader.now result }
+    ensures { (before now : SourceState) → FlatAdvanced reader.now before now [] [] first → BeginsReading before now reader.now result }
 {
     match first {
         FlatStep::Record { .. } => match profile_in(alloc, reader.content()) {
@@ -168,7 +168,7 @@ fn no_profile(alloc: Global) -> Result<Text, RecoverRefused>
 // Ends the new file, and says what was recovered.
 fn finish<L: LiveStore>(k: Keeping<L>, at: u64, why: Why) -> (L, Result<Recovered, RecoverRefused>)
     requires going { phase_of k.scribe ≡ phases.Going }
-    ensures ends { Finishes L.state k (L.state result.0) at why result.1 }
+    ensures ends { FinishesFile L.state k (L.state result.0) at why result.1 }
 {
     let mut k = k;
     let finished = k.scribe.finish();

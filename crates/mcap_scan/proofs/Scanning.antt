@@ -22,13 +22,13 @@ use Rattle.mcap_model.specs.declared.tops.Judged.{Judged}
 use Rattle.mcap_model.specs.declared.tops.Judged.TheVariants as judged
 use Rattle.mcap_model.specs.Made.{top}
 use Rattle.mcap_model.specs.Declarations.{TablesOf}
-use Rattle.mcap_model.specs.Judging.{IsPlain, KeepsRules, MayWantMemory, JudgedAs}
+use Rattle.mcap_model.specs.Judging.{NamesNoCompression, KeepsRules, MayWantMemory, JudgedAs}
 use Rattle.mcap_model.proofs.Judging.{fits_may_want}
 use Rattle.mcap_model.proofs.TakenRecords.{ended_more, spelled_more, halted, unended_more}
 use Rattle.mcap_model.proofs.Unpacking.{left_behind}
 use Rattle.mcap_model.proofs.Prefixes.{next_stands}
-use Rattle.mcap_scan.specs.Sources.{ReadTo, unread_behind, IsCutOff}
-use Rattle.mcap_scan.specs.Taking.{RefusalCause, MagicRefused, RecordRefused, TakesRecord, IsTakable}
+use Rattle.mcap_scan.specs.Sources.{ReadFromFront, unread_behind, IsCutOff}
+use Rattle.mcap_scan.specs.Taking.{RefusalCause, MagicRefused, RecordRefused, TakesFrontRecord, IsTakable}
 use Rattle.mcap_scan.proofs.Taking.{unread_broken}
 use Rattle.mcap_scan.specs.Scanning.{content_of, IsUnfinished, IsEnded, HaltsSo, MemoryStands, RefusalStands, IsFresh, StageStands, Stands, Advanced, RefusedAt, Given, IsGoing, Moves}
 
@@ -170,7 +170,7 @@ magic_taken tables offset before now now_new tops was same taken = record {
 
 -- ---- a record that was taken
 
-read_more : (before now now_new : SourceState) (tops : List Top) (op : ℕ) (content : List ℕ) → ReadTo before now tops → ((rest : List ℕ) → now.left ≡ Some rest → TakesRecord rest now_new.left op content) → ReadTo before now_new (tops ++ top op content ∷ [])
+read_more : (before now now_new : SourceState) (tops : List Top) (op : ℕ) (content : List ℕ) → ReadFromFront before now tops → ((rest : List ℕ) → now.left ≡ Some rest → TakesFrontRecord rest now_new.left op content) → ReadFromFront before now_new (tops ++ top op content ∷ [])
 read_more before now now_new tops op content read taken bytes known =
     let r = read bytes known in
     let t = taken r.0 r.1 in
@@ -202,7 +202,7 @@ not_empty : (tops : List Top) (t : Top) → tops ++ t ∷ [] ≡ [] → ⊥
 not_empty tops t e = let size : length (tops ++ t ∷ []) ≡ 0 = ap length e in omega (arith, size, length-append tops (t ∷ []))
 
 -- the record at the front of what was left
-front_begun : (rest : List ℕ) (left : Option (List ℕ)) (at op : ℕ) (content : List ℕ) → TakesRecord rest left op content → is_beyond reading_limits at (length content) ≡ false → Begun rest (top op content)
+front_begun : (rest : List ℕ) (left : Option (List ℕ)) (at op : ℕ) (content : List ℕ) → TakesFrontRecord rest left op content → is_beyond reading_limits at (length content) ≡ false → Begun rest (top op content)
 front_begun rest left at op content taken within =
     let near = near_there at (length content) within in
     begun rest (top op content) taken.after taken.split (omega (arith, near.short))
@@ -213,7 +213,7 @@ front_due tops rest at op content place front takable = record {
   within = subst (λ (n : ℕ). is_beyond reading_limits n (declared_length rest) ≡ false) place (ap (is_beyond reading_limits at) front.len_is ∙ takable.within);
 }
 
-broken_there : (tops : List Top) (rest : List ℕ) (at op : ℕ) (content : List ℕ) (rule : ℕ) → at ≡ offset_behind tops → Begun rest (top op content) → IsTakable at op (length content) → ((tops ≡ [] → ⊥) → IsPlain (top op content)) → Breaks tops (top op content) rule → HaltsThere reading_limits tops rest (grammar at rule)
+broken_there : (tops : List Top) (rest : List ℕ) (at op : ℕ) (content : List ℕ) (rule : ℕ) → at ≡ offset_behind tops → Begun rest (top op content) → IsTakable at op (length content) → ((tops ≡ [] → ⊥) → NamesNoCompression (top op content)) → Breaks tops (top op content) rule → HaltsThere reading_limits tops rest (grammar at rule)
 broken_there tops rest at op content rule place front takable plain breaks =
     subst (λ (n : ℕ). HaltsThere reading_limits tops rest (grammar n rule)) (sym place)
     (broken_rule rule (front_due tops rest at op content place front takable) front.whole
@@ -225,13 +225,13 @@ compressed_there tops rest at op content name place front takable some names =
     subst (λ (n : ℕ). HaltsThere reading_limits tops rest (compressed n name)) (sym place)
     (packed_chunk name (front_due tops rest at op content place front takable) front.whole (some, subst (λ (x : Top). NamesCompression x name) (sym front.first) names))
 
-taken_whole : (rest : List ℕ) (left : Option (List ℕ)) (op : ℕ) (content : List ℕ) (taken : TakesRecord rest left op content) → Begun rest (top op content) → left ≡ Some (behind_first rest)
+taken_whole : (rest : List ℕ) (left : Option (List ℕ)) (op : ℕ) (content : List ℕ) (taken : TakesFrontRecord rest left op content) → Begun rest (top op content) → left ≡ Some (behind_first rest)
 taken_whole rest left op content taken front = taken.left_after ∙ ap Some (sym (left_behind rest (top op content) taken.after taken.split front))
 
 -- ---- one step
 
 stage_of : (tops : List Top) (op : ℕ) (content : List ℕ) (tables new : Tables) (offset offset_new : ℕ) (before now now_new : SourceState) (b : Bool) → eqb op 15 ≡ b
-    → IsUnfinished tables offset before now tops → now_new.faults ≡ now.faults → ((rest : List ℕ) → now.left ≡ Some rest → TakesRecord rest now_new.left op content) → IsTakable offset op (length content)
+    → IsUnfinished tables offset before now tops → now_new.faults ≡ now.faults → ((rest : List ℕ) → now.left ≡ Some rest → TakesFrontRecord rest now_new.left op content) → IsTakable offset op (length content)
     → KeepsRules tops (top op content) → TablesOf (flat (tops ++ top op content ∷ [])) new → offset_new ≡ offset_behind (tops ++ top op content ∷ [])
     → StageStands (if b then stages.Ended else stages.Inside) new offset_new before now_new (tops ++ top op content ∷ [])
 stage_of tops op content tables new offset offset_new before now now_new true is was same taken takable keeps are place = record {
@@ -302,7 +302,7 @@ going_on false = tt
 
 -- a record that was read and refused for want of memory
 lacks_there : (tables : Tables) (offset : ℕ) (before now now_new : SourceState) (tops : List Top) (op : ℕ) (content : List ℕ)
-    → IsUnfinished tables offset before now tops → now_new.faults ≡ now.faults → ((rest : List ℕ) → now.left ≡ Some rest → TakesRecord rest now_new.left op content) → IsTakable offset op (length content)
+    → IsUnfinished tables offset before now tops → now_new.faults ≡ now.faults → ((rest : List ℕ) → now.left ≡ Some rest → TakesFrontRecord rest now_new.left op content) → IsTakable offset op (length content)
     → MayWantMemory tops (top op content) ⊎ ((name : List ℕ) × IsPacked tops (top op content) name) → MemoryStands before now_new tops
 lacks_there tables offset before now now_new tops op content was same taken takable free = record {
   still = same ∙ was.still;
@@ -327,7 +327,7 @@ refused_given reader before now tops at len op refused why step is given stands 
     refused_step reader before now tops why step there.0 there.1 stands
 
 pub stepped : (reader : Reader) (tables : Tables) (offset : ℕ) (before now now_new : SourceState) (tops : List Top) (op : ℕ) (content : List ℕ) (how : Judged) (refused : Option ReadingRefused) (step : Step)
-    → IsUnfinished tables offset before now tops → now_new.faults ≡ now.faults → ((rest : List ℕ) → now.left ≡ Some rest → TakesRecord rest now_new.left op content) → IsTakable offset op (length content)
+    → IsUnfinished tables offset before now tops → now_new.faults ≡ now.faults → ((rest : List ℕ) → now.left ≡ Some rest → TakesFrontRecord rest now_new.left op content) → IsTakable offset op (length content)
     → JudgedAs tops (top op content) reader.tables how → RefusedAt offset how refused → Given offset (length content) reader.offset reader.stage op refused step → content_of reader ≡ content → Advanced reader before now_new tops step
 stepped reader tables offset before now now_new tops op content judged.Fits refused step was same taken takable (keeps, are) none given room =
     let there = subst (λ (r : Option ReadingRefused). Given offset (length content) reader.offset reader.stage op r step) none given in
@@ -392,7 +392,7 @@ begun_again tops t after good =
     let near = near_there (offset_behind tops) (length t.content) fits.within in
     begun (top_bytes t ++ after) t after refl (omega (arith, near.short))
 
-lacks_back : (before now : SourceState) (tops : List Top) (t : Top) → now.faults ≡ before.faults → Good reading_limits (tops ++ t ∷ []) → ReadTo before now (tops ++ t ∷ []) → RefusalStands refusals.Memory before now tops
+lacks_back : (before now : SourceState) (tops : List Top) (t : Top) → now.faults ≡ before.faults → Good reading_limits (tops ++ t ∷ []) → ReadFromFront before now (tops ++ t ∷ []) → RefusalStands refusals.Memory before now tops
 lacks_back before now tops t still good read = record {
   still = still;
   good = good_from_the_front reading_limits tops (t ∷ []) good;

@@ -15,7 +15,7 @@ use Rattle.mcap_model.specs.Rules.{V1}
 use Rattle.mcap_model.specs.Kept.{reading_limits, is_beyond, HasOpcode, grammar, beyond, HaltsThere, short_head, zero_opcode, past_limit, cut_short}
 use Rattle.mcap_model.specs.declared.refusals.ReadingRefused.{ReadingRefused}
 use Rattle.mcap_scan.specs.Sources.{unread_behind}
-use Rattle.mcap_scan.specs.Taking.{DueAny, Failure, RefusalCause, MagicRefused, TakesHead, HaltsAny, RecordRefused, TakesRecord}
+use Rattle.mcap_scan.specs.Taking.{DueAny, Failure, RefusalCause, MagicRefused, TakesHead, HaltsAny, RecordRefused, TakesFrontRecord}
 
 -- ---- what halts any reading that comes to an offset
 
@@ -207,7 +207,7 @@ content_refused rest at old new op len got faults reads.Memory end head within t
 
 -- ---- a whole record
 
-pub record_taken : (rest content : List ℕ) (left left_after : Option (List ℕ)) (op len : ℕ) (head : TakesHead rest left op len) → content ≡ take len head.after → left_after ≡ Some (drop len head.after) → len ≤ length content → length content ≤ len → TakesRecord rest left_after op content
+pub record_taken : (rest content : List ℕ) (left left_after : Option (List ℕ)) (op len : ℕ) (head : TakesHead rest left op len) → content ≡ take len head.after → left_after ≡ Some (drop len head.after) → len ≤ length content → length content ≤ len → TakesFrontRecord rest left_after op content
 record_taken rest content left left_after op len head is left_is enough few =
     let size : length content ≡ len = omega arith in
     let parts : head.after ≡ content ++ drop len head.after = sym (take-append-drop len head.after) ∙ ap (λ (l : List ℕ). l ++ drop len head.after) (sym is) in

@@ -10,7 +10,7 @@ use Rattle.mcap_scan.specs.declared.answers.Top.TheVariants as tops_given
 use Rattle.mcap_scan.specs.declared.reader.Stage.TheVariants as stages
 use Rattle.mcap_scan.specs.declared.scanner.Scanner.{Scanner}
 use Rattle.mcap_io.specs.Outside.{SourceState}
-use Rattle.mcap_scan.specs.Scanning.{Stands, Advanced, IsOver, content_of, KeptBy, offset_of}
+use Rattle.mcap_scan.specs.Scanning.{Stands, Advanced, IsOver, content_of, KeptBy, next_offset}
 use denote.Ref.{Bor}
 
 -- The scanner stands for these records of a source, which was in this state when the scanner was new. What is seen of a
@@ -27,8 +27,8 @@ abbrev pub scanned_content : {S : Type 0} → Scanner S → List ℕ
 scanned_content scanner = content_of scanner.reader
 
 -- the Data End was given, or the reading was refused
-abbrev pub IsScanned : {S : Type 0} → Scanner S → Type 0
-IsScanned scanner = IsOver scanner.reader.stage
+abbrev pub IsScanOver : {S : Type 0} → Scanner S → Type 0
+IsScanOver scanner = IsOver scanner.reader.stage
 
 -- the source of a scanner
 abbrev pub source_of : {S : Type 0} → Scanner S → S
@@ -40,7 +40,7 @@ KeptIn scanner refusal = KeptBy scanner.reader refusal
 
 -- where its next record stands
 abbrev pub scanned_offset : {S : Type 0} → Scanner S → ℕ
-scanned_offset scanner = offset_of scanner.reader
+scanned_offset scanner = next_offset scanner.reader
 
 -- the step that an answer with a copy of the content tells of
 abbrev pub step_of : Result Taken ReadingRefused → Step

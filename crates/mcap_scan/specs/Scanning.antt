@@ -18,7 +18,7 @@ use Rattle.mcap_model.specs.declared.tops.Judged.{Judged}
 use Rattle.mcap_model.specs.declared.tops.Judged.TheVariants as judged
 use Rattle.mcap_model.specs.Declarations.{TablesOf}
 use Rattle.mcap_model.specs.Made.{top}
-use Rattle.mcap_scan.specs.Sources.{ReadTo, HaltLeaves, FaultLeaves, MemoryLeaves}
+use Rattle.mcap_scan.specs.Sources.{ReadFromFront, HaltLeaves, FaultLeaves, MemoryLeaves}
 use denote.Ref.{Bor}
 
 -- ---- a reading that goes on, or came to its Data End
@@ -37,7 +37,7 @@ pub record IsUnfinished (tables : Tables) (offset : ℕ) (before now : SourceSta
   pub place : offset ≡ offset_behind tops
   pub tables_are : TablesOf (flat tops) tables
   pub still : now.faults ≡ before.faults
-  pub read : ReadTo before now tops
+  pub read : ReadFromFront before now tops
 
 -- the Header was given, and no Data End
 pub record IsInside (tables : Tables) (offset : ℕ) (before now : SourceState) (tops : List Top) : Type 0 where
@@ -51,7 +51,7 @@ pub record IsEnded (tables : Tables) (offset : ℕ) (before now : SourceState) (
   pub place : offset ≡ offset_behind tops
   pub tables_are : TablesOf (flat tops) tables
   pub still : now.faults ≡ before.faults
-  pub read : ReadTo before now tops
+  pub read : ReadFromFront before now tops
 
 -- ---- a reading that was refused
 
@@ -103,8 +103,8 @@ abbrev pub tables_of : Reader → Tables
 tables_of reader = reader.tables
 
 -- where the next record stands
-abbrev pub offset_of : Reader → ℕ
-offset_of reader = reader.offset
+abbrev pub next_offset : Reader → ℕ
+next_offset reader = reader.offset
 
 -- A record that is given moves a reader on, and no further than the limit on files: so a reading ends.
 abbrev pub Moves : ℕ → ℕ → Step → Type 0
@@ -126,7 +126,7 @@ pub record Gives (reader : Reader) (before now : SourceState) (tops : List Top) 
   pub going : IsGoing reader.stage
 
 -- the Data End was given before
-pub record Finds (reader : Reader) (before now : SourceState) (tops : List Top) (offset : ℕ) : Type 0 where
+pub record FindsEnd (reader : Reader) (before now : SourceState) (tops : List Top) (offset : ℕ) : Type 0 where
   pub is : IsEnded reader.tables offset before now tops
   pub stage : reader.stage ≡ stages.Ended
   pub stands : Stands reader before now tops
@@ -140,7 +140,7 @@ pub record Refuses (reader : Reader) (before now : SourceState) (tops : List Top
 
 abbrev pub Advanced : Reader → SourceState → SourceState → List Top → Step → Type 0
 Advanced reader before now tops (steps.Record op offset) = Gives reader before now tops op offset
-Advanced reader before now tops (steps.End offset) = Finds reader before now tops offset
+Advanced reader before now tops (steps.End offset) = FindsEnd reader before now tops offset
 Advanced reader before now tops steps.Refused = Refuses reader before now tops
 
 -- the Data End was given, or the reading was refused

@@ -7,8 +7,8 @@ use Rattle.mcap_model.specs.Kept.{reading_limits, Kept, Halt, at_end, grammar, c
 use Rattle.mcap_model.specs.Judging.{MayWantMemory}
 
 -- where the bytes before are told, these records were taken from their front, and the rest is left
-abbrev pub ReadTo : SourceState → SourceState → List Top → Type 0
-ReadTo before now tops = (bytes : List ℕ) → before.left ≡ Some bytes → (rest : List ℕ) × (now.left ≡ Some rest) × Tops bytes tops rest
+abbrev pub ReadFromFront : SourceState → SourceState → List Top → Type 0
+ReadFromFront before now tops = (bytes : List ℕ) → before.left ≡ Some bytes → (rest : List ℕ) × (now.left ≡ Some rest) × Tops bytes tops rest
 
 -- ---- where a reading halts
 

@@ -76,13 +76,13 @@ HeadTaken rest at left (Ok head) = TakesHead rest left head.op head.len
 HeadTaken rest at left (Err why) = RecordRefused rest at left why
 
 -- a record stands at the front, and the bytes behind it are left
-pub record TakesRecord (rest : List ℕ) (left : Option (List ℕ)) (op : ℕ) (content : List ℕ) : Type 0 where
+pub record TakesFrontRecord (rest : List ℕ) (left : Option (List ℕ)) (op : ℕ) (content : List ℕ) : Type 0 where
   pub after : List ℕ
   pub split : rest ≡ framed op content ++ after
   pub left_after : left ≡ Some after
 
 abbrev pub RecordTaken : List ℕ → ℕ → Option (List ℕ) → List ℕ → Result ℕ ReadingRefused → Type 0
-RecordTaken rest at left content (Ok op) = TakesRecord rest left op content
+RecordTaken rest at left content (Ok op) = TakesFrontRecord rest left op content
 RecordTaken rest at left content (Err why) = RecordRefused rest at left why
 
 -- a record that was taken has an opcode and stays within the limits

@@ -55,11 +55,11 @@ impl Reader {
     ghost use Rattle.mcap_io.specs.Outside.{SourceState};
     ghost use Rattle.mcap_io.specs.Rooms.{held_in};
     ghost use Rattle.mcap_scan.specs.declared.reader.Reader.{Reader as Whole};
-    ghost use Rattle.mcap_scan.specs.Scanning.{content_of, tables_of, offset_of, KeptBy, HandsOut, Moves, Stands, IsFresh, IsInside, Advanced, Given, IsDone, IsLast};
+    ghost use Rattle.mcap_scan.specs.Scanning.{content_of, tables_of, next_offset, KeptBy, HandsOut, Moves, Stands, IsFresh, IsInside, Advanced, Given, IsDone, IsLast};
 
     /// A reader of which nothing was asked yet.
     pub fn new(alloc: Global) -> Result<Reader, Memory>
-        ensures begins { IfOk result (λ reader. offset_of reader ≡ 8) }
+        ensures begins { IfOk result (λ reader. next_offset reader ≡ 8) }
         ensures stands { IfOk result (λ reader. (source : SourceState) → Stands reader source source []) }
     {
         match Vec::with_capacity(alloc, 9) {
@@ -234,7 +234,7 @@ impl Reader {
     pub fn advance<S: Source>(&mut self, source: &mut S) -> Step
         ensures steps { (before : SourceState) (tops : List Top) → Stands self.old before (S.state source.old) tops
             → Advanced self.new before (S.state source.new) tops result }
-        ensures moves { Moves (offset_of self.old) (offset_of self.new) result }
+        ensures moves { Moves (next_offset self.old) (next_offset self.new) result }
         ensures over { IsDone self.old → (self.new ≡ self.old) × (source.new ≡ source.old) × IsLast result }
         ensures stays { S.stays source.old source.new }
     {

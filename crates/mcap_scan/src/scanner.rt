@@ -5,7 +5,7 @@ ghost use Rattle.mcap_model.specs.declared.refusals.ReadingRefused.{ReadingRefus
 ghost use Rattle.mcap_scan.specs.declared.reader.Stage.TheVariants as stages;
 ghost use Rattle.mcap_scan.specs.Scanning.{IsLast, Moves, content_of};
 ghost use Rattle.mcap_io.specs.Outside.{SourceState};
-ghost use Rattle.mcap_scan.specs.Scanners.{Scans, Steps, TellsAgain, Copies, step_of, IsScanned, KeptIn, source_of, scanned_content, scanned_offset};
+ghost use Rattle.mcap_scan.specs.Scanners.{Scans, Steps, TellsAgain, Copies, step_of, IsScanOver, KeptIn, source_of, scanned_content, scanned_offset};
 
 use crate::answers::{Step, Top};
 use crate::reader::Reader;
@@ -98,7 +98,7 @@ impl<S: Source> Scanner<S> {
     pub fn advance(&mut self) -> Step
         ensures steps { (before : SourceState) (tops : List Record) → Scans S.state self.old before tops → Steps S.state self.new before tops result }
         ensures moves { Moves (scanned_offset self.old) (scanned_offset self.new) result }
-        ensures over { IsScanned self.old → (self.new ≡ self.old) × IsLast result }
+        ensures over { IsScanOver self.old → (self.new ≡ self.old) × IsLast result }
         ensures stays { S.stays (source_of self.old) (source_of self.new) }
     {
         self.reader.advance(&mut self.source)
@@ -124,7 +124,7 @@ impl<S: Source> Scanner<S> {
         ensures steps { (before : SourceState) (tops : List Record) → Scans S.state self.old before tops
             → Steps S.state self.new before tops (step_of result) × Copies self.new result }
         ensures moves { Moves (scanned_offset self.old) (scanned_offset self.new) (step_of result) }
-        ensures over { IsScanned self.old → (self.new ≡ self.old) × IsLast (step_of result) }
+        ensures over { IsScanOver self.old → (self.new ≡ self.old) × IsLast (step_of result) }
         ensures stays { S.stays (source_of self.old) (source_of self.new) }
     {
         match self.advance() {

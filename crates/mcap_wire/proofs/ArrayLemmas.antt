@@ -11,7 +11,7 @@ use Rattle.mcap_wire.specs.declared.faults.Why.TheVariants.{Short, BadText, BadL
 use Rattle.mcap_wire.specs.Layout.{le, number, prefixed}
 use Rattle.mcap_wire.specs.Reading.{FieldAt, NumberAt, NumberFails, BytesAt, text_length, text_bytes}
 use Rattle.mcap_wire.specs.Maps.{a_uint, ItemFits, KeysDiffer, LacksKey, ItemFails, MapStops}
-use Rattle.mcap_wire.specs.Arrays.{IsEntry, entry_text, entry_texts, array_text, ArrayAt, EntriesFail}
+use Rattle.mcap_wire.specs.Arrays.{EntryFits, entry_text, entry_texts, array_text, ArrayAt, EntriesFail}
 use Rattle.mcap_wire.specs.ArrayBytes.{entries_in, HoldsArray, HoldsCounts}
 use Rattle.mcap_wire.proofs.Numbers.{AreBytes, length-le, number-le, le-number, number_below}
 use Rattle.mcap_wire.proofs.Fields.{AreBytes-take, AreBytes-drop}
@@ -50,11 +50,11 @@ front_number : (n v : ℕ) (rest bytes : List ℕ) → v < 256 ^ n → bytes ≡
 front_number n v rest bytes fits is =
     ap (λ (l : List ℕ). number (take n l)) is ∙ ap number (take_at (le n v) rest n (length-le n v)) ∙ number-le n v fits
 
-pub entries_found : (n : ℕ) (entries : List Entry) (rest : List ℕ) → All (IsEntry n) entries → entries_in n (length entries) (entry_texts n entries ++ rest) ≡ entries
+pub entries_found : (n : ℕ) (entries : List Entry) (rest : List ℕ) → All (EntryFits n) entries → entries_in n (length entries) (entry_texts n entries ++ rest) ≡ entries
 unfolding entries_in
 entries_found n [] rest fit = refl
 entries_found n (e ∷ entries) rest fit =
-    let is_entry : IsEntry n e = All-head (IsEntry n) e entries fit in
+    let is_entry : EntryFits n e = All-head (EntryFits n) e entries fit in
     let bytes = entry_texts n (e ∷ entries) ++ rest in
     let more = entry_texts n entries ++ rest in
     let parts : bytes ≡ le n e.0 ++ (le 8 e.1 ++ more) = entry_parts n e (entry_texts n entries) rest in
@@ -62,24 +62,24 @@ entries_found n (e ∷ entries) rest fit =
     let behind : drop n bytes ≡ le 8 e.1 ++ more = ap (drop n) parts ∙ drop_at (le n e.0) (le 8 e.1 ++ more) n (length-le n e.0) in
     let second : number (take 8 (drop n bytes)) ≡ e.1 = front_number 8 e.1 more (drop n bytes) is_entry.second_fits behind in
     let last : drop (n + 8) bytes ≡ more = ap (drop (n + 8)) (append_assoc (entry_text n e) (entry_texts n entries) rest) ∙ drop_at (entry_text n e) more (n + 8) (length-entry_text n e) in
-    let others : entries_in n (length entries) (drop (n + 8) bytes) ≡ entries = ap (entries_in n (length entries)) last ∙ entries_found n entries rest (All-tail (IsEntry n) e entries fit) in
+    let others : entries_in n (length entries) (drop (n + 8) bytes) ≡ entries = ap (entries_in n (length entries)) last ∙ entries_found n entries rest (All-tail (EntryFits n) e entries fit) in
     ap (λ (k : ℕ). (k, number (take 8 (drop n bytes))) ∷ entries_in n (length entries) (drop (n + 8) bytes)) first
     ∙ ap (λ (v : ℕ). (e.0, v) ∷ entries_in n (length entries) (drop (n + 8) bytes)) second
     ∙ ap (λ (l : List Entry). e ∷ l) others
 
-pub entries_are : (n : ℕ) (bytes : List ℕ) (entries : List Entry) (count : ℕ) → bytes ≡ entry_texts n entries → All (IsEntry n) entries → count ≡ length entries → entries_in n count bytes ≡ entries
+pub entries_are : (n : ℕ) (bytes : List ℕ) (entries : List Entry) (count : ℕ) → bytes ≡ entry_texts n entries → All (EntryFits n) entries → count ≡ length entries → entries_in n count bytes ≡ entries
 entries_are n bytes entries count is fit size =
     ap (λ (m : ℕ). entries_in n m bytes) size
     ∙ ap (entries_in n (length entries)) (is ∙ sym (append-nil (entry_texts n entries)))
     ∙ entries_found n entries [] fit
 
-pub array_is_held : (n : ℕ) (bytes : List ℕ) (entries : List Entry) (count : ℕ) → bytes ≡ entry_texts n entries → All (IsEntry n) entries → count ≡ length entries → HoldsArray n bytes count
+pub array_is_held : (n : ℕ) (bytes : List ℕ) (entries : List Entry) (count : ℕ) → bytes ≡ entry_texts n entries → All (EntryFits n) entries → count ≡ length entries → HoldsArray n bytes count
 array_is_held n bytes entries count is fit size =
     let same = entries_are n bytes entries count is fit size in
-    record { spelled = is ∙ ap (entry_texts n) (sym same); entries_fit = subst (All (IsEntry n)) (sym same) fit }
+    record { spelled = is ∙ ap (entry_texts n) (sym same); entries_fit = subst (All (EntryFits n)) (sym same) fit }
 
 -- two lists of entries that spell the same are equal
-pub entries_same : (n : ℕ) (entries others : List Entry) → All (IsEntry n) entries → All (IsEntry n) others → entry_texts n entries ≡ entry_texts n others → entries ≡ others
+pub entries_same : (n : ℕ) (entries others : List Entry) → All (EntryFits n) entries → All (EntryFits n) others → entry_texts n entries ≡ entry_texts n others → entries ≡ others
 entries_same n entries others fit others_fit same =
     let size : length entries ≡ length others = sizes (length entries) (length others) (sym (length-entry_texts n entries) ∙ ap length same ∙ length-entry_texts n others) in
     sym (entries_are n (entry_texts n entries) entries (length entries) refl fit refl) ∙ entries_are n (entry_texts n entries) others (length entries) same others_fit size
@@ -100,7 +100,7 @@ pub whole_entries : (n count : ℕ) (bytes : List ℕ) → AreBytes bytes → le
 unfolding entries_in
 whole_entries n zero bytes fit size = record {
   spelled = nil_from_length bytes (omega (arith, size));
-  entries_fit = All-nil (IsEntry n);
+  entries_fit = All-nil (EntryFits n);
 }
 whole_entries n (suc count) bytes fit size =
     let first = take n bytes in
@@ -120,7 +120,7 @@ whole_entries n (suc count) bytes fit size =
           ∙ ap (λ (l : List ℕ). le n (number first) ++ (l ++ rest)) (sym (le_back 8 second second_fit second_size))
           ∙ ap (λ (l : List ℕ). le n (number first) ++ (le 8 (number second) ++ l)) more.spelled
           ∙ sym (append_assoc (le n (number first)) (le 8 (number second)) (entry_texts n (entries_in n count rest)));
-      entries_fit = All-cons (IsEntry n) (number first, number second) (entries_in n count rest)
+      entries_fit = All-cons (EntryFits n) (number first, number second) (entries_in n count rest)
           (record { first_fits = below_back n first first_fit first_size; second_fits = below_back 8 second second_fit second_size })
           more.entries_fit;
     }
@@ -147,7 +147,7 @@ pub array_size : (n : ℕ) (bytes : List ℕ) (count : ℕ) → HoldsArray n byt
 array_size n bytes count held =
     ap length held.spelled ∙ length-entry_texts n (entries_in n count bytes) ∙ ap (λ (m : ℕ). (n + 8) * m) (length-entries_in n count bytes)
 
-fits_at : (n : ℕ) (bytes : List ℕ) (count i : ℕ) → HoldsArray n bytes count → i < count → IsEntry n (entry (entries_in n count bytes) i)
+fits_at : (n : ℕ) (bytes : List ℕ) (count i : ℕ) → HoldsArray n bytes count → i < count → EntryFits n (entry (entries_in n count bytes) i)
 fits_at n bytes count i held lt = held.entries_fit i (0, 0) (omega (arith, length-entries_in n count bytes))
 
 pub first_not_refused : (n : ℕ) (bytes : List ℕ) (count i at : ℕ) (why : Why) → 0 < n → HoldsArray n bytes count → i < count → at ≡ (n + 8) * i → NumberFails n bytes at why → ⊥
@@ -225,7 +225,7 @@ one_more_count bytes count at key middle number end held key_there number_there 
     ∙ append_assoc (take at bytes) (le 2 key) (le 8 number)
     ∙ ap (λ (l : List ℕ). l ++ entry_text 2 (key, number)) held.array.spelled
     ∙ sym (entry_texts-push 2 before (key, number)) in
-    let fit : All (IsEntry 2) after = All-push (IsEntry 2) before (key, number) held.array.entries_fit (record { first_fits = key_there.fits; second_fits = number_there.fits }) in
+    let fit : All (EntryFits 2) after = All-push (EntryFits 2) before (key, number) held.array.entries_fit (record { first_fits = key_there.fits; second_fits = number_there.fits }) in
     let size : count + 1 ≡ length after = omega (arith, length-append before ((key, number) ∷ []), length-entries_in 2 count (take at bytes)) in
     let same = entries_are 2 (take end bytes) after (count + 1) spelled fit size in (
       record {
@@ -247,7 +247,7 @@ bound_more counts after key number bound larger is below up next =
 
 pub no_counts : (bytes : List ℕ) → HoldsCounts (take 0 bytes) 0
 no_counts bytes = record {
-  array = array_is_held 2 [] [] 0 refl (All-nil (IsEntry 2)) refl;
+  array = array_is_held 2 [] [] 0 refl (All-nil (EntryFits 2)) refl;
   keys_differ = λ i j d below within. absurd (omega (arith, length-entries_in 2 0 []));
 }
 
@@ -258,7 +258,7 @@ counts_before bytes count at within held = record {
   ends = within;
 }
 
-pub counts_fit : (counts : List Entry) → All (IsEntry 2) counts → All (ItemFits (a_uint 2) (a_uint 8)) counts
+pub counts_fit : (counts : List Entry) → All (EntryFits 2) counts → All (ItemFits (a_uint 2) (a_uint 8)) counts
 counts_fit counts fit = λ i d lt. ((fit i d lt).first_fits, (fit i d lt).second_fits)
 
 -- behind the counts up to an offset another begins, and fails
@@ -276,7 +276,7 @@ counts_stop bytes count at why begins held fails = record {
 -- ---- refusals
 
 -- no array begins another
-pub arrays_apart : (n : ℕ) (entries others : List Entry) (rest behind : List ℕ) → length (entry_texts n entries) < 2 ^ 32 → length (entry_texts n others) < 2 ^ 32 → All (IsEntry n) entries → All (IsEntry n) others → array_text n entries ++ rest ≡ array_text n others ++ behind → (entries ≡ others) × (rest ≡ behind)
+pub arrays_apart : (n : ℕ) (entries others : List Entry) (rest behind : List ℕ) → length (entry_texts n entries) < 2 ^ 32 → length (entry_texts n others) < 2 ^ 32 → All (EntryFits n) entries → All (EntryFits n) others → array_text n entries ++ rest ≡ array_text n others ++ behind → (entries ≡ others) × (rest ≡ behind)
 arrays_apart n entries others rest behind fits other_fits fit others_fit same =
     let decided = texts_apart (entry_texts n entries) (entry_texts n others) rest behind fits other_fits same in
     (entries_same n entries others fit others_fit decided.0, decided.1)

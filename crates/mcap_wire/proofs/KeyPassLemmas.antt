@@ -16,7 +16,7 @@ use denote.Ref.{Bor}
 use Rattle.mcap_wire.specs.declared.key_passes.Window.{Window}
 use Rattle.mcap_wire.specs.Reading.{text_bytes}
 use Rattle.mcap_wire.specs.Maps.{HasKey, LacksKey}
-use Rattle.mcap_wire.specs.KeyPasses.{TextThere, window_room, IsBelow, KeysGoUp, BelongsAt, is_above, kept, IsWindow, IsHeld, IsBeyond, Sifts, OnceBetween, OnceUpTo}
+use Rattle.mcap_wire.specs.KeyPasses.{TextThere, window_room, IsBelow, KeysGoUp, BelongsAt, is_above, kept_places, IsWindow, IsHeld, IsBeyond, Sifts, OnceBetween, OnceUpTo}
 use Rattle.mcap_wire.proofs.TextMaps.{Pair, AllPairs-push}
 use Rattle.mcap_wire.proofs.PairWalks.{not_above_itself}
 
@@ -225,7 +225,7 @@ held_above bytes bound seen w key sifts held =
 -- a key that isn't above the bound
 pub sifts_below : (bytes : List ℕ) (bound : Option (Bor (List ℕ))) (seen : List Pair) (w : Window) (key value : List ℕ) → is_above bound key ≡ false → Sifts bytes bound seen w → Sifts bytes bound (seen ++ (key, value) ∷ []) w
 sifts_below bytes bound seen w key value below sifts = record {
-  seen_before = λ k d lt. has_more seen (key, value) (text_bytes bytes (get_or (kept w) k d)) (sifts.seen_before k d lt);
+  seen_before = λ k d lt. has_more seen (key, value) (text_bytes bytes (get_or (kept_places w) k d)) (sifts.seen_before k d lt);
   above_bound = sifts.above_bound;
   smallest = All-push (λ (s : Pair). is_above bound s.0 ≡ true → IsHeld bytes w s.0 ⊎ IsBeyond bytes w s.0) seen (key, value) sifts.smallest (λ above. absurd (let no : true ≡ false = sym above ∙ below in cc));
   once = AllPairs-push (λ (s t : Pair). IsHeld bytes w s.0 → s.0 ≢ t.0) seen (key, value) sifts.once
@@ -248,33 +248,33 @@ not_held bytes places key i belongs any = elim (cases_lt any.0 i) [
     move P there = subst P any.4 (subst (λ (p : ℕ). P (text_bytes bytes p)) any.3 there)
 
 -- a key that is in a window's range and doesn't stand there is new
-new_in_range : (bytes : List ℕ) (bound : Option (Bor (List ℕ))) (seen : List Pair) (w : Window) (key : List ℕ) (i : ℕ) → (w.passed ≡ true → i < length (kept w)) → is_above bound key ≡ true → BelongsAt bytes (kept w) key i → Sifts bytes bound seen w → LacksKey seen key
+new_in_range : (bytes : List ℕ) (bound : Option (Bor (List ℕ))) (seen : List Pair) (w : Window) (key : List ℕ) (i : ℕ) → (w.passed ≡ true → i < length (kept_places w)) → is_above bound key ≡ true → BelongsAt bytes (kept_places w) key i → Sifts bytes bound seen w → LacksKey seen key
 new_in_range bytes bound seen w key i range above belongs sifts k d lt same =
     by (subst (λ (x : List ℕ). IsHeld bytes w x ⊎ IsBeyond bytes w x) same (sifts.smallest k d lt (ap (λ (x : List ℕ). is_above bound x) same ∙ above)))
   where
     by : IsHeld bytes w key ⊎ IsBeyond bytes w key → ⊥
-    by (inl held) = not_held bytes (kept w) key i belongs held
+    by (inl held) = not_held bytes (kept_places w) key i belongs held
     by (inr beyond) =
-        let lt_i : i < length (kept w) = range beyond.passed in
-        never_below_itself key (nat_list_cmp_total.trans key (text_bytes bytes (get_or (kept w) i 0)) key (belongs.behind i 0 (omega arith) lt_i) (beyond.above i 0 lt_i))
+        let lt_i : i < length (kept_places w) = range beyond.passed in
+        never_below_itself key (nat_list_cmp_total.trans key (text_bytes bytes (get_or (kept_places w) i 0)) key (belongs.behind i 0 (omega arith) lt_i) (beyond.above i 0 lt_i))
 
 -- a key above all in a full window passes by
-pub sifts_beyond : (bytes : List ℕ) (bound : Option (Bor (List ℕ))) (seen : List Pair) (w v : Window) (key value : List ℕ) → kept v ≡ kept w → v.passed ≡ true → BelongsAt bytes (kept w) key (length (kept w)) → Sifts bytes bound seen w → Sifts bytes bound (seen ++ (key, value) ∷ []) v
+pub sifts_beyond : (bytes : List ℕ) (bound : Option (Bor (List ℕ))) (seen : List Pair) (w v : Window) (key value : List ℕ) → kept_places v ≡ kept_places w → v.passed ≡ true → BelongsAt bytes (kept_places w) key (length (kept_places w)) → Sifts bytes bound seen w → Sifts bytes bound (seen ++ (key, value) ∷ []) v
 sifts_beyond bytes bound seen w v key value same passed belongs sifts = record {
-  seen_before = subst (λ (l : List ℕ). All (λ p. HasKey (seen ++ (key, value) ∷ []) (text_bytes bytes p)) l) (sym same) (λ k d lt. has_more seen (key, value) (text_bytes bytes (get_or (kept w) k d)) (sifts.seen_before k d lt));
+  seen_before = subst (λ (l : List ℕ). All (λ p. HasKey (seen ++ (key, value) ∷ []) (text_bytes bytes p)) l) (sym same) (λ k d lt. has_more seen (key, value) (text_bytes bytes (get_or (kept_places w) k d)) (sifts.seen_before k d lt));
   above_bound = subst (λ (l : List ℕ). All (λ p. is_above bound (text_bytes bytes p) ≡ true) l) (sym same) sifts.above_bound;
   smallest = All-push (λ (s : Pair). is_above bound s.0 ≡ true → IsHeld bytes v s.0 ⊎ IsBeyond bytes v s.0) seen (key, value)
       (λ k d lt above. still (get_or seen k d).0 (sifts.smallest k d lt above))
       (λ above. inr (beyond key all_below));
   once = AllPairs-push (λ (s t : Pair). IsHeld bytes v s.0 → s.0 ≢ t.0) seen (key, value)
       (λ j k d below lt held. sifts.once j k d below lt (back (get_or seen j d).0 held))
-      (λ k d lt held is. not_held bytes (kept w) key (length (kept w)) belongs (subst (IsHeld bytes w) is (back (get_or seen k d).0 held)));
+      (λ k d lt held is. not_held bytes (kept_places w) key (length (kept_places w)) belongs (subst (IsHeld bytes w) is (back (get_or seen k d).0 held)));
 }
   where
-    all_below : All (λ p. IsBelow (text_bytes bytes p) key) (kept w)
+    all_below : All (λ p. IsBelow (text_bytes bytes p) key) (kept_places w)
     all_below k d lt = belongs.before k d (omega arith) lt
 
-    beyond : (k : List ℕ) → All (λ p. IsBelow (text_bytes bytes p) k) (kept w) → IsBeyond bytes v k
+    beyond : (k : List ℕ) → All (λ p. IsBelow (text_bytes bytes p) k) (kept_places w) → IsBeyond bytes v k
     beyond k all = record { passed = passed; above = subst (λ (l : List ℕ). All (λ p. IsBelow (text_bytes bytes p) k) l) (sym same) all }
 
     back : (k : List ℕ) → IsHeld bytes v k → IsHeld bytes w k
@@ -290,7 +290,7 @@ pub record PutInto (w v : Window) (i place : ℕ) : Type 0 where
   pub places_then : length v.places ≡ window_room
   pub index : i < window_room
   pub size : v.len ≡ min w.len (window_room - 1) + 1
-  pub kept_is : kept v ≡ insert (take (min w.len (window_room - 1)) w.places) i place
+  pub kept_is : kept_places v ≡ insert (take (min w.len (window_room - 1)) w.places) i place
   pub full : v.passed ≡ true → w.len ≡ window_room
   pub passed : w.len ≡ window_room → v.passed ≡ true
 
@@ -302,13 +302,13 @@ stayed_size : (w v : Window) (i place : ℕ) → PutInto w v i place → length 
 stayed_size w v i place put = length-take-le (min w.len (window_room - 1)) w.places (omega (arith, put.places))
 
 -- those are the first of what was kept
-stayed_is : (w : Window) → stayed w ≡ take (min w.len (window_room - 1)) (kept w)
+stayed_is : (w : Window) → stayed w ≡ take (min w.len (window_room - 1)) (kept_places w)
 stayed_is w = sym (take-take (min w.len (window_room - 1)) w.len w.places (omega arith))
 
-pub kept_size : (w : Window) → w.len ≤ window_room → length w.places ≡ window_room → length (kept w) ≡ w.len
+pub kept_size : (w : Window) → w.len ≤ window_room → length w.places ≡ window_room → length (kept_places w) ≡ w.len
 kept_size w fits places = length-take-le w.len w.places (omega (arith, places))
 
-belongs_there : (bytes : List ℕ) (w v : Window) (key : List ℕ) (i place : ℕ) → PutInto w v i place → w.len ≤ window_room → BelongsAt bytes (kept w) key i → BelongsAt bytes (stayed w) key i
+belongs_there : (bytes : List ℕ) (w v : Window) (key : List ℕ) (i place : ℕ) → PutInto w v i place → w.len ≤ window_room → BelongsAt bytes (kept_places w) key i → BelongsAt bytes (stayed w) key i
 belongs_there bytes w v key i place put fits belongs =
     let size = stayed_size w v i place put in
     let all = kept_size w fits put.places in
@@ -318,11 +318,11 @@ belongs_there bytes w v key i place put fits belongs =
       behind = λ k d from lt. subst (λ (p : ℕ). IsBelow key (text_bytes bytes p)) (sym (in_both k d (omega (arith, size)))) (belongs.behind k d from (omega (arith, size, all)));
     }
   where
-    in_both : (k d : ℕ) → k < min w.len (window_room - 1) → get_or (stayed w) k d ≡ get_or (kept w) k d
+    in_both : (k d : ℕ) → k < min w.len (window_room - 1) → get_or (stayed w) k d ≡ get_or (kept_places w) k d
     in_both k d lt = get_or-take (min w.len (window_room - 1)) w.places k d lt ∙ sym (get_or-take w.len w.places k d (omega (arith, lt)))
 
 -- a window with a place more is one
-pub window_more : (bytes : List ℕ) (w v : Window) (key : List ℕ) (i place : ℕ) → key ≡ text_bytes bytes place → TextThere bytes place → IsWindow bytes w → BelongsAt bytes (kept w) key i → PutInto w v i place → IsWindow bytes v
+pub window_more : (bytes : List ℕ) (w v : Window) (key : List ℕ) (i place : ℕ) → key ≡ text_bytes bytes place → TextThere bytes place → IsWindow bytes w → BelongsAt bytes (kept_places w) key i → PutInto w v i place → IsWindow bytes v
 window_more bytes w v key i place key_is there window belongs put =
     let inside = belongs_there bytes w v key i place put window.fits belongs in
     record {
@@ -330,9 +330,9 @@ window_more bytes w v key i place key_is there window belongs put =
       fits = omega (arith, put.size);
       full = λ passed. (let was : w.len ≡ window_room = put.full passed in omega (arith, put.size, was));
       texts = subst (All (TextThere bytes)) (sym put.kept_is)
-          (All-insert (TextThere bytes) (stayed w) i place inside.within (subst (All (TextThere bytes)) (sym (stayed_is w)) (All-take (TextThere bytes) (min w.len (window_room - 1)) (kept w) window.texts)) there);
+          (All-insert (TextThere bytes) (stayed w) i place inside.within (subst (All (TextThere bytes)) (sym (stayed_is w)) (All-take (TextThere bytes) (min w.len (window_room - 1)) (kept_places w) window.texts)) there);
       order = subst (KeysGoUp bytes) (sym put.kept_is)
-          (goes_up_more bytes (stayed w) i place (subst (λ (k : List ℕ). BelongsAt bytes (stayed w) k i) key_is inside) (subst (KeysGoUp bytes) (sym (stayed_is w)) (goes_up_front bytes (min w.len (window_room - 1)) (kept w) window.order)));
+          (goes_up_more bytes (stayed w) i place (subst (λ (k : List ℕ). BelongsAt bytes (stayed w) k i) key_is inside) (subst (KeysGoUp bytes) (sym (stayed_is w)) (goes_up_front bytes (min w.len (window_room - 1)) (kept_places w) window.order)));
     }
   where
     goes_up_front : (bytes : List ℕ) (n : ℕ) (places : List ℕ) → KeysGoUp bytes places → KeysGoUp bytes (take n places)
@@ -341,9 +341,9 @@ window_more bytes w v key i place key_is there window belongs put =
         rw (get_or-take n places j d (omega (arith, size)), get_or-take n places k d (omega (arith, size))) (order j k d below (omega (arith, size)))
 
 -- so is a pair more with a key that was put into the window
-pub sifts_more : (bytes : List ℕ) (bound : Option (Bor (List ℕ))) (seen : List Pair) (w v : Window) (key value : List ℕ) (i place : ℕ) → key ≡ text_bytes bytes place → is_above bound key ≡ true → IsWindow bytes w → BelongsAt bytes (kept w) key i → PutInto w v i place → Sifts bytes bound seen w → Sifts bytes bound (seen ++ (key, value) ∷ []) v
+pub sifts_more : (bytes : List ℕ) (bound : Option (Bor (List ℕ))) (seen : List Pair) (w v : Window) (key value : List ℕ) (i place : ℕ) → key ≡ text_bytes bytes place → is_above bound key ≡ true → IsWindow bytes w → BelongsAt bytes (kept_places w) key i → PutInto w v i place → Sifts bytes bound seen w → Sifts bytes bound (seen ++ (key, value) ∷ []) v
 sifts_more bytes bound seen w v key value i place key_is above window belongs put sifts = record {
-  seen_before = put_all (λ (p : ℕ). HasKey (seen ++ (key, value) ∷ []) (text_bytes bytes p)) (λ k d lt. has_more seen (key, value) (text_bytes bytes (get_or (kept w) k d)) (sifts.seen_before k d lt))
+  seen_before = put_all (λ (p : ℕ). HasKey (seen ++ (key, value) ∷ []) (text_bytes bytes p)) (λ k d lt. has_more seen (key, value) (text_bytes bytes (get_or (kept_places w) k d)) (sifts.seen_before k d lt))
       (Any-push (λ (p : Pair). p.0 ≡ text_bytes bytes place) seen (key, value) key_is);
   above_bound = put_all (λ (p : ℕ). is_above bound (text_bytes bytes p) ≡ true) sifts.above_bound (subst (λ (k : List ℕ). is_above bound k ≡ true) key_is above);
   smallest = All-push (λ (s : Pair). is_above bound s.0 ≡ true → IsHeld bytes v s.0 ⊎ IsBeyond bytes v s.0) seen (key, value)
@@ -363,15 +363,15 @@ sifts_more bytes bound seen w v key value i place key_is above window belongs pu
     size : length (stayed w) ≡ min w.len (window_room - 1)
     size = stayed_size w v i place put
 
-    all_size : length (kept w) ≡ w.len
+    all_size : length (kept_places w) ≡ w.len
     all_size = kept_size w window.fits put.places
 
-    in_both : (k d : ℕ) → k < min w.len (window_room - 1) → get_or (stayed w) k d ≡ get_or (kept w) k d
+    in_both : (k d : ℕ) → k < min w.len (window_room - 1) → get_or (stayed w) k d ≡ get_or (kept_places w) k d
     in_both k d lt = get_or-take (min w.len (window_room - 1)) w.places k d lt ∙ sym (get_or-take w.len w.places k d (omega (arith, lt)))
 
-    put_all : (P : ℕ → Type 0) → All P (kept w) → P place → All P (kept v)
+    put_all : (P : ℕ → Type 0) → All P (kept_places w) → P place → All P (kept_places v)
     put_all P all here = subst (All P) (sym put.kept_is)
-        (All-insert P (stayed w) i place inside.within (subst (All P) (sym (stayed_is w)) (All-take P (min w.len (window_room - 1)) (kept w) all)) here)
+        (All-insert P (stayed w) i place inside.within (subst (All P) (sym (stayed_is w)) (All-take P (min w.len (window_room - 1)) (kept_places w) all)) here)
 
     put_any : (k : List ℕ) → Any (λ p. text_bytes bytes p ≡ k) (insert (stayed w) i place) → IsHeld bytes v k
     put_any k any = subst (Any (λ p. text_bytes bytes p ≡ k)) (sym put.kept_is) any
@@ -390,17 +390,17 @@ sifts_more bytes bound seen w v key value i place key_is above window belongs pu
     still k (inl held) = elim (cases_lt held.0 (min w.len (window_room - 1))) [
       | inl within ↦ inl (put_any k (Any-insert (λ (p : ℕ). text_bytes bytes p ≡ k) (stayed w) i place inside.within (held.0, held.1, omega (arith, size, within), in_both held.0 held.1 within ∙ held.3, held.4)))
       | inr out ↦
-          let there : (d : ℕ) → text_bytes bytes (get_or (kept w) held.0 d) ≡ k = λ d. ap (text_bytes bytes) (get_or_default (kept w) held.0 d held.1 held.2 ∙ held.3) ∙ held.4 in
+          let there : (d : ℕ) → text_bytes bytes (get_or (kept_places w) held.0 d) ≡ k = λ d. ap (text_bytes bytes) (get_or_default (kept_places w) held.0 d held.1 held.2 ∙ held.3) ∙ held.4 in
           inr (beyond k (omega (arith, out, held.2, all_size, window.fits))
           (λ j d lt. rw (in_both j d (omega (arith, lt, size)), ← there d) (window.order j held.0 d (omega (arith, lt, size, out)) held.2))
           (subst (IsBelow key) (there 0) (belongs.behind held.0 0 (omega (arith, out, held.2, all_size, window.fits, put.index)) held.2)))
     ]
     still k (inr past) =
         let full : w.len ≡ window_room = window.full past.passed in
-        let lt : i < length (kept w) = omega (arith, full, all_size, put.index) in
+        let lt : i < length (kept_places w) = omega (arith, full, all_size, put.index) in
         inr (beyond k full
-        (subst (All (λ p. IsBelow (text_bytes bytes p) k)) (sym (stayed_is w)) (All-take (λ p. IsBelow (text_bytes bytes p) k) (min w.len (window_room - 1)) (kept w) past.above))
-        (nat_list_cmp_total.trans key (text_bytes bytes (get_or (kept w) i 0)) k (belongs.behind i 0 (omega arith) lt) (past.above i 0 lt)))
+        (subst (All (λ p. IsBelow (text_bytes bytes p) k)) (sym (stayed_is w)) (All-take (λ p. IsBelow (text_bytes bytes p) k) (min w.len (window_room - 1)) (kept_places w) past.above))
+        (nat_list_cmp_total.trans key (text_bytes bytes (get_or (kept_places w) i 0)) k (belongs.behind i 0 (omega arith) lt) (past.above i 0 lt)))
 
     by_held : (j k : ℕ) (d : Pair) → j < k → k < length seen → (text_bytes bytes place ≡ (get_or seen j d).0) ⊎ Any (λ p. text_bytes bytes p ≡ (get_or seen j d).0) (stayed w) → (get_or seen j d).0 ≢ (get_or seen k d).0
     by_held j k d below lt (inl is) = λ same. new j d (omega (arith, below, lt)) (sym is ∙ sym key_is)
@@ -424,10 +424,10 @@ pass_up bytes bound pairs w top passed top_is window sifts = (between, has, up)
     full : w.len ≡ window_room
     full = window.full passed
 
-    lt : window_room - 1 < length (kept w)
+    lt : window_room - 1 < length (kept_places w)
     lt = omega (arith, full, kept_size w window.fits window.places)
 
-    last : (d : ℕ) → text_bytes bytes (get_or (kept w) (window_room - 1) d) ≡ top.now
+    last : (d : ℕ) → text_bytes bytes (get_or (kept_places w) (window_room - 1) d) ≡ top.now
     last d = ap (text_bytes bytes) (get_or-take w.len w.places (window_room - 1) d (omega (arith, full)) ∙ get_or_default w.places (window_room - 1) d 0 (omega (arith, window.places))) ∙ sym top_is
 
     has : HasKey pairs top.now

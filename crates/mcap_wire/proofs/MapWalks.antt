@@ -8,7 +8,7 @@ use Rattle.mcap_wire.specs.declared.faults.Why.{Why}
 use Rattle.mcap_wire.specs.declared.faults.Why.TheVariants.{Short, BadText, BadLength, DoubleKey}
 use Rattle.mcap_wire.specs.Layout.{le, string}
 use Rattle.mcap_wire.specs.Reading.{TextIsShort, TextIsBad, text_length, text_bytes}
-use Rattle.mcap_wire.specs.Maps.{Plain, a_uint, a_string, PlainValue, plain_text, PlainFits, PlainAt, PlainFails, KeysDiffer, HasKey, LacksKey, Item, item_text, ItemFits, KeyOrValueFails, KeyIsDouble, ItemFails, MapStops, MapIsWhole, MapFails}
+use Rattle.mcap_wire.specs.Maps.{Plain, a_uint, a_string, PlainValue, plain_text, PlainFits, PlainAt, PlainFails, KeysDiffer, HasKey, LacksKey, PlainItem, item_text, ItemFits, KeyOrValueFails, KeyIsDouble, ItemFails, MapStops, MapIsWhole, MapFails}
 use Rattle.mcap_wire.proofs.Numbers.{length-le}
 use Rattle.mcap_wire.proofs.Framing.{texts_apart, split_number, text_not_refused, ends_within, number_is_short, length-string, length_found, bytes_found, stands_within}
 use Rattle.mcap_wire.proofs.TextMaps.{key_stands_before}
@@ -109,7 +109,7 @@ items_apart key value p q rest behind p_fits q_fits same =
     (ap (λ (k : PlainValue key). (k, p.1)) keys.0 ∙ ap (λ (v : PlainValue value). (q.0, v)) values.0, values.1)
 
 -- an item that stands next is read
-item_not_refused : (key value : Plain) (before after : List (Item key value)) (next : Item key value) (behind bytes : List ℕ) (at : ℕ) (why : Why) → ItemFits key value next → KeysDiffer (before ++ next ∷ after) → at ≤ length bytes → drop at bytes ≡ flat_map (item_text key value) (next ∷ after) ++ behind → ItemFails key value before bytes at why → ⊥
+item_not_refused : (key value : Plain) (before after : List (PlainItem key value)) (next : PlainItem key value) (behind bytes : List ℕ) (at : ℕ) (why : Why) → ItemFits key value next → KeysDiffer (before ++ next ∷ after) → at ≤ length bytes → drop at bytes ≡ flat_map (item_text key value) (next ∷ after) ++ behind → ItemFails key value before bytes at why → ⊥
 item_not_refused key value before after next behind bytes at why fits differ within is fails = by_cause why fails
   where
     more : List ℕ
@@ -137,7 +137,7 @@ has_and_lacks {K = K} {V = V} items key other has lacks same =
     lacks has.0 has.1 has.2 (ap (λ (p : K × V). p.0) has.3 ∙ has.4 ∙ sym same)
 
 -- a key that is whole excludes a key that fails
-short_or_bad : (key value : Plain) (before : List (Item key value)) (bytes : List ℕ) (at : ℕ) → KeyOrValueFails key value before bytes at Short → KeyOrValueFails key value before bytes at BadText → ⊥
+short_or_bad : (key value : Plain) (before : List (PlainItem key value)) (bytes : List ℕ) (at : ℕ) → KeyOrValueFails key value before bytes at Short → KeyOrValueFails key value before bytes at BadText → ⊥
 short_or_bad key value before bytes at (inl short) (inl bad) = plain_short_or_bad key bytes at short bad
 short_or_bad key value before bytes at (inl short) (inr bad) = plain_stands key bytes at bad.0 bad.1 Short bad.2 short
 short_or_bad key value before bytes at (inr short) (inl bad) = plain_stands key bytes at short.0 short.1 BadText short.2 bad
@@ -145,12 +145,12 @@ short_or_bad key value before bytes at (inr short) (inr bad) =
     let same = plain_same key bytes at short.0 short.1 bad.0 bad.1 short.2 bad.2 in
     plain_short_or_bad value bytes bad.1 (subst (λ (end : ℕ). PlainFails value bytes end Short) same.1 short.4) bad.4
 
-part_or_double : (key value : Plain) (before : List (Item key value)) (bytes : List ℕ) (at : ℕ) (why : Why) → KeyOrValueFails key value before bytes at why → KeyIsDouble key value before bytes at → ⊥
+part_or_double : (key value : Plain) (before : List (PlainItem key value)) (bytes : List ℕ) (at : ℕ) (why : Why) → KeyOrValueFails key value before bytes at why → KeyIsDouble key value before bytes at → ⊥
 part_or_double key value before bytes at why (inl fails) double = plain_stands key bytes at double.0 double.1 why double.2 fails
 part_or_double key value before bytes at why (inr fails) double =
     has_and_lacks before double.0 fails.0 double.3 fails.3 (plain_same key bytes at fails.0 fails.1 double.0 double.1 fails.2 double.2).0
 
-item_why : (key value : Plain) (before : List (Item key value)) (bytes : List ℕ) (at : ℕ) (why other : Why) → ItemFails key value before bytes at why → ItemFails key value before bytes at other → why ≡ other
+item_why : (key value : Plain) (before : List (PlainItem key value)) (bytes : List ℕ) (at : ℕ) (why other : Why) → ItemFails key value before bytes at why → ItemFails key value before bytes at other → why ≡ other
 item_why key value before bytes at Short other one two = absurd one
 item_why key value before bytes at BadText Short one two = absurd two
 item_why key value before bytes at BadText BadText one two = refl
@@ -171,11 +171,11 @@ item_why key value before bytes at DoubleKey DoubleKey one two = refl
 stops_once : (key value : Plain) (bytes : List ℕ) (why other_why : Why) (one : MapStops key value bytes why) (other : MapStops key value bytes other_why) → GoesOn (item_text key value) one.before (drop one.at bytes) other.before (drop other.at bytes) → why ≡ other_why
 stops_once key value bytes why other_why one other more = by_next more.0 more.1 more.2
   where
-    by_next : (after : List (Item key value)) → other.before ≡ one.before ++ after → drop one.at bytes ≡ flat_map (item_text key value) after ++ drop other.at bytes → why ≡ other_why
+    by_next : (after : List (PlainItem key value)) → other.before ≡ one.before ++ after → drop one.at bytes ≡ flat_map (item_text key value) after ++ drop other.at bytes → why ≡ other_why
     by_next [] joined rest_is =
         let place : other.at ≡ one.at = sym (same_place bytes one.at other.at one.field.ends other.field.ends rest_is) in
         let before : other.before ≡ one.before = joined ∙ append-nil one.before in
-        let there : ItemFails key value one.before bytes one.at other_why = subst (λ (at : ℕ). ItemFails key value one.before bytes at other_why) place (subst (λ (l : List (Item key value)). ItemFails key value l bytes other.at other_why) before other.fails) in
+        let there : ItemFails key value one.before bytes one.at other_why = subst (λ (at : ℕ). ItemFails key value one.before bytes at other_why) place (subst (λ (l : List (PlainItem key value)). ItemFails key value l bytes other.at other_why) before other.fails) in
         item_why key value one.before bytes one.at why other_why one.fails there
     by_next (next ∷ after) joined rest_is =
         let fits : ItemFits key value next = item_at (ItemFits key value) one.before after next (subst (All (ItemFits key value)) joined other.items_fit) in
@@ -189,7 +189,7 @@ stops_why key value bytes why other_why one other =
     ]
 
 -- the bytes of a whole map don't stop short
-items_go_on : (key value : Plain) (bytes : List ℕ) (items : List (Item key value)) (why : Why) → All (ItemFits key value) items → KeysDiffer items → bytes ≡ flat_map (item_text key value) items → MapStops key value bytes why → ⊥
+items_go_on : (key value : Plain) (bytes : List ℕ) (items : List (PlainItem key value)) (why : Why) → All (ItemFits key value) items → KeysDiffer items → bytes ≡ flat_map (item_text key value) items → MapStops key value bytes why → ⊥
 items_go_on key value bytes items why fit differ is stops =
     elim (lists_meet (item_text key value) (ItemFits key value) (items_apart key value) stops.before (drop stops.at bytes) items [] stops.items_fit fit (sym stops.field.spelled_there ∙ is ∙ sym (append-nil (flat_map (item_text key value) items)))) [
       | inl more ↦ by_next more.0 more.1 more.2
@@ -199,7 +199,7 @@ items_go_on key value bytes items why fit differ is stops =
     nothing_left : (front : List ℕ) → [] ≡ front ++ drop stops.at bytes → ⊥
     nothing_left front none = absurd (omega (arith, ap length none, length-append front (drop stops.at bytes), length-drop stops.at bytes, stops.begins))
 
-    by_next : (after : List (Item key value)) → items ≡ stops.before ++ after → drop stops.at bytes ≡ flat_map (item_text key value) after ++ [] → ⊥
+    by_next : (after : List (PlainItem key value)) → items ≡ stops.before ++ after → drop stops.at bytes ≡ flat_map (item_text key value) after ++ [] → ⊥
     by_next [] joined rest_is = absurd (omega (arith, ap length rest_is, length-drop stops.at bytes, stops.begins))
     by_next (next ∷ after) joined rest_is =
         let fits : ItemFits key value next = item_at (ItemFits key value) stops.before after next (subst (All (ItemFits key value)) joined fit) in
@@ -215,7 +215,7 @@ map_fails key value content at BadLength whole stops = (whole, stops)
 map_fails key value content at DoubleKey whole stops = (whole, stops)
 
 -- a map that stands there is read
-pub map_not_refused : (key value : Plain) (content : List ℕ) (at : ℕ) (items : List (Item key value)) (rest : List ℕ) (why : Why) → length (flat_map (item_text key value) items) < 2 ^ 32 → All (ItemFits key value) items → KeysDiffer items → drop at content ≡ string (flat_map (item_text key value) items) ++ rest → MapFails key value content at why → ⊥
+pub map_not_refused : (key value : Plain) (content : List ℕ) (at : ℕ) (items : List (PlainItem key value)) (rest : List ℕ) (why : Why) → length (flat_map (item_text key value) items) < 2 ^ 32 → All (ItemFits key value) items → KeysDiffer items → drop at content ≡ string (flat_map (item_text key value) items) ++ rest → MapFails key value content at why → ⊥
 map_not_refused key value content at items rest why fits fit differ is fails = by_cause why fails
   where
     texts : List ℕ

@@ -3,7 +3,7 @@ use Rattle.std.specs.Prelude.{◌≡◌, ℕ, zero, suc, ◌+◌, List, [], ◌�
 use Rattle.mcap_wire.specs.declared.faults.Why.{Why}
 use Rattle.mcap_wire.specs.Layout.{number}
 use Rattle.mcap_wire.specs.Maps.{a_uint, KeysDiffer, MapStops}
-use Rattle.mcap_wire.specs.Arrays.{IsEntry, entry_texts}
+use Rattle.mcap_wire.specs.Arrays.{EntryFits, entry_texts}
 
 -- the first entries, of which each begins with a number of n bytes
 unfoldable pub entries_in : ℕ → ℕ → List ℕ → List (ℕ × ℕ)
@@ -13,7 +13,7 @@ entries_in n (suc count) bytes = (number (take n bytes), number (take 8 (drop n 
 -- these bytes are an array of so many entries
 pub record HoldsArray (n : ℕ) (bytes : List ℕ) (count : ℕ) : Type 0 where
   pub spelled : bytes ≡ entry_texts n (entries_in n count bytes)
-  pub entries_fit : All (IsEntry n) (entries_in n count bytes)
+  pub entries_fit : All (EntryFits n) (entries_in n count bytes)
 
 -- these bytes are a map of so many counts
 pub record HoldsCounts (bytes : List ℕ) (count : ℕ) : Type 0 where

@@ -8,9 +8,9 @@ use Rattle.mcap_wire.specs.Maps.{KeysDiffer}
 use Rattle.mcap_wire.specs.ArrayBytes.{entries_in, HoldsArray, HoldsCounts}
 
 -- the entries that stand there
-abbrev pub entries_of : EntriesPlace → ℕ → List (ℕ × ℕ)
-entries_of (entries.Bytes bytes) count = entries_in 8 count bytes.now
-entries_of (entries.List list) count = list.now
+abbrev pub entries_there : EntriesPlace → ℕ → List (ℕ × ℕ)
+entries_there (entries.Bytes bytes) count = entries_in 8 count bytes.now
+entries_there (entries.List list) count = list.now
 
 -- so many entries stand there
 abbrev pub HasEntries : EntriesPlace → ℕ → Type 0

@@ -22,7 +22,7 @@ abbrev pub array_text : ℕ → List (ℕ × ℕ) → List ℕ
 array_text n entries = le 4 (length (entry_texts n entries)) ++ entry_texts n entries
 
 -- the numbers of an entry fit in their bytes
-pub record IsEntry (n : ℕ) (entry : ℕ × ℕ) : Type 0 where
+pub record EntryFits (n : ℕ) (entry : ℕ × ℕ) : Type 0 where
   pub first_fits : entry.0 < 256 ^ n
   pub second_fits : entry.1 < 256 ^ 8
 
@@ -31,7 +31,7 @@ pub record ArrayAt (n : ℕ) (content : List ℕ) (at : ℕ) (entries : List (�
   pub field : FieldAt content at end (array_text n entries)
   pub size : end ≡ at + 4 + length (entry_texts n entries)
   pub fits : length (entry_texts n entries) < 2 ^ 32
-  pub entries_fit : All (IsEntry n) entries
+  pub entries_fit : All (EntryFits n) entries
 
 -- ---- arrays of entries, each two numbers of eight bytes
 

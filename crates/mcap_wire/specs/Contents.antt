@@ -3,7 +3,7 @@ use Rattle.std.specs.Prelude.{◌≡◌, ◌⊎◌, ℕ, suc, ◌^◌, ◌<◌, 
 use Rattle.mcap_wire.specs.declared.faults.Why.{Why}
 use Rattle.mcap_wire.specs.Layout.{le, string, prefixed}
 use Rattle.mcap_wire.specs.Reading.{NumberAt, NumberFails, TextAt, TextFails, BytesAt, BytesFail}
-use Rattle.mcap_wire.specs.Arrays.{IsEntry, entry_texts, array_text, ArrayAt, EntriesFail, CountsAt, CountsFail}
+use Rattle.mcap_wire.specs.Arrays.{EntryFits, entry_texts, array_text, ArrayAt, EntriesFail, CountsAt, CountsFail}
 use Rattle.mcap_wire.specs.Maps.{KeysDiffer, IsTextMap, pair_texts, text_map, PairsAt, PairsFail}
 
 -- what a field is: a number of some bytes, a text, bytes behind their length of some bytes, a map of texts, an array of entries, or a map of counts
@@ -41,8 +41,8 @@ FieldFits (a_number n) value = value < 256 ^ n
 FieldFits a_text text = (length text < 2 ^ 32) × IsUtf8 text
 FieldFits (some_bytes n) bytes = length bytes < 256 ^ n
 FieldFits a_text_map pairs = (length (pair_texts pairs) < 2 ^ 32) × IsTextMap pairs
-FieldFits an_array entries = (length (entry_texts 8 entries) < 2 ^ 32) × All (IsEntry 8) entries
-FieldFits a_count_map counts = (length (entry_texts 2 counts) < 2 ^ 32) × All (IsEntry 2) counts × KeysDiffer counts
+FieldFits an_array entries = (length (entry_texts 8 entries) < 2 ^ 32) × All (EntryFits 8) entries
+FieldFits a_count_map counts = (length (entry_texts 2 counts) < 2 ^ 32) × All (EntryFits 2) counts × KeysDiffer counts
 
 -- a field stands from one offset to another
 abbrev pub FieldStands : (kind : Kind) → List ℕ → ℕ → Value kind → ℕ → Type 0

@@ -34,9 +34,9 @@ pub record BelongsAt (bytes places key : List ℕ) (i : ℕ) : Type 0 where
   pub behind : AllWithin (λ p. IsBelow key (text_bytes bytes p)) places i (length places)
 
 -- where a key belongs among ascending ones; or it is one of them
-abbrev pub StandsAt : List ℕ → List ℕ → List ℕ → Option ℕ → Type 0
-StandsAt bytes places key (Some i) = BelongsAt bytes places key i
-StandsAt bytes places key None = Any (λ p. text_bytes bytes p ≡ key) places
+abbrev pub FindsKeyPlace : List ℕ → List ℕ → List ℕ → Option ℕ → Type 0
+FindsKeyPlace bytes places key (Some i) = BelongsAt bytes places key i
+FindsKeyPlace bytes places key None = Any (λ p. text_bytes bytes p ≡ key) places
 
 -- whether a key is above a bound, if there is one
 abbrev pub is_above : Option (Bor (List ℕ)) → List ℕ → Bool
@@ -50,29 +50,29 @@ abbrev pub window_room : ℕ
 window_room = 4096
 
 -- the places in a window
-abbrev pub kept : Window → List ℕ
-kept w = take w.len w.places
+abbrev pub kept_places : Window → List ℕ
+kept_places w = take w.len w.places
 
 pub record IsWindow (bytes : List ℕ) (w : Window) : Type 0 where
   pub places : length w.places ≡ window_room
   pub fits : w.len ≤ window_room
   pub full : w.passed ≡ true → w.len ≡ window_room
-  pub texts : All (TextThere bytes) (kept w)
-  pub order : KeysGoUp bytes (kept w)
+  pub texts : All (TextThere bytes) (kept_places w)
+  pub order : KeysGoUp bytes (kept_places w)
 
 -- a key stands in a window
 abbrev pub IsHeld : List ℕ → Window → List ℕ → Type 0
-IsHeld bytes w key = Any (λ p. text_bytes bytes p ≡ key) (kept w)
+IsHeld bytes w key = Any (λ p. text_bytes bytes p ≡ key) (kept_places w)
 
 -- a key is above all in a window, which has passed by others
 pub record IsBeyond (bytes : List ℕ) (w : Window) (key : List ℕ) : Type 0 where
   pub passed : w.passed ≡ true
-  pub above : All (λ p. IsBelow (text_bytes bytes p) key) (kept w)
+  pub above : All (λ p. IsBelow (text_bytes bytes p) key) (kept_places w)
 
 -- a window has the smallest of the keys of these pairs that are above a bound, each of which one of them has
 pub record Sifts (bytes : List ℕ) (bound : Option (Bor (List ℕ))) (seen : List (List ℕ × List ℕ)) (w : Window) : Type 0 where
-  pub seen_before : All (λ p. HasKey seen (text_bytes bytes p)) (kept w)
-  pub above_bound : All (λ p. is_above bound (text_bytes bytes p) ≡ true) (kept w)
+  pub seen_before : All (λ p. HasKey seen (text_bytes bytes p)) (kept_places w)
+  pub above_bound : All (λ p. is_above bound (text_bytes bytes p) ≡ true) (kept_places w)
   pub smallest : All (λ s. is_above bound s.0 ≡ true → IsHeld bytes w s.0 ⊎ IsBeyond bytes w s.0) seen
   pub once : AllPairs (λ s t. IsHeld bytes w s.0 → s.0 ≢ t.0) seen
 

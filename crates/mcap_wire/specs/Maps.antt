@@ -59,27 +59,27 @@ LacksKey items key = All (λ p. p.0 ≢ key) items
 
 -- ---- what stops the reading of a map
 
-abbrev pub Item : Plain → Plain → Type 0
-Item key value = PlainValue key × PlainValue value
+abbrev pub PlainItem : Plain → Plain → Type 0
+PlainItem key value = PlainValue key × PlainValue value
 
 -- an item: its key, then its value
-abbrev pub item_text : (key value : Plain) → Item key value → List ℕ
+abbrev pub item_text : (key value : Plain) → PlainItem key value → List ℕ
 item_text key value item = plain_text key item.0 ++ plain_text value item.1
 
-abbrev pub ItemFits : (key value : Plain) → Item key value → Type 0
+abbrev pub ItemFits : (key value : Plain) → PlainItem key value → Type 0
 ItemFits key value item = PlainFits key item.0 × PlainFits value item.1
 
 -- behind these items a key can't be read, or a key that none of them has is read and the value behind it can't be
-abbrev pub KeyOrValueFails : (key value : Plain) → List (Item key value) → List ℕ → ℕ → Why → Type 0
+abbrev pub KeyOrValueFails : (key value : Plain) → List (PlainItem key value) → List ℕ → ℕ → Why → Type 0
 KeyOrValueFails key value before bytes at why = PlainFails key bytes at why
     ⊎ ((k : PlainValue key) × (end : ℕ) × PlainAt key bytes at k end × LacksKey before k × PlainFails value bytes end why)
 
 -- behind these items stands the key of one of them
-abbrev pub KeyIsDouble : (key value : Plain) → List (Item key value) → List ℕ → ℕ → Type 0
+abbrev pub KeyIsDouble : (key value : Plain) → List (PlainItem key value) → List ℕ → ℕ → Type 0
 KeyIsDouble key value before bytes at = (k : PlainValue key) × (end : ℕ) × PlainAt key bytes at k end × HasKey before k
 
 -- why the item behind these can't be read: it is cut short, a text of it is whole and isn't UTF-8, or its key stands before
-abbrev pub ItemFails : (key value : Plain) → List (Item key value) → List ℕ → ℕ → Why → Type 0
+abbrev pub ItemFails : (key value : Plain) → List (PlainItem key value) → List ℕ → ℕ → Why → Type 0
 ItemFails key value before bytes at Short = ⊥
 ItemFails key value before bytes at BadText = KeyOrValueFails key value before bytes at BadText
 ItemFails key value before bytes at BadLength = KeyOrValueFails key value before bytes at Short
@@ -87,7 +87,7 @@ ItemFails key value before bytes at DoubleKey = KeyIsDouble key value before byt
 
 -- some items can be read from the front, and another begins behind them and can't be
 pub record MapStops (key value : Plain) (bytes : List ℕ) (why : Why) : Type 0 where
-  pub before : List (Item key value)
+  pub before : List (PlainItem key value)
   pub at : ℕ
   pub field : FieldAt bytes 0 at (flat_map (item_text key value) before)
   pub items_fit : All (ItemFits key value) before

@@ -66,6 +66,6 @@ PartFails bytes at BadText = TextIsBad bytes at
 PartFails bytes at BadLength = TextIsShort bytes at
 PartFails bytes at DoubleKey = ⊥
 
-abbrev pub ReadsPart : List ℕ → ℕ → Result (Bor (List ℕ) × ℕ) Why → Type 0
-ReadsPart bytes at (Ok r) = TextAt bytes at r.0.now r.1
-ReadsPart bytes at (Err why) = PartFails bytes at why
+abbrev pub ReadsPairText : List ℕ → ℕ → Result (Bor (List ℕ) × ℕ) Why → Type 0
+ReadsPairText bytes at (Ok r) = TextAt bytes at r.0.now r.1
+ReadsPairText bytes at (Err why) = PartFails bytes at why

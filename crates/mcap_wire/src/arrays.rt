@@ -29,9 +29,9 @@ impl<'a> Model for EntriesRef<'a> {
 
     ghost Value = { List (ℕ × ℕ) };
 
-    ghost use Rattle.mcap_wire.specs.ArrayPlaces.{entries_of, HasEntries};
+    ghost use Rattle.mcap_wire.specs.ArrayPlaces.{entries_there, HasEntries};
 
-    ghost view = { λ e. entries_of e.place e.count };
+    ghost view = { λ e. entries_there e.place e.count };
 
     ghost invariant = { λ e. HasEntries e.place e.count };
 }

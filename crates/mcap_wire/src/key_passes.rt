@@ -4,7 +4,7 @@ ghost use Rattle.std.specs.Prelude.{◌≡◌, ◌+◌, ◌-◌, ◌^◌, ◌<�
 ghost use Rattle.mcap_wire.specs.Reading.{text_bytes};
 ghost use Rattle.mcap_wire.specs.Maps.{HasKey, KeysDiffer};
 ghost use Rattle.mcap_wire.specs.PairBytes.{pairs_in, SpellsPairs, KeyTwice};
-ghost use Rattle.mcap_wire.specs.KeyPasses.{TextThere, KeysGoUp, StandsAt, is_above, window_room, IsWindow, Sifts, PassShows};
+ghost use Rattle.mcap_wire.specs.KeyPasses.{TextThere, KeysGoUp, FindsKeyPlace, is_above, window_room, IsWindow, Sifts, PassShows};
 
 use crate::pair_bytes::bytes_there;
 use std::cmp::Ordering;
@@ -41,7 +41,7 @@ fn key_there(bytes: &[u8], place: u32) -> &[u8]
 fn find(bytes: &[u8], places: &[u32], key: &[u8]) -> Option<usize>
     requires texts { All (TextThere bytes.now) places.now }
     requires order { KeysGoUp bytes.now places.now }
-    ensures { StandsAt bytes.now places.now key.now result }
+    ensures { FindsKeyPlace bytes.now places.now key.now result }
 {
     let mut low = 0;
     let mut high = places.len();

@@ -4,7 +4,7 @@ ghost use Rattle.std.specs.Cmp.Lexicographic.{slice_cmp};
 ghost use Rattle.std.specs.Ordering.{nat_cmp, is_gt};
 ghost use Rattle.mcap_wire.specs.Reading.{TextAt, text_length, text_bytes};
 ghost use Rattle.mcap_wire.specs.Maps.{HasKey, LacksKey};
-ghost use Rattle.mcap_wire.specs.PairBytes.{pairs_in, SpellsPairs, HoldsMap, NoneAbove, TextStands, CountsPairs, ReadsPart, IsFirstFault, IsFirstFaultBehind, IsPlaceOf};
+ghost use Rattle.mcap_wire.specs.PairBytes.{pairs_in, SpellsPairs, HoldsMap, NoneAbove, TextStands, CountsPairs, ReadsPairText, IsFirstFault, IsFirstFaultBehind, IsPlaceOf};
 
 use crate::faults::{Memory, Why};
 use crate::key_passes::has_double;
@@ -85,7 +85,7 @@ fn larger<'a>(one: &'a [u8], other: &'a [u8]) -> &'a [u8]
 // Reads a text of a pair: bytes that end inside it aren't a whole number of pairs.
 fn take_part(bytes: &[u8], at: usize) -> Result<(&str, usize), Why>
     requires { at ≤ length bytes.now }
-    ensures { ReadsPart bytes.now at result }
+    ensures { ReadsPairText bytes.now at result }
 {
     match take_text(bytes, at) {
         Ok(read) => Ok(read),

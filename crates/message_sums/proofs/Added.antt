@@ -17,7 +17,7 @@ use Rattle.mcap_model.proofs.ShownMessages.{is_message_placed}
 use Rattle.mcap_model.proofs.NamedTopics.{shown_once}
 use Rattle.message_sums.specs.declared.sums.Sums.{Sums}
 use Rattle.message_sums.specs.Sums.{with_message}
-use Rattle.message_sums.specs.Reading.{fields_of, with_messages, Adds}
+use Rattle.message_sums.specs.Reading.{fields_seen, with_messages, AddsToSums}
 
 -- ---- lists
 
@@ -31,13 +31,13 @@ zip_parts {X} {Y} R (x ∷ xs) us (z ∷ zs) zip =
 
 pub with_joined : (sums : Sums) (ms ns : List Seen) → with_messages sums (ms ++ ns) ≡ with_messages (with_messages sums ms) ns
 with_joined sums ms ns =
-    ap (fold with_message sums) (map-append (λ (s : Seen). s.message) ms ns) ∙ fold-append with_message sums (fields_of ms) (fields_of ns)
+    ap (fold with_message sums) (map-append (λ (s : Seen). s.message) ms ns) ∙ fold-append with_message sums (fields_seen ms) (fields_seen ns)
 
-pub adds_none : (old : Sums) → Adds [] old old
+pub adds_none : (old : Sums) → AddsToSums [] old old
 adds_none old records [] zip = refl
 adds_none old records (m ∷ ms) zip = absurd zip
 
-pub adds_more : (ps qs : List Placed) (old mid new : Sums) → Adds ps old mid → Adds qs mid new → Adds (ps ++ qs) old new
+pub adds_more : (ps qs : List Placed) (old mid new : Sums) → AddsToSums ps old mid → AddsToSums qs mid new → AddsToSums (ps ++ qs) old new
 adds_more ps qs old mid new one other = λ records messages zip.
     let parts = zip_parts (IsSeen records) (filter is_message_placed ps) (filter is_message_placed qs) messages (subst (λ (l : List Placed). AllZip (IsSeen records) l messages) (filter-append is_message_placed ps qs) zip) in
     other records parts.1 parts.4
@@ -46,7 +46,7 @@ adds_more ps qs old mid new one other = λ records messages zip.
     ∙ ap (with_messages old) (sym parts.2)
 
 -- no message
-pub other_kind : (p : Placed) (old : Sums) → (p.top.op ≡ 5 → ⊥) → Adds (p ∷ []) old old
+pub other_kind : (p : Placed) (old : Sums) → (p.top.op ≡ 5 → ⊥) → AddsToSums (p ∷ []) old old
 other_kind p old other = λ records messages zip.
     adds_none old records messages (subst (λ (b : Bool). AllZip (IsSeen records) (cond b (p ∷ []) []) messages) (ne_eqb p.top.op 5 other) zip)
 
@@ -56,7 +56,7 @@ abbrev fields_shown : Shown → MessageFields
 fields_shown s = record { sequence = s.sequence; log_time = s.log_time; publish_time = s.publish_time; payload = s.payload }
 
 -- the message that was read is the one that is seen
-pub message_added : (place : Place) (content : List ℕ) (old : Sums) (s : Shown) → s.place ≡ place → ShowsMessage content s.channel (fields_shown s) → Adds (record { place = place; top = top 5 content } ∷ []) old (with_message old (fields_shown s))
+pub message_added : (place : Place) (content : List ℕ) (old : Sums) (s : Shown) → s.place ≡ place → ShowsMessage content s.channel (fields_shown s) → AddsToSums (record { place = place; top = top 5 content } ∷ []) old (with_message old (fields_shown s))
 message_added place content old s there shows records [] zip = absurd zip
 message_added place content old s there shows records (m ∷ []) zip =
     let same = shown_once records (record { place = place; top = top 5 content }) m s zip.0 (record { place = sym there; is = record { kind = refl; layout = shows } }) in
@@ -64,6 +64,6 @@ message_added place content old s there shows records (m ∷ []) zip =
 message_added place content old s there shows records (m ∷ n ∷ ms) zip = absurd zip.1
 
 -- there is none
-pub message_absent : (place : Place) (content : List ℕ) (old : Sums) → ((channel : ℕ) (f : MessageFields) → ShowsMessage content channel f → ⊥) → Adds (record { place = place; top = top 5 content } ∷ []) old old
+pub message_absent : (place : Place) (content : List ℕ) (old : Sums) → ((channel : ℕ) (f : MessageFields) → ShowsMessage content channel f → ⊥) → AddsToSums (record { place = place; top = top 5 content } ∷ []) old old
 message_absent place content old none records [] zip = absurd zip
 message_absent place content old none records (m ∷ ms) zip = let seen = zip.0 in let is = seen.is in absurd (none m.channel m.message is.layout)

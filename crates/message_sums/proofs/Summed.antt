@@ -17,8 +17,8 @@ use Rattle.record_walk.specs.declared.flat_reader.FlatReader.{FlatReader}
 use Rattle.record_walk.specs.Walking.{flat_content, placed_at, FlatStands, FlatGives, FlatFinds}
 use Rattle.record_walk.proofs.Walked.{walked_messages}
 use Rattle.message_sums.specs.declared.sums.Sums.{Sums}
-use Rattle.message_sums.specs.Sums.{value_of, bytes_of, sums_of, with_message}
-use Rattle.message_sums.specs.Reading.{fields_of, with_messages, Adds, SumsAll}
+use Rattle.message_sums.specs.Sums.{value_of, bytes_in_payload, sums_of, with_message}
+use Rattle.message_sums.specs.Reading.{fields_seen, with_messages, AddsToSums, SumsAll}
 use Rattle.message_sums.proofs.Added.{adds_none, adds_more}
 
 -- ---- sums
@@ -31,9 +31,9 @@ one_more before m =
     let more : (f : MessageFields → ℕ) → (sum_by f before % k + f m) % k ≡ sum_by f (before ++ m ∷ []) % k = λ f.
     let last : sum_by f before + f m ≡ sum_by f before + sum_by f (m ∷ []) = omega arith in
     mod-add-mod (sum_by f before) k (f m) ∙ ap (λ (n : ℕ). n % k) (last ∙ sym (sum_by-append f before (m ∷ []))) in
-    ap (λ (n : ℕ). record { messages = n; bytes = (sum_by bytes_of before % k + bytes_of m) % k; total = (sum_by value_of before % k + value_of m) % k }) count
-    ∙ ap (λ (n : ℕ). record { messages = length (before ++ m ∷ []) % k; bytes = n; total = (sum_by value_of before % k + value_of m) % k }) (more bytes_of)
-    ∙ ap (λ (n : ℕ). record { messages = length (before ++ m ∷ []) % k; bytes = sum_by bytes_of (before ++ m ∷ []) % k; total = n }) (more value_of)
+    ap (λ (n : ℕ). record { messages = n; bytes = (sum_by bytes_in_payload before % k + bytes_in_payload m) % k; total = (sum_by value_of before % k + value_of m) % k }) count
+    ∙ ap (λ (n : ℕ). record { messages = length (before ++ m ∷ []) % k; bytes = n; total = (sum_by value_of before % k + value_of m) % k }) (more bytes_in_payload)
+    ∙ ap (λ (n : ℕ). record { messages = length (before ++ m ∷ []) % k; bytes = sum_by bytes_in_payload (before ++ m ∷ []) % k; total = n }) (more value_of)
 
 folded : (before ms : List MessageFields) → fold with_message (sums_of before) ms ≡ sums_of (before ++ ms)
 folded before [] = ap sums_of (sym (append-nil before))
@@ -42,8 +42,8 @@ folded before (m ∷ ms) =
     ∙ folded (before ++ m ∷ []) ms
     ∙ ap sums_of (append_assoc before (m ∷ []) ms)
 
-pub all_summed : (messages : List Seen) (sums : Sums) → sums ≡ with_messages (sums_of []) messages → sums ≡ sums_of (fields_of messages)
-all_summed messages sums are = are ∙ folded [] (fields_of messages)
+pub all_summed : (messages : List Seen) (sums : Sums) → sums ≡ with_messages (sums_of []) messages → sums ≡ sums_of (fields_seen messages)
+all_summed messages sums are = are ∙ folded [] (fields_seen messages)
 
 -- ---- records that are read
 
@@ -52,15 +52,15 @@ pub record SumsSoFar (flat : FlatReader) (before now : SourceState) (sums : Sums
   pub tops : List Top
   pub given : List Placed
   pub stands : FlatStands flat before now tops given
-  pub adds : Adds given (sums_of []) sums
+  pub adds : AddsToSums given (sums_of []) sums
 
 -- nothing was read
 pub sums_begin : (flat : FlatReader) (before : SourceState) (sums : Sums) → FlatStands flat before before [] [] → sums ≡ sums_of [] → SumsSoFar flat before before sums
-sums_begin flat before sums stands none = record { tops = []; given = []; stands = stands; adds = subst (Adds [] (sums_of [])) (sym none) (adds_none (sums_of [])) }
+sums_begin flat before sums stands none = record { tops = []; given = []; stands = stands; adds = subst (AddsToSums [] (sums_of [])) (sym none) (adds_none (sums_of [])) }
 
 -- a record more
 pub sums_on : (flat flat_new : FlatReader) (before now now_new : SourceState) (old new : Sums) (op : ℕ) (place : Place) (was : SumsSoFar flat before now old) → FlatGives flat_new before now_new was.tops was.given op place
-    → Adds (placed_at place op (flat_content flat_new) ∷ []) old new → SumsSoFar flat_new before now_new new
+    → AddsToSums (placed_at place op (flat_content flat_new) ∷ []) old new → SumsSoFar flat_new before now_new new
 sums_on flat flat_new before now now_new old new op place was gives adds =
     let p = placed_at place op (flat_content flat_new) in
     record { tops = gives.tops; given = was.given ++ p ∷ []; stands = gives.stands; adds = adds_more was.given (p ∷ []) (sums_of []) old new was.adds adds }

@@ -8,13 +8,13 @@ use Rattle.message_sums.specs.declared.sums.Sums.{Sums}
 abbrev pub value_of : MessageFields → ℕ
 value_of m = m.log_time + sum m.payload
 
-abbrev pub bytes_of : MessageFields → ℕ
-bytes_of m = length m.payload
+abbrev pub bytes_in_payload : MessageFields → ℕ
+bytes_in_payload m = length m.payload
 
 abbrev pub sums_of : List MessageFields → Sums
 sums_of messages = record {
   messages = length messages % 2 ^ 64;
-  bytes = sum_by bytes_of messages % 2 ^ 64;
+  bytes = sum_by bytes_in_payload messages % 2 ^ 64;
   total = sum_by value_of messages % 2 ^ 64;
 }
 
@@ -22,6 +22,6 @@ sums_of messages = record {
 abbrev pub with_message : Sums → MessageFields → Sums
 with_message sums m = record {
   messages = (sums.messages + 1) % 2 ^ 64;
-  bytes = (sums.bytes + bytes_of m) % 2 ^ 64;
+  bytes = (sums.bytes + bytes_in_payload m) % 2 ^ 64;
   total = (sums.total + value_of m) % 2 ^ 64;
 }

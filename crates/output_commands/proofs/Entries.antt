@@ -8,7 +8,7 @@ use Rattle.mcap_io.specs.declared.outside.ObjectKind.TheVariants as kinds
 use Rattle.mcap_model.specs.Places.{Each}
 use Rattle.command_base.specs.Ran.{has_failed, failed_so, kept_failed, failures_keeping, failures_opening, object_faults, source_faults, live_faults, world_faults, input_faults, output_faults, wanted, AreOpened, Leaves, CountsKept, failed_names, blamed_names}
 use Rattle.command_base.proofs.Counting.{failed_often}
-use Rattle.output_commands.specs.SomeOutput.{files_of, failed_of, some_failed, NamesKept}
+use Rattle.output_commands.specs.SomeOutput.{inputs_and_output, failed_of, some_failed, NamesKept}
 
 -- ---- lists of entries
 
@@ -159,7 +159,7 @@ pub record EntriesTell (inputs : List (List ℕ)) (old new : WorldState) (entrie
   pub counts : CountsKept old new entries
 
 pub names_kept_by : (inputs : List (List ℕ)) (out : List ℕ) (old new : WorldState) (entries : List Opening) (inputs_failed : List Bool) (out_failed : Bool) → EntriesTell inputs old new entries inputs_failed out_failed
-    → AreOpened (wanted (files_of inputs out)) entries → Leaves old new entries → failed_names entries ≡ blamed_names (files_of inputs out) (failed_of inputs_failed out_failed)
+    → AreOpened (wanted (inputs_and_output inputs out)) entries → Leaves old new entries → failed_names entries ≡ blamed_names (inputs_and_output inputs out) (failed_of inputs_failed out_failed)
     → old.faults < 2 ^ 64 → old.input_faults < 2 ^ 64 → old.output_faults < 2 ^ 64 → NamesKept inputs out old new entries inputs_failed out_failed
 names_kept_by inputs out old new entries inputs_failed out_failed it opened leaves names world_fits inputs_fit outputs_fit =
     let world : world_faults entries ≡ world_faults it.read + world_faults it.written = ap world_faults it.parts ∙ world_faults-append it.read it.written in

@@ -2,7 +2,7 @@
 use Rattle.std.proofs.Common.{◌≡◌, ℕ, Bool, false, List, [], ◌∷◌, Option, Some, None, refl, ap}
 use Rattle.command_base.specs.Texts.{Trouble}
 use Rattle.command_base.specs.OneFile as one
-use Rattle.output_commands.specs.SomeOutput.{halts_at, halts_in, is_limited, is_lack}
+use Rattle.output_commands.specs.SomeOutput.{halts_at, halts_in, is_limited, is_merge_lack}
 use Rattle.output_commands.specs.Merge.{ending_at}
 
 pub halted_some : (n : ℕ) (trouble : Trouble) (ending : one.Ending) → trouble ∷ [] ≡ one.troubles_in ending → halts_at n trouble ≡ halts_in (ending_at n ending)
@@ -25,7 +25,7 @@ halted_unlimited n one.failing = refl
 halted_unlimited n one.lacked = refl
 
 -- memory lacks for all where it does for the one
-pub halted_lack : (n : ℕ) (ending : one.Ending) → one.is_lack ending ≡ is_lack (ending_at n ending)
+pub halted_lack : (n : ℕ) (ending : one.Ending) → one.is_lack ending ≡ is_merge_lack (ending_at n ending)
 halted_lack n (one.was_read text) = refl
 halted_lack n (one.halted trouble) = refl
 halted_lack n one.failing = refl

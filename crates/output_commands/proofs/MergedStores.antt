@@ -3,7 +3,7 @@ use Rattle.std.proofs.Common.{◌≡◌, ◌⊎◌, ◌<◌, ℕ, zero, suc, Boo
 use Rattle.std.specs.Prelude.{IfOk, IfErr}
 use Rattle.std.specs.List.{AllZip}
 use Rattle.std.proofs.lemmas.Option.{same_Some}
-use Rattle.mcap_io.specs.Outside.{Told, went_well, Names, Placed, LiveState, WorldState, Opening}
+use Rattle.mcap_io.specs.Outside.{Told, went_well, Names, PlacedUnder, LiveState, WorldState, Opening}
 use Rattle.mcap_io.specs.Stores.{StoreState, IsUnused, TellsStore}
 use Rattle.mcap_io.specs.declared.outside.Failed.{Failed}
 use Rattle.rec_data.specs.declared.owned.Rec.{Rec}
@@ -23,16 +23,16 @@ use Rattle.chunk_writer.specs.Stops.{StopCause}
 use Rattle.mcap_merge.specs.declared.answers.Merged.{Merged}
 use Rattle.mcap_merge.specs.declared.answers.MergeRefused.{MergeRefused}
 use Rattle.mcap_merge.specs.declared.answers.MergeRefused.TheVariants as merges
-use Rattle.mcap_merge.specs.Inputs.{Read, tops_of}
-use Rattle.mcap_merge.specs.Reading.{IsReadOf, CountStands, HaltsFirst, OneRose}
+use Rattle.mcap_merge.specs.Inputs.{Read, read_tops}
+use Rattle.mcap_merge.specs.Reading.{IsReadOf, FaultsStand, HaltsFirst, InputRose}
 use Rattle.mcap_merge.specs.Filed.{merged_options, AllTell, TellsNot, MergeIs, FileStands, MergeStops, MergeIsCut, MergesInto, MergeFails}
 use Rattle.command_base.specs.Texts.{Trouble, grammar, compressed, limit, asked_status}
 use Rattle.command_base.specs.Ran.{failed_so, has_failed}
 use Rattle.command_base.proofs.Counting.{failed_often}
 use Rattle.output_commands.specs.declared.merging.Merging.{Merging}
-use Rattle.output_commands.specs.SomeInputs.{InputKept, entry_of, back_stores}
-use Rattle.output_commands.specs.SomeOutput.{halted, failing, ending_status, HaltsWell, some_failed}
-use Rattle.output_commands.specs.Merge.{HoldsBytes, HoldsFirst, HoldsNothing, OutputHolds, MergesStores, unopened_so, some_refused, merging_of, IsMerging, name_at, ending_of, FirstHalts, OfRead, Decides}
+use Rattle.output_commands.specs.SomeInputs.{InputKept, input_entry, back_stores}
+use Rattle.output_commands.specs.SomeOutput.{halted, failing, joined_status, HaltsByInput, some_failed}
+use Rattle.output_commands.specs.Merge.{HoldsBytes, HoldsFirst, PutsNothing, MergeOutputHolds, MergesStores, unopened_so, some_refused, merging_of, IsMerging, name_at, ending_of_merging, FirstHalts, OfWholeFiles, MergeDecides}
 use Rattle.output_commands.proofs.Recoveries.{placed_so}
 
 -- what the library answers, by its clauses
@@ -55,7 +55,7 @@ files_told w told (i ∷ is) [] fs here tells there = absurd tells
 files_told w told (i ∷ is) (s ∷ ss) [] here tells there = absurd there
 files_told w told (i ∷ is) (s ∷ ss) (f ∷ fs) here tells there = ((tells.0 told here).0 ∙ there.0, files_told w told is ss fs here tells.1 there.1)
 
-are_read : (given : List StoreState) (files : List (List ℕ)) (reads : List Read) → AllZip TellsBytes given files → AllZip IsReadOf given reads → AreRead files (tops_of reads)
+are_read : (given : List StoreState) (files : List (List ℕ)) (reads : List Read) → AllZip TellsBytes given files → AllZip IsReadOf given reads → AreRead files (read_tops reads)
 are_read [] [] [] told are = tt
 are_read [] [] (r ∷ rs) told are = absurd are
 are_read [] (f ∷ fs) rs told are = absurd told
@@ -81,10 +81,10 @@ told_changes given files input told within none =
 merges_to : (given : List StoreState) (files : List (List ℕ)) (profile : List ℕ) (extras : List Top) (history : List Rec) → AllZip TellsBytes given files → MergeIs given profile extras history → MergesTo files profile extras history
 merges_to given files profile extras history told is =
     let of = is.of in
-    record { inputs = tops_of is.reads; read = are_read given files is.reads told is.are; merge = of (all_tell given files told) }
+    record { inputs = read_tops is.reads; read = are_read given files is.reads told is.are; merge = of (all_tell given files told) }
 
 -- so they were read
-were_read : (given : List StoreState) (files : List (List ℕ)) (profile : List ℕ) (extras : List Top) (history : List Rec) → AllZip TellsBytes given files → MergeIs given profile extras history → OfRead files (λ inputs. Unit {0})
+were_read : (given : List StoreState) (files : List (List ℕ)) (profile : List ℕ) (extras : List Top) (history : List Rec) → AllZip TellsBytes given files → MergeIs given profile extras history → OfWholeFiles files (λ inputs. Unit {0})
 were_read given files profile extras history told is = let it = merges_to given files profile extras history told is in (it.inputs, it.read, tt)
 
 -- ---- a writer that stops
@@ -104,9 +104,9 @@ not_channels stop e = cc
 
 -- ---- what the output holds
 
-module _ (chunk : ℕ) (given : List StoreState) (live stored : LiveState) (files : List (List ℕ)) (out : List ℕ) (all now : Names) (result : Result Unit Failed) (told : AllZip TellsBytes given files) (none : live.held ≡ Some []) (placed : (text : List ℕ) → stored.held ≡ Some text → Placed all now out text result) where
+module _ (chunk : ℕ) (given : List StoreState) (live stored : LiveState) (files : List (List ℕ)) (out : List ℕ) (all now : Names) (result : Result Unit Failed) (told : AllZip TellsBytes given files) (none : live.held ≡ Some []) (placed : (text : List ℕ) → stored.held ≡ Some text → PlacedUnder all now out text result) where
   -- where nothing was written
-  nothing_placed : stored ≡ live → HoldsNothing (went_well result) (all out) (now out)
+  nothing_placed : stored ≡ live → PutsNothing (went_well result) (all out) (now out)
   nothing_placed same = placed_so [] all now out result (placed [] (ap (λ (l : LiveState). l.held) same ∙ none))
 
   -- where the writer stopped, or was stopped
@@ -126,12 +126,12 @@ module _ (chunk : ℕ) (given : List StoreState) (live stored : LiveState) (file
         placed = placed_so text all now out result (placed text held);
       }
 
-  some_placed : (back : List StoreState) (why : MergeRefused) → (AllZip CountStands given back × MergeStops given live stored chunk why) ⊎ MergeIsCut given back live stored chunk why → HoldsFirst chunk files (went_well result) (all out) (now out)
+  some_placed : (back : List StoreState) (why : MergeRefused) → (AllZip FaultsStand given back × MergeStops given live stored chunk why) ⊎ MergeIsCut given back live stored chunk why → HoldsFirst chunk files (went_well result) (all out) (now out)
   some_placed back why (inl (still, it)) = first_placed it.profile it.extras it.history it.stop it.is it.stands
   some_placed back why (inr it) = first_placed it.profile it.extras it.history stops.Memory it.is it.stands
 
 pub output_holds : (chunk : ℕ) (given back : List StoreState) (live stored : LiveState) (answer : Result Merged MergeRefused) (files : List (List ℕ)) (out : List ℕ) (all now : Names) (result : Result Unit Failed) → MergesStores given back live stored chunk answer
-    → AllZip TellsBytes given files → live.held ≡ Some [] → ((text : List ℕ) → stored.held ≡ Some text → Placed all now out text result) → OutputHolds chunk files answer (went_well result) (all out) (now out)
+    → AllZip TellsBytes given files → live.held ≡ Some [] → ((text : List ℕ) → stored.held ≡ Some text → PlacedUnder all now out text result) → MergeOutputHolds chunk files answer (went_well result) (all out) (now out)
 output_holds chunk given back live stored (Ok m) files out all now result it told none placed = record {
   profile = it.profile;
   extras = it.extras;
@@ -180,18 +180,18 @@ output_holds chunk given back live stored (Err (merges.Stopped stops.Memory)) fi
 -- ---- which input halts
 
 -- the trouble of an input that halts, and its number
-halts_within : (inputs : List (List ℕ)) (k : ℕ) (trouble : Trouble) → k < length inputs → (asked_status trouble ≡ 1) ⊎ (asked_status trouble ≡ 4) → HaltsWell inputs (halted k trouble)
+halts_within : (inputs : List (List ℕ)) (k : ℕ) (trouble : Trouble) → k < length inputs → (asked_status trouble ≡ 1) ⊎ (asked_status trouble ≡ 4) → HaltsByInput inputs (halted k trouble)
 halts_within inputs k trouble within asked n other e =
     let number : k ≡ n = cc in
     let same : trouble ≡ other = cc in
     (omega (arith, number, within), subst (λ (t : Trouble). (asked_status t ≡ 1) ⊎ (asked_status t ≡ 4)) same asked)
 
-halted_so : (inputs : List (List ℕ)) (given : List StoreState) (k : ℕ) (trouble : Trouble) (P : List ℕ → Type 0) → length inputs ≡ length given → HaltsFirst given k P → (asked_status trouble ≡ 1) ⊎ (asked_status trouble ≡ 4) → HaltsWell inputs (halted k trouble)
+halted_so : (inputs : List (List ℕ)) (given : List StoreState) (k : ℕ) (trouble : Trouble) (P : List ℕ → Type 0) → length inputs ≡ length given → HaltsFirst given k P → (asked_status trouble ≡ 1) ⊎ (asked_status trouble ≡ 4) → HaltsByInput inputs (halted k trouble)
 halted_so inputs given k trouble P long (before, s, at, so) asked =
     let within = at_within given k s at in
     halts_within inputs k trouble (omega (arith, within, long)) asked
 
-pub merges_well : (inputs : List (List ℕ)) (chunk : ℕ) (given back : List StoreState) (live stored : LiveState) (answer : Result Merged MergeRefused) → length inputs ≡ length given → MergesStores given back live stored chunk answer → HaltsWell inputs (ending_of inputs (merging_of answer))
+pub merges_well : (inputs : List (List ℕ)) (chunk : ℕ) (given back : List StoreState) (live stored : LiveState) (answer : Result Merged MergeRefused) → length inputs ≡ length given → MergesStores given back live stored chunk answer → HaltsByInput inputs (ending_of_merging inputs (merging_of answer))
 merges_well inputs chunk given back live stored (Ok m) long it n trouble e = absurd cc
 merges_well inputs chunk given back live stored (Err (merges.Halted input (readings.Fault faults))) long it n trouble e = absurd cc
 merges_well inputs chunk given back live stored (Err (merges.Halted input (readings.Grammar offset rule))) long (inl (same, inl (still, first))) n trouble e = halted_so inputs given input (grammar (name_at inputs input) offset) _ long first (inl refl) n trouble e
@@ -228,24 +228,24 @@ or_second true b is = refl
 or_second false b is = is
 
 -- an input whose store failed is told of
-flag_at : (ks : List InputKept) (n : ℕ) (s : StoreState) → At (back_stores ks) n s → (s.faults ≡ 0 → ⊥) → some_failed (map (λ (k : InputKept). has_failed (entry_of k)) ks) ≡ true
+flag_at : (ks : List InputKept) (n : ℕ) (s : StoreState) → At (back_stores ks) n s → (s.faults ≡ 0 → ⊥) → some_failed (map (λ (k : InputKept). has_failed (input_entry k)) ks) ≡ true
 flag_at [] n s at some = absurd (at_none n s at)
-flag_at (k ∷ ks) zero s at some = or_first (has_failed (entry_of k)) _ (failed_often k.well k.back.faults (λ none. some (ap (λ (x : StoreState). x.faults) (sym (same_Some k.back s at)) ∙ none)))
-flag_at (k ∷ ks) (suc n) s at some = or_second (has_failed (entry_of k)) _ (flag_at ks n s at some)
+flag_at (k ∷ ks) zero s at some = or_first (has_failed (input_entry k)) _ (failed_often k.well k.back.faults (λ none. some (ap (λ (x : StoreState). x.faults) (sym (same_Some k.back s at)) ∙ none)))
+flag_at (k ∷ ks) (suc n) s at some = or_second (has_failed (input_entry k)) _ (flag_at ks n s at some)
 
 stop_shows : (stop : Stop) (faults before now : ℕ) (well : Bool) → merges.Stopped (stops.Fault faults) ≡ merges.Stopped stop → StopCause before now stop → before ≡ 0 → failed_so well now ≡ true
 stop_shows (stops.Fault count) faults before now well is cause new = failed_often well now (λ none. omega (arith, cause.0.once, none, new))
 stop_shows (stops.Limit blocks bytes) faults before now well is cause new = absurd cc
 stop_shows stops.Memory faults before now well is cause new = absurd cc
 
-one_shows : (given : List StoreState) (ks : List InputKept) (k faults : ℕ) → Each IsUnused given → OneRose given (back_stores ks) k faults → some_failed (map (λ (k : InputKept). has_failed (entry_of k)) ks) ≡ true
+one_shows : (given : List StoreState) (ks : List InputKept) (k faults : ℕ) → Each IsUnused given → InputRose given (back_stores ks) k faults → some_failed (map (λ (k : InputKept). has_failed (input_entry k)) ks) ≡ true
 one_shows given ks k faults unused (was, now, at_was, at_now, rises, count, others) =
     let none = (unused k was at_was).faults in
     flag_at ks k now at_now (λ zero_is. omega (arith, rises.once, none, zero_is))
 
 -- where the merge failed, a store did
 pub fault_shows : (inputs : List (List ℕ)) (chunk : ℕ) (given : List StoreState) (live stored : LiveState) (well : Bool) (ks : List InputKept) (answer : Result Merged MergeRefused) → MergesStores given (back_stores ks) live stored chunk answer → Each IsUnused given → live.faults ≡ 0
-    → ending_of inputs (merging_of answer) ≡ failing → (some_failed (map (λ (k : InputKept). has_failed (entry_of k)) ks) ≡ true) ⊎ (failed_so well stored.faults ≡ true)
+    → ending_of_merging inputs (merging_of answer) ≡ failing → (some_failed (map (λ (k : InputKept). has_failed (input_entry k)) ks) ≡ true) ⊎ (failed_so well stored.faults ≡ true)
 fault_shows inputs chunk given live stored well ks (Ok m) it unused new e = absurd cc
 fault_shows inputs chunk given live stored well ks (Err (merges.Halted input (readings.Fault faults))) (inl (same, inl rose)) unused new e = inl (one_shows given ks input faults unused rose)
 fault_shows inputs chunk given live stored well ks (Err (merges.Halted input (readings.Fault faults))) (inl (same, inr (still, reads, are, never))) unused new e = absurd never
@@ -282,7 +282,7 @@ first_halts given files n P told (before, s, at, so) =
     }
 
 merge_decides : (inputs : List (List ℕ)) (chunk : ℕ) (given back : List StoreState) (live stored : LiveState) (answer : Result Merged MergeRefused) (files : List (List ℕ)) (status : ℕ) → MergesStores given back live stored chunk answer → AllZip TellsBytes given files
-    → (ending_of inputs (merging_of answer) ≡ failing → ⊥) → status ≡ ending_status (ending_of inputs (merging_of answer)) → Decides files (merging_of answer) status
+    → (ending_of_merging inputs (merging_of answer) ≡ failing → ⊥) → status ≡ joined_status (ending_of_merging inputs (merging_of answer)) → MergeDecides files (merging_of answer) status
 merge_decides inputs chunk given back live stored (Ok m) files status it told other is = (were_read given files it.profile it.extras it.history told it.is, is)
 merge_decides inputs chunk given back live stored (Err (merges.Halted input (readings.Fault faults))) files status it told other is = absurd (other refl)
 merge_decides inputs chunk given back live stored (Err (merges.Halted input (readings.Grammar offset rule))) files status (inl (same, inl (still, first))) told other is = (first_halts given files input _ told first, is)
@@ -306,11 +306,11 @@ merge_decides inputs chunk given back live stored (Err (merges.Changed input off
 merge_decides inputs chunk given back live stored (Err (merges.Changed input offset)) files status (inr (inl (still, it))) told other is = not_changed input offset it.stop it.answer
 merge_decides inputs chunk given back live stored (Err (merges.Changed input offset)) files status (inr (inr it)) told other is = told_changes given files input told it.cause.0 it.cause.2
 merge_decides inputs chunk given back live stored (Err merges.TooManySchemas) files status (inl (same, inl never)) told other is = absurd never
-merge_decides inputs chunk given back live stored (Err merges.TooManySchemas) files status (inl (same, inr (still, reads, are, many))) told other is = ((tops_of reads, are_read given files reads told are, many), is)
+merge_decides inputs chunk given back live stored (Err merges.TooManySchemas) files status (inl (same, inr (still, reads, are, many))) told other is = ((read_tops reads, are_read given files reads told are, many), is)
 merge_decides inputs chunk given back live stored (Err merges.TooManySchemas) files status (inr (inl (still, it))) told other is = absurd (not_schemas it.stop it.answer)
 merge_decides inputs chunk given back live stored (Err merges.TooManySchemas) files status (inr (inr it)) told other is = absurd it.cause
 merge_decides inputs chunk given back live stored (Err merges.TooManyChannels) files status (inl (same, inl never)) told other is = absurd never
-merge_decides inputs chunk given back live stored (Err merges.TooManyChannels) files status (inl (same, inr (still, reads, are, many))) told other is = ((tops_of reads, are_read given files reads told are, many), is)
+merge_decides inputs chunk given back live stored (Err merges.TooManyChannels) files status (inl (same, inr (still, reads, are, many))) told other is = ((read_tops reads, are_read given files reads told are, many), is)
 merge_decides inputs chunk given back live stored (Err merges.TooManyChannels) files status (inr (inl (still, it))) told other is = absurd (not_channels it.stop it.answer)
 merge_decides inputs chunk given back live stored (Err merges.TooManyChannels) files status (inr (inr it)) told other is = absurd it.cause
 merge_decides inputs chunk given back live stored (Err (merges.Stopped (stops.Fault faults))) files status it told other is = absurd (other refl)
@@ -321,18 +321,18 @@ merge_decides inputs chunk given back live stored (Err (merges.Stopped (stops.Li
 merge_decides inputs chunk given back live stored (Err (merges.Stopped stops.Memory)) files status it told other is = is
 
 -- an opening that was refused failed, or memory lacked for it
-refusal_decides : (inputs files : List (List ℕ)) (failed : Bool) (status : ℕ) → (ending_of inputs (unopened_so failed) ≡ failing → ⊥) → status ≡ ending_status (ending_of inputs (unopened_so failed)) → Decides files (unopened_so failed) status
+refusal_decides : (inputs files : List (List ℕ)) (failed : Bool) (status : ℕ) → (ending_of_merging inputs (unopened_so failed) ≡ failing → ⊥) → status ≡ joined_status (ending_of_merging inputs (unopened_so failed)) → MergeDecides files (unopened_so failed) status
 refusal_decides inputs files true status other is = absurd (other refl)
 refusal_decides inputs files false status other is = is
 
 -- where nothing failed, the bytes under the inputs' names decide
 pub merging_decides : (chunk : ℕ) (inputs : List (List ℕ)) (out : List ℕ) (old new : WorldState) (entries : List Opening) (merging : Merging) (told : Told) (files : List (List ℕ)) (status : ℕ) → IsMerging chunk inputs out old new entries merging → old.told ≡ Some told
-    → AllZip (HoldsBytes told) inputs files → (ending_of inputs merging ≡ failing → ⊥) → status ≡ ending_status (ending_of inputs merging) → Decides files merging status
+    → AllZip (HoldsBytes told) inputs files → (ending_of_merging inputs merging ≡ failing → ⊥) → status ≡ joined_status (ending_of_merging inputs merging) → MergeDecides files merging status
 merging_decides chunk inputs out old new entries merging told files status (inl (refusal, unreached)) here there other is =
     let same = refusal.answer in
-    subst (λ (m : Merging). Decides files m status) (sym same)
-    (refusal_decides inputs files (some_refused entries) status (λ e. other (ap (ending_of inputs) same ∙ e)) (is ∙ ap (λ (m : Merging). ending_status (ending_of inputs m)) same))
+    subst (λ (m : Merging). MergeDecides files m status) (sym same)
+    (refusal_decides inputs files (some_refused entries) status (λ e. other (ap (ending_of_merging inputs) same ∙ e)) (is ∙ ap (λ (m : Merging). joined_status (ending_of_merging inputs m)) same))
 merging_decides chunk inputs out old new entries merging told files status (inr (answer, same, reached)) here there other is =
-    subst (λ (m : Merging). Decides files m status) (sym same)
+    subst (λ (m : Merging). MergeDecides files m status) (sym same)
     (merge_decides inputs chunk reached.given (back_stores reached.kept_inputs) reached.live reached.stored answer files status reached.merges (files_told old told inputs reached.given files here reached.tells there)
-    (λ e. other (ap (ending_of inputs) same ∙ e)) (is ∙ ap (λ (m : Merging). ending_status (ending_of inputs m)) same))
+    (λ e. other (ap (ending_of_merging inputs) same ∙ e)) (is ∙ ap (λ (m : Merging). joined_status (ending_of_merging inputs m)) same))

@@ -10,10 +10,10 @@ use Rattle.output_commands.specs.declared.blaming.FailedParts.{FailedParts}
 use Rattle.output_commands.specs.declared.merging.Merging.{Merging}
 use Rattle.output_commands.specs.declared.merging.Merging.TheVariants as mergings
 use Rattle.output_commands.specs.declared.merging.Outcome.{Outcome}
-use Rattle.output_commands.specs.Recover.{number_text}
-use Rattle.output_commands.specs.SomeOutput.{text_of, findings_of, files_of, failed_of, HaltsWell, flags_of, PartsShow, ReadsSomeWritesOne}
+use Rattle.output_commands.specs.Recover.{number_after_name}
+use Rattle.output_commands.specs.SomeOutput.{joined_text, joined_findings, inputs_and_output, failed_of, HaltsByInput, flags_of, PartsShow, ReadsSomeWritesOne}
 use Rattle.output_commands.specs.SomeInputs.{back_stores}
-use Rattle.output_commands.specs.Merge.{IsMerging, some_refused, merged_line, ending_of, NamesMerged, MergesFiles}
+use Rattle.output_commands.specs.Merge.{IsMerging, some_refused, merged_line, ending_of_merging, NamesMerged, MergesFiles}
 use Rattle.output_commands.proofs.Recoveries.{wrote}
 use Rattle.output_commands.proofs.SomeInputs.{zip_long}
 use Rattle.output_commands.proofs.SomeOutput.{reads_some_writes_one, some_not_two}
@@ -25,16 +25,16 @@ use Rattle.output_commands.proofs.MergedStores.{merges_well, merging_decides}
 -- what its calls came to
 pub record MergeCalls (chunk : ℕ) (inputs : List (List ℕ)) (out : List ℕ) (old new : Scene) (outcome : Outcome) (failed : FailedParts) (answer : ℕ) : Type 0 where
   pub names : NamesMerged chunk inputs out old.world new.world outcome
-  pub takes : Takes old.out new.out (text_of (ending_of inputs outcome.merging))
+  pub takes : Takes old.out new.out (joined_text (ending_of_merging inputs outcome.merging))
   pub shows : PartsShow (counts_in old) (counts_in new) inputs outcome.inputs_failed.items outcome.out_failed failed
-  pub told : Complains (troubles_of (files_of inputs out) (findings_of out (ending_of inputs outcome.merging)) (failed_of (flags_of inputs failed) failed.out) failed.printing) old.err new.err answer
+  pub told : Complains (troubles_of (inputs_and_output inputs out) (joined_findings out (ending_of_merging inputs outcome.merging)) (failed_of (flags_of inputs failed) failed.out) failed.printing) old.err new.err answer
 
 -- all that is promised of it
 pub merged : (chunk : ℕ) (inputs : List (List ℕ)) (out : List ℕ) (old new : Scene) (outcome : Outcome) (failed : FailedParts) (answer : ℕ) → MergeCalls chunk inputs out old new outcome failed answer → MergesFiles chunk inputs out old new answer
 merged chunk inputs out old new outcome failed answer calls =
     let merging = outcome.merging in
-    let ran : ReadsSomeWritesOne inputs out old new calls.names.entries (ending_of inputs merging) answer =
-    reads_some_writes_one inputs out old new calls.names.entries (ending_of inputs merging) outcome.inputs_failed.items outcome.out_failed failed answer (record {
+    let ran : ReadsSomeWritesOne inputs out old new calls.names.entries (ending_of_merging inputs merging) answer =
+    reads_some_writes_one inputs out old new calls.names.entries (ending_of_merging inputs merging) outcome.inputs_failed.items outcome.out_failed failed answer (record {
       names = calls.names.names;
       sure = calls.names.sure;
       well = calls.names.well;
@@ -53,17 +53,17 @@ merged chunk inputs out old new outcome failed answer calls =
     }
 
 -- which input halts
-merging_well : (chunk : ℕ) (inputs : List (List ℕ)) (out : List ℕ) (old new : WorldState) (entries : List Opening) (merging : Merging) → IsMerging chunk inputs out old new entries merging → HaltsWell inputs (ending_of inputs merging)
+merging_well : (chunk : ℕ) (inputs : List (List ℕ)) (out : List ℕ) (old new : WorldState) (entries : List Opening) (merging : Merging) → IsMerging chunk inputs out old new entries merging → HaltsByInput inputs (ending_of_merging inputs merging)
 merging_well chunk inputs out old new entries merging (inl (refusal, unreached)) =
-    subst (λ (m : Merging). HaltsWell inputs (ending_of inputs m)) (sym refusal.answer) (unopened_well inputs (some_refused entries))
+    subst (λ (m : Merging). HaltsByInput inputs (ending_of_merging inputs m)) (sym refusal.answer) (unopened_well inputs (some_refused entries))
 merging_well chunk inputs out old new entries merging (inr (answer, same, reached)) =
-    subst (λ (m : Merging). HaltsWell inputs (ending_of inputs m)) (sym same)
+    subst (λ (m : Merging). HaltsByInput inputs (ending_of_merging inputs m)) (sym same)
     (merges_well inputs chunk reached.given (back_stores reached.kept_inputs) reached.live reached.stored answer (zip_long (TellsStore old) inputs reached.given reached.tells) reached.merges)
 
 -- the status of a merge is not that of bad words
 pub merges_not_two : (chunk : ℕ) (inputs : List (List ℕ)) (out : List ℕ) (old new : Scene) (answer : ℕ) → MergesFiles chunk inputs out old new answer → answer ≡ 2 → ⊥
 merges_not_two chunk inputs out old new answer all two =
-    some_not_two inputs out old new all.entries (ending_of inputs all.merging) answer (merging_well chunk inputs out old.world new.world all.entries all.merging all.comes) all.ran two
+    some_not_two inputs out old new all.entries (ending_of_merging inputs all.merging) answer (merging_well chunk inputs out old.world new.world all.entries all.merging all.comes) all.ran two
 
 -- ---- the line
 
@@ -72,12 +72,12 @@ cons_some x xs e = absurd cc
 
 -- it isn't empty
 line_is_said : (n : ℕ) (m : Merged) → merged_line n m ≡ [] → ⊥
-unfolding merged_line number_text
+unfolding merged_line number_after_name
 line_is_said n m e = cons_some _ _ e
 
 -- what was printed of a merge that was made
 pub takes_merged : (before now : SinkState) (inputs : List (List ℕ)) (line : List ℕ) (result : Result Unit Short) (merging : Merging) (m : Merged) → merging ≡ mergings.Made m → line ≡ merged_line (length inputs) m → WritesAll before now line result
-    → Takes before now (text_of (ending_of inputs merging))
+    → Takes before now (joined_text (ending_of_merging inputs merging))
 takes_merged before now inputs line result merging m is line_is written =
-    subst (λ (x : Merging). Takes before now (text_of (ending_of inputs x))) (sym is)
+    subst (λ (x : Merging). Takes before now (joined_text (ending_of_merging inputs x))) (sym is)
     (record { tells = subst (λ (l : List ℕ). Tells before now l) line_is (wrote before now line result written); silent = λ none. absurd (line_is_said (length inputs) m none) })

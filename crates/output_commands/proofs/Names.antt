@@ -13,7 +13,7 @@ use Rattle.mcap_model.proofs.Places.{heads}
 use Rattle.command_base.specs.Ran.{kept, refused, failed_so, world_faults}
 use Rattle.command_base.proofs.Counting.{added_none, kept_adds, kept_shows, not_risen, keeping_shows, keepings_show, blamed}
 use Rattle.command_base.proofs.Opened.{tells_more, source_keeping, live_keeping, given, source_noted, none_last, refused_last, SameNames, leaves_same, holds_same, others_unwritten, same_told}
-use Rattle.output_commands.specs.OneOutput.{NamesKept, Unreached}
+use Rattle.output_commands.specs.OneOutput.{BothNamesKept, BothUnreached}
 
 -- how an entry's object was taken back
 abbrev kept_in : Opening → Option Keeping
@@ -34,8 +34,8 @@ refused_first A input k xs ys e = let none : None ≡ Some k = ap kept_in (heads
 
 -- what became of both names where not both were given
 pub record NotGiven (input out : List ℕ) (old new : WorldState) (entries : List Opening) (input_failed out_failed : Bool) : Type 0 where
-  pub names : NamesKept input out old new entries input_failed out_failed
-  pub unreached : Unreached input out old new entries
+  pub names : BothNamesKept input out old new entries input_failed out_failed
+  pub unreached : BothUnreached input out old new entries
 
 -- ---- the input wasn't given
 
@@ -283,7 +283,7 @@ module _ (input out : List ℕ) (w0 w1 w2 w3 w4 : WorldState) (source source_now
   pub nothing_yet : (told : Told) → w0.told ≡ Some told → live.held ≡ Some []
   nothing_yet told here = b.nothing (with_opening told (given input)) (tells_more w0.told w1.told (given input) told b.opens here)
 
-  pub both_kept : NamesKept input out w0 w4 both_entries (failed_so (went_well source_kept) source_now.faults) (failed_so (went_well live_kept) live_now.faults)
+  pub both_kept : BothNamesKept input out w0 w4 both_entries (failed_so (went_well source_kept) source_now.faults) (failed_so (went_well live_kept) live_now.faults)
   both_kept = record {
     opened = inr (in_keeping, refl, inr (out_keeping, refl, refl));
     leaves = λ told here. let t = both_told told here in (t.0, t.1, t.3, others_unwritten (kept kinds.Source input in_keeping) out out_keeping told.names t.0.names t.2.others);

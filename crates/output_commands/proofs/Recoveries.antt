@@ -2,7 +2,7 @@
 use Rattle.std.proofs.Common.{◌≡◌, ◌⊎◌, ℕ, Bool, List, [], ◌∷◌, Option, Some, Result, Ok, Err, refl, sym, ap, subst, inl, inr, ◌∙◌, arith}
 use Rattle.std.specs.Prelude.{true, false}
 use Rattle.std.proofs.lemmas.Option.{same_Some}
-use Rattle.mcap_io.specs.Outside.{Told, Opening, went_well, Names, Placed, SourceState, LiveState, SinkState, WorldState, WritesAll}
+use Rattle.mcap_io.specs.Outside.{Told, Opening, went_well, Names, PlacedUnder, SourceState, LiveState, SinkState, WorldState, WritesAll}
 use Rattle.mcap_io.specs.declared.outside.Short.{Short}
 use Rattle.mcap_io.specs.declared.outside.Failed.{Failed}
 use Rattle.rec_data.specs.declared.owned.Rec.{Rec}
@@ -29,15 +29,15 @@ use Rattle.output_commands.specs.declared.recovering.Recovery.{Recovery}
 use Rattle.output_commands.specs.declared.recovering.Recovery.TheVariants as recoveries
 use Rattle.output_commands.specs.declared.recovering.Restored.{Restored}
 use Rattle.output_commands.specs.declared.failures.Failures.{Failures}
-use Rattle.output_commands.specs.OneOutput.{halted, text_of, findings_of, files_of, failed_of, failing, ending_status, HaltsWell, FaultsShow, ReadsOneWritesOne}
-use Rattle.output_commands.specs.Recover.{IsPlaced, HoldsPart, UnreadHolds, OutputHolds, Reached, IsRefusal, unopened_so, recovery_of, IsRecovery, unread_ending, stopped_ending, ending_of, number_text, recovered_line, NamesRecovered, ReadingDecides, StopDecides, Decides, RecoversFile}
+use Rattle.output_commands.specs.OneOutput.{halted, rewritten_text, rewritten_findings, input_and_output, failed_rewrite, failing, rewritten_status, HaltsByRule, FaultsShow, ReadsOneWritesOne}
+use Rattle.output_commands.specs.Recover.{IsPlaced, HoldsPart, UnreadHolds, RecoveryOutputHolds, BothReached, RefusesRecovery, unopened_recovery, recovery_of, IsRecovery, unread_ending, stopped_ending, ending_of_recovery, number_after_name, recovered_line, NamesRecovered, ReadingDecides, RecoveryStopDecides, RecoveryDecides, RecoversFile}
 use Rattle.output_commands.proofs.Names.{NotGiven, no_entries, alone_entries, BothGiven, both_entries, both_placed, nothing_yet, both_kept}
 use Rattle.output_commands.proofs.OneOutput.{reads_one_writes_one, not_two}
 
 -- ---- endings
 
 -- only a source that doesn't begin with the magic halts
-well : (input : List ℕ) (recovery : Recovery) → HaltsWell (ending_of input recovery)
+well : (input : List ℕ) (recovery : Recovery) → HaltsByRule (ending_of_recovery input recovery)
 well input recoveries.Unopened trouble e = absurd cc
 well input (recoveries.Made r) trouble e = absurd cc
 well input (recoveries.Refused refusals.NoMagic) trouble e = cc
@@ -59,7 +59,7 @@ well input (recoveries.Refused (refusals.Stopped stop)) trouble e = absurd (unwr
 -- ---- what the output holds
 
 -- what a keeping left under the name
-pub placed_so : (text : List ℕ) (all now : Names) (out : List ℕ) (result : Result Unit Failed) → Placed all now out text result → IsPlaced text (went_well result) (all out) (now out)
+pub placed_so : (text : List ℕ) (all now : Names) (out : List ℕ) (result : Result Unit Failed) → PlacedUnder all now out text result → IsPlaced text (went_well result) (all out) (now out)
 placed_so text all now out (Ok it) placed = placed
 placed_so text all now out (Err why) placed = placed
 
@@ -103,7 +103,7 @@ unread_part chunk source back live stored (scans.Compressed offset name) bytes t
 unread_part chunk source back live stored (scans.Limit offset) bytes told none it = absurd it
 unread_part chunk source back live stored scans.Memory bytes told none (still, changed, part) = stands_part chunk source live stored bytes told none part
 
-part_placed : (chunk : ℕ) (bytes out : List ℕ) (all now : Names) (held : Option (List ℕ)) (result : Result Unit Failed) → HasPart chunk bytes held → ((text : List ℕ) → held ≡ Some text → Placed all now out text result)
+part_placed : (chunk : ℕ) (bytes out : List ℕ) (all now : Names) (held : Option (List ℕ)) (result : Result Unit Failed) → HasPart chunk bytes held → ((text : List ℕ) → held ≡ Some text → PlacedUnder all now out text result)
     → HoldsPart chunk bytes (went_well result) (all out) (now out)
 part_placed chunk bytes out all now held result it placed = record {
   text = it.text;
@@ -120,7 +120,7 @@ held_unread chunk source back live stored (scans.Limit offset) bytes kept before
 held_unread chunk source back live stored scans.Memory bytes kept before now it part = part
 
 output_holds : (chunk : ℕ) (source back : SourceState) (live stored : LiveState) (answer : Result Recovered RecoverRefused) (bytes out : List ℕ) (all now : Names) (result : Result Unit Failed) → Recovers chunk source back live stored answer
-    → source.left ≡ Some bytes → live.held ≡ Some [] → ((text : List ℕ) → stored.held ≡ Some text → Placed all now out text result) → OutputHolds chunk bytes answer (went_well result) (all out) (now out)
+    → source.left ≡ Some bytes → live.held ≡ Some [] → ((text : List ℕ) → stored.held ≡ Some text → PlacedUnder all now out text result) → RecoveryOutputHolds chunk bytes answer (went_well result) (all out) (now out)
 output_holds chunk source back live stored (Ok r) bytes out all now result it told none placed = record {
   magic = it.magic bytes told;
   tops = it.tops;
@@ -146,7 +146,7 @@ output_holds chunk source back live stored (Err (refusals.Stopped stop)) bytes o
 
 -- where the recovery failed, the source did or the store
 fault_shows : (input : List ℕ) (chunk : ℕ) (source back : SourceState) (live stored : LiveState) (answer : Result Recovered RecoverRefused) (first second : Bool) → Recovers chunk source back live stored answer
-    → source.faults ≡ 0 → live.faults ≡ 0 → ending_of input (recovery_of answer) ≡ failing → (failed_so first back.faults ≡ true) ⊎ (failed_so second stored.faults ≡ true)
+    → source.faults ≡ 0 → live.faults ≡ 0 → ending_of_recovery input (recovery_of answer) ≡ failing → (failed_so first back.faults ≡ true) ⊎ (failed_so second stored.faults ≡ true)
 fault_shows input chunk source back live stored (Ok r) first second it unused new e = absurd cc
 fault_shows input chunk source back live stored (Err refusals.NoMagic) first second it unused new e = absurd cc
 fault_shows input chunk source back live stored (Err (refusals.Refused why)) first second it unused new e = unread why it e
@@ -168,7 +168,7 @@ pub both_recovered : (chunk : ℕ) (input out : List ℕ) (w0 w1 w2 w3 w4 : Worl
     → BothGiven input out w0 w1 w2 w3 w4 source back live stored source_kept live_kept → Recovers chunk source back live stored answer
     → NamesRecovered chunk input out w0 w4 (record { recovery = recovery_of answer; input_failed = failed_so (went_well source_kept) back.faults; out_failed = failed_so (went_well live_kept) stored.faults })
 both_recovered chunk input out w0 w1 w2 w3 w4 source back live stored source_kept live_kept answer b it =
-    let reached : Reached chunk input out w0 w4 (both_entries input out w0 w1 w2 w3 w4 source back live stored source_kept live_kept b) answer = record {
+    let reached : BothReached chunk input out w0 w4 (both_entries input out w0 w1 w2 w3 w4 source back live stored source_kept live_kept b) answer = record {
       source = source;
       back = back;
       source_kept = went_well source_kept;
@@ -194,16 +194,16 @@ both_recovered chunk input out w0 w1 w2 w3 w4 source back live stored source_kep
 
 -- ---- not both were given
 
-unmade_sure : (input : List ℕ) (failed other : Bool) → ending_of input (unopened_so failed) ≡ failing → (failed ≡ true) ⊎ (other ≡ true)
+unmade_sure : (input : List ℕ) (failed other : Bool) → ending_of_recovery input (unopened_recovery failed) ≡ failing → (failed ≡ true) ⊎ (other ≡ true)
 unmade_sure input true other e = inl refl
 unmade_sure input false other e = absurd cc
 
-refusal_first : (input : List ℕ) (failed : Bool) → IsRefusal (no_entries input failed) (unopened_so failed)
+refusal_first : (input : List ℕ) (failed : Bool) → RefusesRecovery (no_entries input failed) (unopened_recovery failed)
 refusal_first input true = inl (refl, refl)
 refusal_first input false = refl
 
 pub none_recovered : (chunk : ℕ) (input out : List ℕ) (old new : WorldState) (failed : Bool) → NotGiven input out old new (no_entries input failed) failed false
-    → NamesRecovered chunk input out old new (record { recovery = unopened_so failed; input_failed = failed; out_failed = false })
+    → NamesRecovered chunk input out old new (record { recovery = unopened_recovery failed; input_failed = failed; out_failed = false })
 none_recovered chunk input out old new failed it = record {
   entries = no_entries input failed;
   comes = inl (refusal_first input failed, it.unreached);
@@ -211,7 +211,7 @@ none_recovered chunk input out old new failed it = record {
   sure = unmade_sure input failed false;
 }
 
-refusal_second : (input out : List ℕ) (source : SourceState) (result : Result Unit Failed) (failed : Bool) → IsRefusal (alone_entries input out source result failed) (unopened_so failed)
+refusal_second : (input out : List ℕ) (source : SourceState) (result : Result Unit Failed) (failed : Bool) → RefusesRecovery (alone_entries input out source result failed) (unopened_recovery failed)
 refusal_second input out source result true = (refl, refl)
 refusal_second input out source result false = inr (refl, refl)
 
@@ -220,7 +220,7 @@ swapped (inl a) = inr a
 swapped (inr b) = inl b
 
 pub alone_recovered : (chunk : ℕ) (input out : List ℕ) (old new : WorldState) (source : SourceState) (result : Result Unit Failed) (input_failed failed : Bool) → NotGiven input out old new (alone_entries input out source result failed) input_failed failed
-    → NamesRecovered chunk input out old new (record { recovery = unopened_so failed; input_failed = input_failed; out_failed = failed })
+    → NamesRecovered chunk input out old new (record { recovery = unopened_recovery failed; input_failed = input_failed; out_failed = failed })
 alone_recovered chunk input out old new source result input_failed failed it = record {
   entries = alone_entries input out source result failed;
   comes = inl (refusal_second input out source result failed, it.unreached);
@@ -231,19 +231,19 @@ alone_recovered chunk input out old new source result input_failed failed it = r
 -- ---- the bytes decide
 
 -- a refused opening failed, or memory lacked for it
-refusal_decides : (input bytes : List ℕ) (entries : List Opening) (recovery : Recovery) (status : ℕ) → IsRefusal entries recovery → (ending_of input recovery ≡ failing → ⊥) → (recovery ≡ recoveries.Refused lacks → status ≡ 5) → Decides bytes recovery status
-refusal_decides input bytes [] recovery status is other five = subst (λ (r : Recovery). Decides bytes r status) (sym is) (five is)
-refusal_decides input bytes (entry ∷ []) recovery status (inl is) other five = absurd (other (ap (ending_of input) is.1))
-refusal_decides input bytes (entry ∷ []) recovery status (inr is) other five = subst (λ (r : Recovery). Decides bytes r status) (sym is.1) (five is.1)
-refusal_decides input bytes (entry ∷ next ∷ more) recovery status is other five = absurd (other (ap (ending_of input) is.1))
+refusal_decides : (input bytes : List ℕ) (entries : List Opening) (recovery : Recovery) (status : ℕ) → RefusesRecovery entries recovery → (ending_of_recovery input recovery ≡ failing → ⊥) → (recovery ≡ recoveries.Refused lacks → status ≡ 5) → RecoveryDecides bytes recovery status
+refusal_decides input bytes [] recovery status is other five = subst (λ (r : Recovery). RecoveryDecides bytes r status) (sym is) (five is)
+refusal_decides input bytes (entry ∷ []) recovery status (inl is) other five = absurd (other (ap (ending_of_recovery input) is.1))
+refusal_decides input bytes (entry ∷ []) recovery status (inr is) other five = subst (λ (r : Recovery). RecoveryDecides bytes r status) (sym is.1) (five is.1)
+refusal_decides input bytes (entry ∷ next ∷ more) recovery status is other five = absurd (other (ap (ending_of_recovery input) is.1))
 
-reached_decides : (chunk : ℕ) (input out bytes : List ℕ) (old new : WorldState) (entries : List Opening) (answer : Result Recovered RecoverRefused) (told : Told) (status : ℕ) → Reached chunk input out old new entries answer → old.told ≡ Some told → told.names input ≡ Some bytes
-    → (ending_of input (recovery_of answer) ≡ failing → ⊥) → status ≡ ending_status (ending_of input (recovery_of answer)) → Decides bytes (recovery_of answer) status
+reached_decides : (chunk : ℕ) (input out bytes : List ℕ) (old new : WorldState) (entries : List Opening) (answer : Result Recovered RecoverRefused) (told : Told) (status : ℕ) → BothReached chunk input out old new entries answer → old.told ≡ Some told → told.names input ≡ Some bytes
+    → (ending_of_recovery input (recovery_of answer) ≡ failing → ⊥) → status ≡ rewritten_status (ending_of_recovery input (recovery_of answer)) → RecoveryDecides bytes (recovery_of answer) status
 reached_decides chunk input out bytes old new entries (Ok r) told status it here there other is = (it.recovers.magic bytes ((it.tells told here).0 ∙ there), is)
 reached_decides chunk input out bytes old new entries (Err refusals.NoMagic) told status it here there other is = (it.recovers.0 bytes ((it.tells told here).0 ∙ there), is)
 reached_decides chunk input out bytes old new entries (Err (refusals.Refused why)) told status it here there other is = unread why it.recovers other is
   where
-    unread : (w : ReadingRefused) → IsUnrecovered chunk it.source it.back it.live it.stored w → (unread_ending w ≡ failing → ⊥) → status ≡ ending_status (unread_ending w) → ReadingDecides w status
+    unread : (w : ReadingRefused) → IsUnrecovered chunk it.source it.back it.live it.stored w → (unread_ending w ≡ failing → ⊥) → status ≡ rewritten_status (unread_ending w) → ReadingDecides w status
     unread (scans.Fault faults) failed others same = absurd (others refl)
     unread (scans.Grammar offset rule) none others same = absurd none
     unread (scans.Compressed offset name) none others same = absurd none
@@ -251,34 +251,34 @@ reached_decides chunk input out bytes old new entries (Err (refusals.Refused why
     unread scans.Memory lacking others same = same
 reached_decides chunk input out bytes old new entries (Err (refusals.Stopped stop)) told status it here there other is = unwritten stop other is
   where
-    unwritten : (s : Stop) → (stopped_ending s ≡ failing → ⊥) → status ≡ ending_status (stopped_ending s) → StopDecides bytes s status
+    unwritten : (s : Stop) → (stopped_ending s ≡ failing → ⊥) → status ≡ rewritten_status (stopped_ending s) → RecoveryStopDecides bytes s status
     unwritten (stops.Fault faults) others same = absurd (others refl)
     unwritten (stops.Limit blocks written) others same = (it.recovers.magic bytes ((it.tells told here).0 ∙ there), same)
     unwritten stops.Memory others same = same
 
 decides : (chunk : ℕ) (input out bytes : List ℕ) (old new : WorldState) (entries : List Opening) (recovery : Recovery) (told : Told) (status : ℕ) → IsRecovery chunk input out old new entries recovery → old.told ≡ Some told → told.names input ≡ Some bytes
-    → (ending_of input recovery ≡ failing → ⊥) → status ≡ ending_status (ending_of input recovery) → Decides bytes recovery status
+    → (ending_of_recovery input recovery ≡ failing → ⊥) → status ≡ rewritten_status (ending_of_recovery input recovery) → RecoveryDecides bytes recovery status
 decides chunk input out bytes old new entries recovery told status (inl none) here there other is =
-    refusal_decides input bytes entries recovery status none.0 other (λ memory. is ∙ ap (λ (r : Recovery). ending_status (ending_of input r)) memory)
+    refusal_decides input bytes entries recovery status none.0 other (λ memory. is ∙ ap (λ (r : Recovery). rewritten_status (ending_of_recovery input r)) memory)
 decides chunk input out bytes old new entries recovery told status (inr (answer, same, reached)) here there other is =
-    subst (λ (r : Recovery). Decides bytes r status) (sym same)
-    (reached_decides chunk input out bytes old new entries answer told status reached here there (λ e. other (ap (ending_of input) same ∙ e)) (is ∙ ap (λ (r : Recovery). ending_status (ending_of input r)) same))
+    subst (λ (r : Recovery). RecoveryDecides bytes r status) (sym same)
+    (reached_decides chunk input out bytes old new entries answer told status reached here there (λ e. other (ap (ending_of_recovery input) same ∙ e)) (is ∙ ap (λ (r : Recovery). rewritten_status (ending_of_recovery input r)) same))
 
 -- ---- the command
 
 -- what its calls came to
 pub record CallsAre (chunk : ℕ) (input out : List ℕ) (old new : Scene) (restored : Restored) (failed : Failures) (answer : ℕ) : Type 0 where
   pub names : NamesRecovered chunk input out old.world new.world restored
-  pub takes : Takes old.out new.out (text_of (ending_of input restored.recovery))
+  pub takes : Takes old.out new.out (rewritten_text (ending_of_recovery input restored.recovery))
   pub shows : FaultsShow (counts_in old) (counts_in new) restored.input_failed restored.out_failed failed
-  pub told : Complains (troubles_of (files_of input out) (findings_of out (ending_of input restored.recovery)) (failed_of failed.input failed.out) failed.printing) old.err new.err answer
+  pub told : Complains (troubles_of (input_and_output input out) (rewritten_findings out (ending_of_recovery input restored.recovery)) (failed_rewrite failed.input failed.out) failed.printing) old.err new.err answer
 
 -- all that is promised of it
 pub recovered : (chunk : ℕ) (input out : List ℕ) (old new : Scene) (restored : Restored) (failed : Failures) (answer : ℕ) → CallsAre chunk input out old new restored failed answer → RecoversFile chunk input out old new answer
 recovered chunk input out old new restored failed answer calls =
     let recovery = restored.recovery in
-    let ran : ReadsOneWritesOne input out old new calls.names.entries (ending_of input recovery) answer =
-    reads_one_writes_one input out old new calls.names.entries (ending_of input recovery) restored.input_failed restored.out_failed failed answer (record {
+    let ran : ReadsOneWritesOne input out old new calls.names.entries (ending_of_recovery input recovery) answer =
+    reads_one_writes_one input out old new calls.names.entries (ending_of_recovery input recovery) restored.input_failed restored.out_failed failed answer (record {
       names = calls.names.names;
       sure = calls.names.sure;
       well = well input recovery;
@@ -298,7 +298,7 @@ recovered chunk input out old new restored failed answer calls =
 
 -- the status of a recovery is not that of bad words
 pub recovers_not_two : (chunk : ℕ) (input out : List ℕ) (old new : Scene) (answer : ℕ) → RecoversFile chunk input out old new answer → answer ≡ 2 → ⊥
-recovers_not_two chunk input out old new answer all two = not_two input out old new all.entries (ending_of input all.recovery) answer (well input all.recovery) all.ran two
+recovers_not_two chunk input out old new answer all two = not_two input out old new all.entries (ending_of_recovery input all.recovery) answer (well input all.recovery) all.ran two
 
 -- ---- the line
 
@@ -307,7 +307,7 @@ cons_some x xs e = absurd cc
 
 -- it isn't empty
 line_is_said : (r : Recovered) → recovered_line r ≡ [] → ⊥
-unfolding recovered_line number_text
+unfolding recovered_line number_after_name
 line_is_said r e = cons_some _ _ e
 
 -- what a sink took of a line in one go
@@ -316,7 +316,7 @@ wrote before now line (Ok it) all = inl (record { still = all.0; adds = all.1 })
 wrote before now line (Err short) part = inr (record { rises = part.0; adds = λ start is. let took = part.2 start is in (took.0, omega arith, took.2, took.3) })
 
 -- what was printed of a recovery that was made
-pub takes_line : (before now : SinkState) (input line : List ℕ) (result : Result Unit Short) (recovery : Recovery) (r : Recovered) → recovery ≡ recoveries.Made r → line ≡ recovered_line r → WritesAll before now line result → Takes before now (text_of (ending_of input recovery))
+pub takes_line : (before now : SinkState) (input line : List ℕ) (result : Result Unit Short) (recovery : Recovery) (r : Recovered) → recovery ≡ recoveries.Made r → line ≡ recovered_line r → WritesAll before now line result → Takes before now (rewritten_text (ending_of_recovery input recovery))
 takes_line before now input line result recovery r is line_is written =
-    subst (λ (x : Recovery). Takes before now (text_of (ending_of input x))) (sym is)
+    subst (λ (x : Recovery). Takes before now (rewritten_text (ending_of_recovery input x))) (sym is)
     (record { tells = subst (λ (l : List ℕ). Tells before now l) line_is (wrote before now line result written); silent = λ none. absurd (line_is_said r none) })

@@ -13,7 +13,7 @@ use Rattle.mcap_model.proofs.Places.{at_none, at_more}
 use Rattle.mcap_model.proofs.OneMore.{zip_push}
 use Rattle.command_base.specs.Ran.{failed_so}
 use Rattle.command_base.proofs.Opened.{tells_more}
-use Rattle.output_commands.specs.SomeInputs.{InputKept, entry_of, store_keeping, given, with_openings, InputsOpened, OneKept, NoStoreOut, InputsKept}
+use Rattle.output_commands.specs.SomeInputs.{InputKept, input_entry, store_keeping, input_given, with_openings, InputsOpened, OneKept, NoStoreOut, InputsKept}
 
 -- ---- lists
 
@@ -43,22 +43,22 @@ none_opened w = record {
   unused = λ n s at. absurd (at_none n s at);
 }
 
-pub one_opened : (w0 w1 w2 : WorldState) (fs : List (List ℕ)) (ss : List StoreState) (f : List ℕ) (s : StoreState) → InputsOpened w0 w1 fs ss → w2.told ≡ option_map (λ (t : Told). with_opening t (given f)) w1.told
+pub one_opened : (w0 w1 w2 : WorldState) (fs : List (List ℕ)) (ss : List StoreState) (f : List ℕ) (s : StoreState) → InputsOpened w0 w1 fs ss → w2.told ≡ option_map (λ (t : Told). with_opening t (input_given f)) w1.told
     → CountsStand w1 w2 → w2.faults ≡ w1.faults → TellsStore w1 f s → IsUnused s → InputsOpened w0 w2 (fs ++ f ∷ []) (ss ++ s ∷ [])
 one_opened w0 w1 w2 fs ss f s it opens stands still tells unused = record {
   told = λ told here.
-      tells_more w1.told w2.told (given f) (with_openings told (map given fs)) opens (it.told told here)
-      ∙ ap (λ (l : List Opening). some_told (record { names = told.names; log = l })) (append_assoc told.log (map given fs) (given f ∷ []) ∙ ap (λ (l : List Opening). told.log ++ l) (sym (map-append given fs (f ∷ []))));
+      tells_more w1.told w2.told (input_given f) (with_openings told (map input_given fs)) opens (it.told told here)
+      ∙ ap (λ (l : List Opening). some_told (record { names = told.names; log = l })) (append_assoc told.log (map input_given fs) (input_given f ∷ []) ∙ ap (λ (l : List Opening). told.log ++ l) (sym (map-append input_given fs (f ∷ []))));
   stands = record { inputs = stands.inputs ∙ it.stands.inputs; outputs = stands.outputs ∙ it.stands.outputs; watches = stands.watches ∙ it.stands.watches };
   still = still ∙ it.still;
-  tells = zip_push (TellsStore w0) fs ss f s it.tells (λ told here. tells (with_openings told (map given fs)) (it.told told here));
+  tells = zip_push (TellsStore w0) fs ss f s it.tells (λ told here. tells (with_openings told (map input_given fs)) (it.told told here));
   unused = each_push IsUnused ss s it.unused unused;
 }
 
 -- ---- keepings
 
 -- no store that was kept is out
-none_out : (ks : List InputKept) (behind : List Opening) → NoStoreOut behind → (name : List ℕ) → NoneIsOut kinds.Store name (map entry_of ks ++ behind)
+none_out : (ks : List InputKept) (behind : List Opening) → NoStoreOut behind → (name : List ℕ) → NoneIsOut kinds.Store name (map input_entry ks ++ behind)
 none_out [] behind none name k d within = none name k d within
 none_out (k ∷ ks) behind none name zero d within = λ is. let out = is.out in absurd cc
 none_out (k ∷ ks) behind none name (suc n) d within = none_out ks behind none name n d (omega (arith, within))
@@ -84,13 +84,13 @@ one_kept w0 w1 w2 fs ss flags f s failed it one =
       names_are = ap (λ (l : List (List ℕ)). f ∷ l) it.names_are;
       stores_are = ap (λ (l : List StoreState). s ∷ l) it.stores_are;
       told = λ told log behind here is none.
-          let first = it.told told (log ++ given f ∷ []) behind here (is ∙ sym (append_assoc log (given f ∷ []) (map given fs ++ behind))) none in
+          let first = it.told told (log ++ input_given f ∷ []) behind here (is ∙ sym (append_assoc log (input_given f ∷ []) (map input_given fs ++ behind))) none in
           let back = one.keeps first.0 first.1 in (
             back.0,
             back.1,
             back.2 ∙ first.2,
-            noted_in first.0.log back.0.log log (map entry_of it.kept ++ behind) (given f) kinds.Store f (store_keeping s one.well) (record {
-              there = first.3 ∙ append_assoc log (given f ∷ []) (map entry_of it.kept ++ behind);
+            noted_in first.0.log back.0.log log (map input_entry it.kept ++ behind) (input_given f) kinds.Store f (store_keeping s one.well) (record {
+              there = first.3 ∙ append_assoc log (input_given f ∷ []) (map input_entry it.kept ++ behind);
               out = record { kind_is = refl; name_is = refl; given = refl; out = refl };
               newest = none_out it.kept behind none f;
             }) back.3,

@@ -30,9 +30,9 @@ use Rattle.command_base.specs.Ran.{Scene, counts_in, AnyRose, kept}
 use Rattle.output_commands.specs.declared.merging.Merging.{Merging}
 use Rattle.output_commands.specs.declared.merging.Merging.TheVariants as mergings
 use Rattle.output_commands.specs.declared.merging.Outcome.{Outcome}
-use Rattle.output_commands.specs.Recover.{IsPlaced, number_text}
-use Rattle.output_commands.specs.SomeInputs.{InputKept, entry_of, names_kept, back_stores}
-use Rattle.output_commands.specs.SomeOutput.{Ending, was_written, halted, limited, failing, lacked, HaltsWell, some_failed, NamesKept, Unreached, ReadsSomeWritesOne}
+use Rattle.output_commands.specs.Recover.{IsPlaced, number_after_name}
+use Rattle.output_commands.specs.SomeInputs.{InputKept, input_entry, names_kept, back_stores}
+use Rattle.output_commands.specs.SomeOutput.{JoinEnding, was_written, halted, limited, failing, lacked, HaltsByInput, some_failed, NamesKept, Unreached, ReadsSomeWritesOne}
 
 -- ---- what the output holds
 
@@ -65,32 +65,32 @@ pub record HoldsFirst (chunk : ℕ) (files : List (List ℕ)) (well : Bool) (bef
   pub placed : IsPlaced text well before now
 
 -- nothing was put there
-abbrev pub HoldsNothing : Bool → Option (List ℕ) → Option (List ℕ) → Type 0
-HoldsNothing well before now = IsPlaced [] well before now
+abbrev pub PutsNothing : Bool → Option (List ℕ) → Option (List ℕ) → Type 0
+PutsNothing well before now = IsPlaced [] well before now
 
 -- Of these files, by why the reading of one of them was refused: it may fail before anything is written, or while the inputs are
 -- read again for what is written.
 abbrev pub HaltedHolds : ℕ → List (List ℕ) → ReadingRefused → Bool → Option (List ℕ) → Option (List ℕ) → Type 0
-HaltedHolds chunk files (readings.Fault faults) well before now = HoldsNothing well before now ⊎ HoldsFirst chunk files well before now
-HaltedHolds chunk files (readings.Grammar offset rule) well before now = HoldsNothing well before now
-HaltedHolds chunk files (readings.Compressed offset name) well before now = HoldsNothing well before now
-HaltedHolds chunk files (readings.Limit offset) well before now = HoldsNothing well before now
+HaltedHolds chunk files (readings.Fault faults) well before now = PutsNothing well before now ⊎ HoldsFirst chunk files well before now
+HaltedHolds chunk files (readings.Grammar offset rule) well before now = PutsNothing well before now
+HaltedHolds chunk files (readings.Compressed offset name) well before now = PutsNothing well before now
+HaltedHolds chunk files (readings.Limit offset) well before now = PutsNothing well before now
 HaltedHolds chunk files readings.Memory well before now = ⊥
 
 -- By why the merge stopped: memory may lack before anything is written, or while it is.
 abbrev pub StoppedHolds : ℕ → List (List ℕ) → Stop → Bool → Option (List ℕ) → Option (List ℕ) → Type 0
 StoppedHolds chunk files (stops.Fault faults) well before now = HoldsFirst chunk files well before now
 StoppedHolds chunk files (stops.Limit blocks bytes) well before now = HoldsFirst chunk files well before now
-StoppedHolds chunk files stops.Memory well before now = HoldsNothing well before now ⊎ HoldsFirst chunk files well before now
+StoppedHolds chunk files stops.Memory well before now = PutsNothing well before now ⊎ HoldsFirst chunk files well before now
 
 -- By what a merge answered. No input that tells is found changed.
-abbrev pub OutputHolds : ℕ → List (List ℕ) → Result Merged MergeRefused → Bool → Option (List ℕ) → Option (List ℕ) → Type 0
-OutputHolds chunk files (Ok m) well before now = HoldsMerged chunk files m well before now
-OutputHolds chunk files (Err (merges.Halted input why)) well before now = HaltedHolds chunk files why well before now
-OutputHolds chunk files (Err (merges.Changed input offset)) well before now = ⊥
-OutputHolds chunk files (Err merges.TooManySchemas) well before now = HoldsNothing well before now
-OutputHolds chunk files (Err merges.TooManyChannels) well before now = HoldsNothing well before now
-OutputHolds chunk files (Err (merges.Stopped stop)) well before now = StoppedHolds chunk files stop well before now
+abbrev pub MergeOutputHolds : ℕ → List (List ℕ) → Result Merged MergeRefused → Bool → Option (List ℕ) → Option (List ℕ) → Type 0
+MergeOutputHolds chunk files (Ok m) well before now = HoldsMerged chunk files m well before now
+MergeOutputHolds chunk files (Err (merges.Halted input why)) well before now = HaltedHolds chunk files why well before now
+MergeOutputHolds chunk files (Err (merges.Changed input offset)) well before now = ⊥
+MergeOutputHolds chunk files (Err merges.TooManySchemas) well before now = PutsNothing well before now
+MergeOutputHolds chunk files (Err merges.TooManyChannels) well before now = PutsNothing well before now
+MergeOutputHolds chunk files (Err (merges.Stopped stop)) well before now = StoppedHolds chunk files stop well before now
 
 -- ---- the names
 
@@ -117,8 +117,8 @@ pub record Reached (chunk : ℕ) (inputs : List (List ℕ)) (out : List ℕ) (ol
   pub live_unused : live.faults ≡ 0
   -- and then the output's name holds what was merged of these bytes
   pub file : (told now : Told) (files : List (List ℕ)) → old.told ≡ Some told → new.told ≡ Some now → AllZip (HoldsBytes told) inputs files
-      → OutputHolds chunk files result live_kept (told.names out) (now.names out)
-  pub kept_are : entries ≡ map entry_of kept_inputs ++ kept kinds.Live out (record { well = live_kept; faults = stored.faults; left = None; asked = 0 }) ∷ []
+      → MergeOutputHolds chunk files result live_kept (told.names out) (now.names out)
+  pub kept_are : entries ≡ map input_entry kept_inputs ++ kept kinds.Live out (record { well = live_kept; faults = stored.faults; left = None; asked = 0 }) ∷ []
 
 -- an opening failed, or memory lacked for it
 abbrev pub unopened_so : Bool → Merging
@@ -129,7 +129,7 @@ unopened_so false = mergings.Refused (merges.Stopped stops.Memory)
 abbrev pub some_refused : List Opening → Bool
 some_refused entries = list_any (λ (entry : Opening). not entry.given) entries
 
-pub record IsRefusal (inputs : List (List ℕ)) (entries : List Opening) (merging : Merging) : Type 0 where
+pub record RefusesMerge (inputs : List (List ℕ)) (entries : List Opening) (merging : Merging) : Type 0 where
   pub answer : merging ≡ unopened_so (some_refused entries)
   pub fewer : some_refused entries ≡ false → length entries ≤ length inputs
 
@@ -139,69 +139,69 @@ merging_of (Err why) = mergings.Refused why
 
 -- what became of all names
 abbrev pub IsMerging : ℕ → List (List ℕ) → List ℕ → WorldState → WorldState → List Opening → Merging → Type 0
-IsMerging chunk inputs out old new entries merging = (IsRefusal inputs entries merging × Unreached out old new entries)
+IsMerging chunk inputs out old new entries merging = (RefusesMerge inputs entries merging × Unreached out old new entries)
     ⊎ ((result : Result Merged MergeRefused) × (merging ≡ merging_of result) × Reached chunk inputs out old new entries result)
 
 -- ---- the line
 
 -- merged inputs=I messages=M records=R
 unfoldable pub merged_line : ℕ → Merged → List ℕ
-merged_line inputs m = number_text (codes "merged inputs=") inputs ++ (number_text (codes " messages=") m.messages ++ (number_text (codes " records=") m.records ++ codes "\n"))
+merged_line inputs m = number_after_name (codes "merged inputs=") inputs ++ (number_after_name (codes " messages=") m.messages ++ (number_after_name (codes " records=") m.records ++ codes "\n"))
 
 -- the name of the input of that number, from 0
 abbrev pub name_at : List (List ℕ) → ℕ → List ℕ
 name_at inputs n = get_or inputs n []
 
 -- how a merging ended in which the reading of the input of that number ended so
-abbrev pub ending_at : ℕ → one.Ending → Ending
+abbrev pub ending_at : ℕ → one.Ending → JoinEnding
 ending_at n (one.was_read text) = was_written text
 ending_at n (one.halted trouble) = halted n trouble
 ending_at n one.failing = failing
 ending_at n one.lacked = lacked
 
 -- and one that stopped
-abbrev pub stop_ending : Stop → Ending
+abbrev pub stop_ending : Stop → JoinEnding
 stop_ending (stops.Fault faults) = failing
 stop_ending (stops.Limit blocks bytes) = limited
 stop_ending stops.Memory = lacked
 
 -- how a merging ended that was refused; an input that changed is told as one that breaks a rule
-abbrev pub merge_ending : List (List ℕ) → MergeRefused → Ending
+abbrev pub merge_ending : List (List ℕ) → MergeRefused → JoinEnding
 merge_ending inputs (merges.Halted input why) = ending_at input (refusal_ending (name_at inputs input) why)
 merge_ending inputs (merges.Changed input offset) = halted input (grammar (name_at inputs input) offset)
 merge_ending inputs merges.TooManySchemas = limited
 merge_ending inputs merges.TooManyChannels = limited
 merge_ending inputs (merges.Stopped stop) = stop_ending stop
 
-abbrev pub ending_of : List (List ℕ) → Merging → Ending
-ending_of inputs mergings.Unopened = failing
-ending_of inputs (mergings.Made m) = was_written (merged_line (length inputs) m)
-ending_of inputs (mergings.Refused why) = merge_ending inputs why
+abbrev pub ending_of_merging : List (List ℕ) → Merging → JoinEnding
+ending_of_merging inputs mergings.Unopened = failing
+ending_of_merging inputs (mergings.Made m) = was_written (merged_line (length inputs) m)
+ending_of_merging inputs (mergings.Refused why) = merge_ending inputs why
 
 -- what became of all names, and which of them failed; where the merging failed, a failure of one is told
 pub record NamesMerged (chunk : ℕ) (inputs : List (List ℕ)) (out : List ℕ) (old new : WorldState) (outcome : Outcome) : Type 0 where
   pub entries : List Opening
   pub comes : IsMerging chunk inputs out old new entries outcome.merging
   pub names : NamesKept inputs out old new entries outcome.inputs_failed.items outcome.out_failed
-  pub well : HaltsWell inputs (ending_of inputs outcome.merging)
-  pub sure : ending_of inputs outcome.merging ≡ failing → (some_failed outcome.inputs_failed.items ≡ true) ⊎ (outcome.out_failed ≡ true)
+  pub well : HaltsByInput inputs (ending_of_merging inputs outcome.merging)
+  pub sure : ending_of_merging inputs outcome.merging ≡ failing → (some_failed outcome.inputs_failed.items ≡ true) ⊎ (outcome.out_failed ≡ true)
 
 -- ---- the status
 
 -- a reading of these bytes comes to their Data End
-abbrev pub IsWhole : List ℕ → Type 0
-IsWhole bytes = (tops : List Top) × (end : ℕ) × Halts reading_limits bytes tops (at_end end)
+abbrev pub ReachesDataEnd : List ℕ → Type 0
+ReachesDataEnd bytes = (tops : List Top) × (end : ℕ) × Halts reading_limits bytes tops (at_end end)
 
 -- the file of that number, from 0, halts so, and those before it come to their Data Ends
 pub record FirstHalts (files : List (List ℕ)) (n : ℕ) (halts : List ℕ → Type 0) : Type 0 where
-  pub before : (k : ℕ) (bytes : List ℕ) → k < n → At files k bytes → IsWhole bytes
+  pub before : (k : ℕ) (bytes : List ℕ) → k < n → At files k bytes → ReachesDataEnd bytes
   pub bytes : List ℕ
   pub at : At files n bytes
   pub so : halts bytes
 
 -- all files come to their Data Ends, and that is so of their records
-abbrev pub OfRead : List (List ℕ) → (List (List Top) → Type 0) → Type 0
-OfRead files P = (inputs : List (List Top)) × AreRead files inputs × P inputs
+abbrev pub OfWholeFiles : List (List ℕ) → (List (List Top) → Type 0) → Type 0
+OfWholeFiles files P = (inputs : List (List Top)) × AreRead files inputs × P inputs
 
 -- Where nothing failed, the file of that number decides, whose reading was refused; memory lacks for the merge, not for it.
 abbrev pub HaltDecides : List (List ℕ) → ℕ → ReadingRefused → ℕ → Type 0
@@ -213,18 +213,18 @@ HaltDecides files input readings.Memory status = ⊥
 
 abbrev pub StopDecides : List (List ℕ) → Stop → ℕ → Type 0
 StopDecides files (stops.Fault faults) status = ⊥
-StopDecides files (stops.Limit blocks bytes) status = OfRead files (λ inputs. Unit {0}) × (status ≡ 4)
+StopDecides files (stops.Limit blocks bytes) status = OfWholeFiles files (λ inputs. Unit {0}) × (status ≡ 4)
 StopDecides files stops.Memory status = status ≡ 5
 
 -- Where nothing failed, the bytes decide, but for want of memory and for the limits of a file.
-abbrev pub Decides : List (List ℕ) → Merging → ℕ → Type 0
-Decides files mergings.Unopened status = ⊥
-Decides files (mergings.Made m) status = OfRead files (λ inputs. Unit {0}) × (status ≡ 0)
-Decides files (mergings.Refused (merges.Halted input why)) status = HaltDecides files input why status
-Decides files (mergings.Refused (merges.Changed input offset)) status = ⊥
-Decides files (mergings.Refused merges.TooManySchemas) status = OfRead files (λ inputs. MoreThan id_limit (SchemaIsUsed inputs)) × (status ≡ 4)
-Decides files (mergings.Refused merges.TooManyChannels) status = OfRead files (λ inputs. MoreThan id_limit (IsUsed inputs) × AtMost id_limit (SchemaIsUsed inputs)) × (status ≡ 4)
-Decides files (mergings.Refused (merges.Stopped stop)) status = StopDecides files stop status
+abbrev pub MergeDecides : List (List ℕ) → Merging → ℕ → Type 0
+MergeDecides files mergings.Unopened status = ⊥
+MergeDecides files (mergings.Made m) status = OfWholeFiles files (λ inputs. Unit {0}) × (status ≡ 0)
+MergeDecides files (mergings.Refused (merges.Halted input why)) status = HaltDecides files input why status
+MergeDecides files (mergings.Refused (merges.Changed input offset)) status = ⊥
+MergeDecides files (mergings.Refused merges.TooManySchemas) status = OfWholeFiles files (λ inputs. MoreThan id_limit (SchemaIsUsed inputs)) × (status ≡ 4)
+MergeDecides files (mergings.Refused merges.TooManyChannels) status = OfWholeFiles files (λ inputs. MoreThan id_limit (IsUsed inputs) × AtMost id_limit (SchemaIsUsed inputs)) × (status ≡ 4)
+MergeDecides files (mergings.Refused (merges.Stopped stop)) status = StopDecides files stop status
 
 -- ---- the command
 
@@ -235,7 +235,7 @@ pub record MergesFiles (chunk : ℕ) (inputs : List (List ℕ)) (out : List ℕ)
   pub merging : Merging
   pub comes : IsMerging chunk inputs out old.world new.world entries merging
   -- standard output takes the line of what was merged, and standard error the troubles
-  pub ran : ReadsSomeWritesOne inputs out old new entries (ending_of inputs merging) status
+  pub ran : ReadsSomeWritesOne inputs out old new entries (ending_of_merging inputs merging) status
   -- where the world tells, the bytes under the inputs' names decide, unless a count rises
   pub decided : (told : Told) (files : List (List ℕ)) → old.world.told ≡ Some told → AllZip (HoldsBytes told) inputs files
-      → (AnyRose (counts_in old) (counts_in new) → ⊥) → Decides files merging status
+      → (AnyRose (counts_in old) (counts_in new) → ⊥) → MergeDecides files merging status

@@ -13,71 +13,71 @@ use Rattle.output_commands.specs.declared.failures.Failures.{Failures}
 
 -- How it ended: the output was written, and this is printed of it; the input can't be read, for that trouble; the output would
 -- pass a limit; an opening or an object failed; or memory lacked.
-pub data Ending : Type 0 where
-  was_written : List ℕ → Ending
-  halted : Trouble → Ending
-  limited : Ending
-  failing : Ending
-  lacked : Ending
+pub data RewriteEnding : Type 0 where
+  was_written : List ℕ → RewriteEnding
+  halted : Trouble → RewriteEnding
+  limited : RewriteEnding
+  failing : RewriteEnding
+  lacked : RewriteEnding
 
 -- the text for standard output
-abbrev pub text_of : Ending → List ℕ
-text_of (was_written text) = text
-text_of (halted trouble) = []
-text_of limited = []
-text_of failing = []
-text_of lacked = []
+abbrev pub rewritten_text : RewriteEnding → List ℕ
+rewritten_text (was_written text) = text
+rewritten_text (halted trouble) = []
+rewritten_text limited = []
+rewritten_text failing = []
+rewritten_text lacked = []
 
 -- the trouble that the input is; whether the output would pass a limit; and whether memory lacked
-abbrev pub halts_in : Ending → List Trouble
-halts_in (was_written text) = []
-halts_in (halted trouble) = trouble ∷ []
-halts_in limited = []
-halts_in failing = []
-halts_in lacked = []
+abbrev pub input_halt : RewriteEnding → List Trouble
+input_halt (was_written text) = []
+input_halt (halted trouble) = trouble ∷ []
+input_halt limited = []
+input_halt failing = []
+input_halt lacked = []
 
-abbrev pub is_limited : Ending → Bool
-is_limited (was_written text) = false
-is_limited (halted trouble) = false
-is_limited limited = true
-is_limited failing = false
-is_limited lacked = false
+abbrev pub is_output_limited : RewriteEnding → Bool
+is_output_limited (was_written text) = false
+is_output_limited (halted trouble) = false
+is_output_limited limited = true
+is_output_limited failing = false
+is_output_limited lacked = false
 
-abbrev pub is_lack : Ending → Bool
-is_lack (was_written text) = false
-is_lack (halted trouble) = false
-is_lack limited = false
-is_lack failing = false
-is_lack lacked = true
+abbrev pub is_recovery_lack : RewriteEnding → Bool
+is_recovery_lack (was_written text) = false
+is_recovery_lack (halted trouble) = false
+is_recovery_lack limited = false
+is_recovery_lack failing = false
+is_recovery_lack lacked = true
 
 -- what there is to tell of it besides faults
-abbrev pub findings_of : List ℕ → Ending → Findings
-findings_of out ending = record { halts = halts_in ending ∷ []; limits = when (is_limited ending) (output_limit out); lacked = is_lack ending }
+abbrev pub rewritten_findings : List ℕ → RewriteEnding → Findings
+rewritten_findings out ending = record { halts = input_halt ending ∷ []; limits = when (is_output_limited ending) (output_limit out); lacked = is_recovery_lack ending }
 
 -- the status that it asks for
-abbrev pub ending_status : Ending → ℕ
-ending_status (was_written text) = 0
-ending_status (halted trouble) = asked_status trouble
-ending_status limited = 4
-ending_status failing = 3
-ending_status lacked = 5
+abbrev pub rewritten_status : RewriteEnding → ℕ
+rewritten_status (was_written text) = 0
+rewritten_status (halted trouble) = asked_status trouble
+rewritten_status limited = 4
+rewritten_status failing = 3
+rewritten_status lacked = 5
 
 -- what halts the reading of an input is a file that breaks a rule
-abbrev pub HaltsWell : Ending → Type 0
-HaltsWell ending = (trouble : Trouble) → ending ≡ halted trouble → asked_status trouble ≡ 1
+abbrev pub HaltsByRule : RewriteEnding → Type 0
+HaltsByRule ending = (trouble : Trouble) → ending ≡ halted trouble → asked_status trouble ≡ 1
 
 -- ---- the names
 
 -- the input, opened as a source, and then the output
-abbrev pub files_of : List ℕ → List ℕ → Files
-files_of input out = record { kind = kinds.Source; inputs = input ∷ []; outputs = out ∷ [] }
+abbrev pub input_and_output : List ℕ → List ℕ → Files
+input_and_output input out = record { kind = kinds.Source; inputs = input ∷ []; outputs = out ∷ [] }
 
-abbrev pub failed_of : Bool → Bool → Failed
-failed_of input out = record { inputs = input ∷ []; outputs = out ∷ [] }
+abbrev pub failed_rewrite : Bool → Bool → Failed
+failed_rewrite input out = record { inputs = input ∷ []; outputs = out ∷ [] }
 
 -- what became of both: each was opened and taken back, or not, and failed or not
-pub record NamesKept (input out : List ℕ) (old new : WorldState) (entries : List Opening) (input_failed out_failed : Bool) : Type 0 where
-  pub opened : AreOpened (wanted (files_of input out)) entries
+pub record BothNamesKept (input out : List ℕ) (old new : WorldState) (entries : List Opening) (input_failed out_failed : Bool) : Type 0 where
+  pub opened : AreOpened (wanted (input_and_output input out)) entries
   pub leaves : Leaves old new entries
   pub counts : CountsKept old new entries
   pub names_are : failed_names entries ≡ named_when input_failed input ++ (named_when out_failed out ++ [])
@@ -90,7 +90,7 @@ pub record NamesKept (input out : List ℕ) (old new : WorldState) (entries : Li
   pub world_told : old.faults < 2 ^ 64 - 1 → Rose old.faults new.faults → (input_failed ≡ true) ⊎ (out_failed ≡ true)
 
 -- Nothing was read from the input and nothing written: the output's name holds what it held.
-pub record Unreached (input out : List ℕ) (old new : WorldState) (entries : List Opening) : Type 0 where
+pub record BothUnreached (input out : List ℕ) (old new : WorldState) (entries : List Opening) : Type 0 where
   pub inputs : input_faults entries ≡ 0
   pub outputs : output_faults entries ≡ 0
   pub left : (keeping : Keeping) (more : List Opening) (told : Told) → entries ≡ kept kinds.Source input keeping ∷ more → old.told ≡ Some told → keeping.left ≡ told.names input
@@ -119,13 +119,13 @@ pub record FaultsShow (before now : Counts) (input_failed out_failed : Bool) (fa
 -- ---- the command
 
 -- What a command did to the world and to both outputs that opened the one name and then the other, and that ended so.
-pub record ReadsOneWritesOne (input out : List ℕ) (old new : Scene) (entries : List Opening) (ending : Ending) (status : ℕ) : Type 0 where
+pub record ReadsOneWritesOne (input out : List ℕ) (old new : Scene) (entries : List Opening) (ending : RewriteEnding) (status : ℕ) : Type 0 where
   -- standard output takes the text, and standard error the troubles, which give the status
-  pub ran : Ran (files_of input out) old new entries (text_of ending) (findings_of out ending) status
+  pub ran : Ran (input_and_output input out) old new entries (rewritten_text ending) (rewritten_findings out ending) status
   -- the names that are blamed are those whose counts rose
   pub input_blamed : Bool
   pub out_blamed : Bool
-  pub blame : ran.failed ≡ failed_of input_blamed out_blamed
+  pub blame : ran.failed ≡ failed_rewrite input_blamed out_blamed
   pub causes : Causes (counts_in old) (counts_in new) input_blamed out_blamed
   -- 5 is the answer exactly where memory lacked
   pub five : (status ≡ 5) ↔ (ending ≡ lacked)
@@ -133,6 +133,6 @@ pub record ReadsOneWritesOne (input out : List ℕ) (old new : Scene) (entries :
   pub rose : AnyRose (counts_in old) (counts_in new) → (status ≡ 3) ⊎ (status ≡ 5)
   pub three : status ≡ 3 → AnyRose (counts_in old) (counts_in new)
   -- unless a count rises, neither name failed, and the ending decides the status
-  pub calm : (AnyRose (counts_in old) (counts_in new) → ⊥) → (failed_names entries ≡ []) × (ending ≡ failing → ⊥) × (status ≡ ending_status ending)
+  pub calm : (AnyRose (counts_in old) (counts_in new) → ⊥) → (failed_names entries ≡ []) × (ending ≡ failing → ⊥) × (status ≡ rewritten_status ending)
   -- the status 0 says that the output was written without a failure, and that all of the text was taken
   pub whole : status ≡ 0 → (failed_names entries ≡ []) × ((text : List ℕ) × (ending ≡ was_written text) × TellsAll old.out new.out text)

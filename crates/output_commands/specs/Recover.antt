@@ -27,7 +27,7 @@ use Rattle.command_base.specs.Ran.{Scene, counts_in, AnyRose, kept}
 use Rattle.output_commands.specs.declared.recovering.Recovery.{Recovery}
 use Rattle.output_commands.specs.declared.recovering.Recovery.TheVariants as recoveries
 use Rattle.output_commands.specs.declared.recovering.Restored.{Restored}
-use Rattle.output_commands.specs.OneOutput.{Ending, was_written, halted, limited, failing, lacked, NamesKept, Unreached, ReadsOneWritesOne}
+use Rattle.output_commands.specs.OneOutput.{RewriteEnding, was_written, halted, limited, failing, lacked, BothNamesKept, BothUnreached, ReadsOneWritesOne}
 
 -- ---- what the output holds
 
@@ -62,8 +62,8 @@ pub record HoldsPart (chunk : ℕ) (bytes : List ℕ) (well : Bool) (before now 
   pub part : (profile : List ℕ) (extras : List Top) (history : List Rec) → Repaired bytes profile extras history → IsPrefix text (file_of (recovered_options profile chunk) extras history)
 
 -- nothing was put there, since the bytes don't begin with the magic
-abbrev pub HoldsNothing : List ℕ → Bool → Option (List ℕ) → Option (List ℕ) → Type 0
-HoldsNothing bytes well before now = (V1 bytes → ⊥) × IsPlaced [] well before now
+abbrev pub NoMagicHolds : List ℕ → Bool → Option (List ℕ) → Option (List ℕ) → Type 0
+NoMagicHolds bytes well before now = (V1 bytes → ⊥) × IsPlaced [] well before now
 
 -- a first part, where the source failed or memory lacked; a reading is refused for nothing else
 abbrev pub UnreadHolds : ℕ → List ℕ → ReadingRefused → Bool → Option (List ℕ) → Option (List ℕ) → Type 0
@@ -74,16 +74,16 @@ UnreadHolds chunk bytes (scans.Limit offset) well before now = ⊥
 UnreadHolds chunk bytes scans.Memory well before now = HoldsPart chunk bytes well before now
 
 -- of these bytes, by what a recovery answered
-abbrev pub OutputHolds : ℕ → List ℕ → Result Recovered RecoverRefused → Bool → Option (List ℕ) → Option (List ℕ) → Type 0
-OutputHolds chunk bytes (Ok r) well before now = HoldsRecovered chunk bytes r well before now
-OutputHolds chunk bytes (Err refusals.NoMagic) well before now = HoldsNothing bytes well before now
-OutputHolds chunk bytes (Err (refusals.Refused why)) well before now = UnreadHolds chunk bytes why well before now
-OutputHolds chunk bytes (Err (refusals.Stopped stop)) well before now = HoldsPart chunk bytes well before now
+abbrev pub RecoveryOutputHolds : ℕ → List ℕ → Result Recovered RecoverRefused → Bool → Option (List ℕ) → Option (List ℕ) → Type 0
+RecoveryOutputHolds chunk bytes (Ok r) well before now = HoldsRecovered chunk bytes r well before now
+RecoveryOutputHolds chunk bytes (Err refusals.NoMagic) well before now = NoMagicHolds bytes well before now
+RecoveryOutputHolds chunk bytes (Err (refusals.Refused why)) well before now = UnreadHolds chunk bytes why well before now
+RecoveryOutputHolds chunk bytes (Err (refusals.Stopped stop)) well before now = HoldsPart chunk bytes well before now
 
 -- ---- the names
 
 -- Both were opened. The source under the one name was recovered into the store under the other, and both were taken back.
-pub record Reached (chunk : ℕ) (input out : List ℕ) (old new : WorldState) (entries : List Opening) (result : Result Recovered RecoverRefused) : Type 0 where
+pub record BothReached (chunk : ℕ) (input out : List ℕ) (old new : WorldState) (entries : List Opening) (result : Result Recovered RecoverRefused) : Type 0 where
   -- as the world gave them and as it took them back, and whether that went well
   pub source : SourceState
   pub back : SourceState
@@ -98,20 +98,20 @@ pub record Reached (chunk : ℕ) (input out : List ℕ) (old new : WorldState) (
   pub live_unused : live.faults ≡ 0
   -- and then the output's name holds what was recovered of these bytes
   pub file : (told now : Told) (bytes : List ℕ) → old.told ≡ Some told → new.told ≡ Some now → told.names input ≡ Some bytes
-      → OutputHolds chunk bytes result live_kept (told.names out) (now.names out)
+      → RecoveryOutputHolds chunk bytes result live_kept (told.names out) (now.names out)
   pub kept_are : entries ≡ kept kinds.Source input (record { well = source_kept; faults = back.faults; left = back.left; asked = 0 })
       ∷ kept kinds.Live out (record { well = live_kept; faults = stored.faults; left = None; asked = 0 }) ∷ []
 
 -- the last opening was refused: a failure has its entry, a want of memory none
-abbrev pub IsRefusal : List Opening → Recovery → Type 0
-IsRefusal [] recovery = recovery ≡ recoveries.Refused lacks
-IsRefusal (entry ∷ []) recovery = ((entry.given ≡ false) × (recovery ≡ recoveries.Unopened)) ⊎ ((entry.given ≡ true) × (recovery ≡ recoveries.Refused lacks))
-IsRefusal (entry ∷ other ∷ more) recovery = (other.given ≡ false) × (recovery ≡ recoveries.Unopened)
+abbrev pub RefusesRecovery : List Opening → Recovery → Type 0
+RefusesRecovery [] recovery = recovery ≡ recoveries.Refused lacks
+RefusesRecovery (entry ∷ []) recovery = ((entry.given ≡ false) × (recovery ≡ recoveries.Unopened)) ⊎ ((entry.given ≡ true) × (recovery ≡ recoveries.Refused lacks))
+RefusesRecovery (entry ∷ other ∷ more) recovery = (other.given ≡ false) × (recovery ≡ recoveries.Unopened)
 
 -- an opening failed, or memory lacked for it
-abbrev pub unopened_so : Bool → Recovery
-unopened_so true = recoveries.Unopened
-unopened_so false = recoveries.Refused lacks
+abbrev pub unopened_recovery : Bool → Recovery
+unopened_recovery true = recoveries.Unopened
+unopened_recovery false = recoveries.Refused lacks
 
 abbrev pub recovery_of : Result Recovered RecoverRefused → Recovery
 recovery_of (Ok r) = recoveries.Made r
@@ -119,8 +119,8 @@ recovery_of (Err why) = recoveries.Refused why
 
 -- what became of both names
 abbrev pub IsRecovery : ℕ → List ℕ → List ℕ → WorldState → WorldState → List Opening → Recovery → Type 0
-IsRecovery chunk input out old new entries recovery = (IsRefusal entries recovery × Unreached input out old new entries)
-    ⊎ ((result : Result Recovered RecoverRefused) × (recovery ≡ recovery_of result) × Reached chunk input out old new entries result)
+IsRecovery chunk input out old new entries recovery = (RefusesRecovery entries recovery × BothUnreached input out old new entries)
+    ⊎ ((result : Result Recovered RecoverRefused) × (recovery ≡ recovery_of result) × BothReached chunk input out old new entries result)
 
 -- ---- the line
 
@@ -132,43 +132,43 @@ why_text whys.Compressed = codes "compressed"
 why_text whys.Limit = codes "limit"
 
 -- a number behind its name
-unfoldable pub number_text : List ℕ → ℕ → List ℕ
-number_text name n = name ++ decimal n
+unfoldable pub number_after_name : List ℕ → ℕ → List ℕ
+number_after_name name n = name ++ decimal n
 
 -- recovered messages=M records=R extras=X at=N WHY
 unfoldable pub recovered_line : Recovered → List ℕ
-recovered_line r = number_text (codes "recovered messages=") r.messages ++ (number_text (codes " records=") r.records ++ (number_text (codes " extras=") r.extras
-    ++ (number_text (codes " at=") r.at ++ (codes " " ++ (why_text r.why ++ codes "\n")))))
+recovered_line r = number_after_name (codes "recovered messages=") r.messages ++ (number_after_name (codes " records=") r.records ++ (number_after_name (codes " extras=") r.extras
+    ++ (number_after_name (codes " at=") r.at ++ (codes " " ++ (why_text r.why ++ codes "\n")))))
 
 -- how the recovery ended: of what else a reading can be refused for none comes
-abbrev pub unread_ending : ReadingRefused → Ending
+abbrev pub unread_ending : ReadingRefused → RewriteEnding
 unread_ending (scans.Fault faults) = failing
 unread_ending (scans.Grammar offset rule) = failing
 unread_ending (scans.Compressed offset name) = failing
 unread_ending (scans.Limit offset) = failing
 unread_ending scans.Memory = lacked
 
-abbrev pub stopped_ending : Stop → Ending
+abbrev pub stopped_ending : Stop → RewriteEnding
 stopped_ending (stops.Fault faults) = failing
 stopped_ending (stops.Limit blocks bytes) = limited
 stopped_ending stops.Memory = lacked
 
-abbrev pub refusal_ending : List ℕ → RecoverRefused → Ending
-refusal_ending input refusals.NoMagic = halted (grammar input 0)
-refusal_ending input (refusals.Refused why) = unread_ending why
-refusal_ending input (refusals.Stopped stop) = stopped_ending stop
+abbrev pub unrecovered_ending : List ℕ → RecoverRefused → RewriteEnding
+unrecovered_ending input refusals.NoMagic = halted (grammar input 0)
+unrecovered_ending input (refusals.Refused why) = unread_ending why
+unrecovered_ending input (refusals.Stopped stop) = stopped_ending stop
 
-abbrev pub ending_of : List ℕ → Recovery → Ending
-ending_of input recoveries.Unopened = failing
-ending_of input (recoveries.Made r) = was_written (recovered_line r)
-ending_of input (recoveries.Refused why) = refusal_ending input why
+abbrev pub ending_of_recovery : List ℕ → Recovery → RewriteEnding
+ending_of_recovery input recoveries.Unopened = failing
+ending_of_recovery input (recoveries.Made r) = was_written (recovered_line r)
+ending_of_recovery input (recoveries.Refused why) = unrecovered_ending input why
 
 -- what became of both names, and which of them failed; where the recovery failed, a failure of one is told
 pub record NamesRecovered (chunk : ℕ) (input out : List ℕ) (old new : WorldState) (restored : Restored) : Type 0 where
   pub entries : List Opening
   pub comes : IsRecovery chunk input out old new entries restored.recovery
-  pub names : NamesKept input out old new entries restored.input_failed restored.out_failed
-  pub sure : ending_of input restored.recovery ≡ failing → (restored.input_failed ≡ true) ⊎ (restored.out_failed ≡ true)
+  pub names : BothNamesKept input out old new entries restored.input_failed restored.out_failed
+  pub sure : ending_of_recovery input restored.recovery ≡ failing → (restored.input_failed ≡ true) ⊎ (restored.out_failed ≡ true)
 
 -- ---- the status
 
@@ -180,18 +180,18 @@ ReadingDecides (scans.Compressed offset name) status = ⊥
 ReadingDecides (scans.Limit offset) status = ⊥
 ReadingDecides scans.Memory status = status ≡ 5
 
-abbrev pub StopDecides : List ℕ → Stop → ℕ → Type 0
-StopDecides bytes (stops.Fault faults) status = ⊥
-StopDecides bytes (stops.Limit blocks written) status = V1 bytes × (status ≡ 4)
-StopDecides bytes stops.Memory status = status ≡ 5
+abbrev pub RecoveryStopDecides : List ℕ → Stop → ℕ → Type 0
+RecoveryStopDecides bytes (stops.Fault faults) status = ⊥
+RecoveryStopDecides bytes (stops.Limit blocks written) status = V1 bytes × (status ≡ 4)
+RecoveryStopDecides bytes stops.Memory status = status ≡ 5
 
 -- Where nothing failed, the first bytes decide, but for want of memory and for the limit of the output.
-abbrev pub Decides : List ℕ → Recovery → ℕ → Type 0
-Decides bytes recoveries.Unopened status = ⊥
-Decides bytes (recoveries.Made r) status = V1 bytes × (status ≡ 0)
-Decides bytes (recoveries.Refused refusals.NoMagic) status = (V1 bytes → ⊥) × (status ≡ 1)
-Decides bytes (recoveries.Refused (refusals.Refused why)) status = ReadingDecides why status
-Decides bytes (recoveries.Refused (refusals.Stopped stop)) status = StopDecides bytes stop status
+abbrev pub RecoveryDecides : List ℕ → Recovery → ℕ → Type 0
+RecoveryDecides bytes recoveries.Unopened status = ⊥
+RecoveryDecides bytes (recoveries.Made r) status = V1 bytes × (status ≡ 0)
+RecoveryDecides bytes (recoveries.Refused refusals.NoMagic) status = (V1 bytes → ⊥) × (status ≡ 1)
+RecoveryDecides bytes (recoveries.Refused (refusals.Refused why)) status = ReadingDecides why status
+RecoveryDecides bytes (recoveries.Refused (refusals.Stopped stop)) status = RecoveryStopDecides bytes stop status
 
 -- ---- the command
 
@@ -202,7 +202,7 @@ pub record RecoversFile (chunk : ℕ) (input out : List ℕ) (old new : Scene) (
   pub recovery : Recovery
   pub comes : IsRecovery chunk input out old.world new.world entries recovery
   -- standard output takes the line of what was recovered, and standard error the troubles
-  pub ran : ReadsOneWritesOne input out old new entries (ending_of input recovery) status
+  pub ran : ReadsOneWritesOne input out old new entries (ending_of_recovery input recovery) status
   -- where the world tells, the bytes under the input's name decide, unless a count rises
   pub decided : (told : Told) (bytes : List ℕ) → old.world.told ≡ Some told → told.names input ≡ Some bytes
-      → (AnyRose (counts_in old) (counts_in new) → ⊥) → Decides bytes recovery status
+      → (AnyRose (counts_in old) (counts_in new) → ⊥) → RecoveryDecides bytes recovery status

@@ -19,8 +19,8 @@ abbrev pub store_keeping : StoreState → Bool → Keeping
 store_keeping store well = record { well = well; faults = store.faults; left = None; asked = store.asked }
 
 -- its entry
-abbrev pub entry_of : InputKept → Opening
-entry_of k = kept kinds.Store k.name (store_keeping k.back k.well)
+abbrev pub input_entry : InputKept → Opening
+input_entry k = kept kinds.Store k.name (store_keeping k.back k.well)
 
 abbrev pub names_kept : List InputKept → List (List ℕ)
 names_kept inputs = map (λ (k : InputKept). k.name) inputs
@@ -28,8 +28,8 @@ names_kept inputs = map (λ (k : InputKept). k.name) inputs
 abbrev pub back_stores : List InputKept → List StoreState
 back_stores inputs = map (λ (k : InputKept). k.back) inputs
 
-abbrev pub given : List ℕ → Opening
-given input = opened kinds.Store input true
+abbrev pub input_given : List ℕ → Opening
+input_given input = opened kinds.Store input true
 
 -- the names, and the log with these openings behind
 abbrev pub with_openings : Told → List Opening → Told
@@ -37,14 +37,14 @@ with_openings told entries = record { names = told.names; log = told.log ++ entr
 
 -- All were given, in their order, and this is seen of their stores.
 pub record InputsOpened (old new : WorldState) (inputs : List (List ℕ)) (stores : List StoreState) : Type 0 where
-  pub told : (told : Told) → old.told ≡ Some told → new.told ≡ Some (with_openings told (map given inputs))
+  pub told : (told : Told) → old.told ≡ Some told → new.told ≡ Some (with_openings told (map input_given inputs))
   pub stands : CountsStand old new
   pub still : new.faults ≡ old.faults
   pub tells : AllZip (TellsStore old) inputs stores
   pub unused : Each IsUnused stores
 
 -- The first of them were given, and then one was refused.
-pub record InputRefused (old new : WorldState) (inputs : List (List ℕ)) (stores : List StoreState) (why : OpenRefused) : Type 0 where
+pub record InputOpeningRefused (old new : WorldState) (inputs : List (List ℕ)) (stores : List StoreState) (why : OpenRefused) : Type 0 where
   pub between : WorldState
   pub first : InputsOpened old between (take (length stores) inputs) stores
   pub name : List ℕ
@@ -73,12 +73,12 @@ pub record InputsKept (old new : WorldState) (names : List (List ℕ)) (stores :
   pub kept : List InputKept
   pub names_are : names ≡ names_kept kept
   pub stores_are : stores ≡ back_stores kept
-  pub told : (told : Told) (log behind : List Opening) → old.told ≡ Some told → told.log ≡ log ++ (map given names ++ behind) → NoStoreOut behind
-      → (now : Told) × (new.told ≡ Some now) × (now.names ≡ told.names) × (now.log ≡ log ++ (map entry_of kept ++ behind))
-  pub world : old.faults < 2 ^ 64 → new.faults ≡ added old.faults (world_faults (map entry_of kept))
-  pub inputs : old.input_faults < 2 ^ 64 → new.input_faults ≡ added old.input_faults (input_faults (map entry_of kept))
+  pub told : (told : Told) (log behind : List Opening) → old.told ≡ Some told → told.log ≡ log ++ (map input_given names ++ behind) → NoStoreOut behind
+      → (now : Told) × (new.told ≡ Some now) × (now.names ≡ told.names) × (now.log ≡ log ++ (map input_entry kept ++ behind))
+  pub world : old.faults < 2 ^ 64 → new.faults ≡ added old.faults (world_faults (map input_entry kept))
+  pub inputs : old.input_faults < 2 ^ 64 → new.input_faults ≡ added old.input_faults (input_faults (map input_entry kept))
   pub outputs : new.output_faults ≡ old.output_faults
-  pub failed_are : failed ≡ map (λ (k : InputKept). has_failed (entry_of k)) kept
+  pub failed_are : failed ≡ map (λ (k : InputKept). has_failed (input_entry k)) kept
 
 -- which inputs failed, with the one that was refused
 abbrev pub flags_with : List Bool → Bool → List Bool

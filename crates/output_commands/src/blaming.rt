@@ -5,7 +5,7 @@ ghost use Rattle.arrayvec.specs.ArrayVec.{array_vec_len};
 ghost use Rattle.mcap_io.specs.Outside.{Rose};
 ghost use Rattle.command_base.specs.Texts.{complained};
 ghost use Rattle.command_base.specs.Ran.{first_failed, first_halts, told_of, troubles_of, Complains};
-ghost use Rattle.output_commands.specs.SomeOutput.{Ending, input_limit, halts_in, is_limited, is_lack, findings_of, halted_lists, files_of, failed_of, some_failed, flags_of, PartsShow};
+ghost use Rattle.output_commands.specs.SomeOutput.{JoinEnding, input_limit, halts_in, is_limited, is_merge_lack, joined_findings, halted_lists, inputs_and_output, failed_of, some_failed, flags_of, PartsShow};
 
 use arrayvec::ArrayVec;
 use command_base::{Complaint, Counts, complain_of, due_when, rose};
@@ -136,8 +136,8 @@ pub(crate) fn answer_inputs<'a, E: Sink>(
     failed: FailedParts<'_>,
 ) -> u8
     requires { length inputs.now ≤ input_limit }
-    ensures { (ending : Ending) → halted_lists halted.entry ≡ halts_in ending → limited ≡ is_limited ending → lacked ≡ is_lack ending
-        → Complains (troubles_of (files_of inputs.now out.now) (findings_of out.now ending) (failed_of (flags_of inputs.now failed.entry) failed.entry.out) failed.entry.printing) (E.state err.old) (E.state err.new) result }
+    ensures { (ending : JoinEnding) → halted_lists halted.entry ≡ halts_in ending → limited ≡ is_limited ending → lacked ≡ is_merge_lack ending
+        → Complains (troubles_of (inputs_and_output inputs.now out.now) (joined_findings out.now ending) (failed_of (flags_of inputs.now failed.entry) failed.entry.out) failed.entry.printing) (E.state err.old) (E.state err.new) result }
 {
     let mut complaints = input_complaints(inputs, halted, failed);
     complaints.push(due_when(failed.out, Complaint::Fault { name: out }));

@@ -3,7 +3,7 @@ ghost use Rattle.std.specs.Prelude.{◌≡◌, ◌⊎◌, true, false};
 ghost use Rattle.mcap_io.specs.Outside.{Rose};
 ghost use Rattle.command_base.specs.Texts.{complained};
 ghost use Rattle.command_base.specs.Ran.{troubles_of, Complains};
-ghost use Rattle.output_commands.specs.OneOutput.{Ending, halts_in, is_limited, is_lack, findings_of, files_of, failed_of, FaultsShow};
+ghost use Rattle.output_commands.specs.OneOutput.{RewriteEnding, input_halt, is_output_limited, is_recovery_lack, rewritten_findings, input_and_output, failed_rewrite, FaultsShow};
 
 use command_base::{Complaint, Counts, complain_of, due_when, rose};
 use mcap_io::{OpenRefused, Sink};
@@ -57,8 +57,8 @@ pub(crate) fn answer_output<'a, E: Sink>(
     lacked: bool,
     failed: Failures,
 ) -> u8
-    ensures { (ending : Ending) → complained halt.entry ≡ halts_in ending → limited ≡ is_limited ending → lacked ≡ is_lack ending
-        → Complains (troubles_of (files_of input.now out.now) (findings_of out.now ending) (failed_of failed.input failed.out) failed.printing) (E.state err.old) (E.state err.new) result }
+    ensures { (ending : RewriteEnding) → complained halt.entry ≡ input_halt ending → limited ≡ is_output_limited ending → lacked ≡ is_recovery_lack ending
+        → Complains (troubles_of (input_and_output input.now out.now) (rewritten_findings out.now ending) (failed_rewrite failed.input failed.out) failed.printing) (E.state err.old) (E.state err.new) result }
 {
     let complaints = [
         halt,

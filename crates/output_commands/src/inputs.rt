@@ -1,6 +1,6 @@
 //! The inputs of a command that reads several files: opened in their order, and taken back.
 ghost use Rattle.std.specs.Prelude.{◌≡◌, ◌≤◌, ◌<◌, [], length, map, vec_len, vec_capacity, IfOk, IfErr, OnOk, OnErr};
-ghost use Rattle.output_commands.specs.SomeInputs.{InputsOpened, InputRefused, OneKept, InputsKept, flags_with};
+ghost use Rattle.output_commands.specs.SomeInputs.{InputsOpened, InputOpeningRefused, OneKept, InputsKept, flags_with};
 
 use command_base::has_failed;
 use mcap_io::{OpenRefused, Store, World};
@@ -40,7 +40,7 @@ pub(crate) fn open_inputs<W: World>(
     ensures all { OnOk result (InputsOpened (W.state world.old) (W.state world.new) inputs.now (map W.Store.state stores.new.items)) }
     ensures many { OnOk result (vec_len stores.new ≡ length inputs.now) }
     ensures fewer { OnErr result (vec_len stores.new < length inputs.now) }
-    ensures some { IfErr result (InputRefused (W.state world.old) (W.state world.new) inputs.now (map W.Store.state stores.new.items)) }
+    ensures some { IfErr result (InputOpeningRefused (W.state world.old) (W.state world.new) inputs.now (map W.Store.state stores.new.items)) }
 {
     'inputs: for input in inputs {
         match world.store(input.as_str()) {

@@ -5,10 +5,10 @@ ghost use Rattle.mcap_wire.specs.Limits.{chunk_size_limit};
 ghost use Rattle.command_base.specs.Printing.{Takes};
 ghost use Rattle.command_base.specs.Ran.{scene};
 ghost use Rattle.output_commands.specs.SomeInputs.{InputsOpened};
-ghost use Rattle.output_commands.specs.SomeOutput.{AreFew, text_of, halts_in, is_limited, is_lack, halted_lists};
+ghost use Rattle.output_commands.specs.SomeOutput.{InputsAreFew, joined_text, halts_in, is_limited, is_merge_lack, halted_lists};
 ghost use Rattle.command_base.specs.Texts.{complained};
 ghost use Rattle.command_base.specs.OneFile.{Ending as OneEnding, troubles_in};
-ghost use Rattle.output_commands.specs.Merge.{merging_of as came_to, unopened_so, name_at, ending_at, stop_ending, merge_ending, ending_of, NamesMerged, MergesFiles};
+ghost use Rattle.output_commands.specs.Merge.{merging_of as came_to, unopened_so, name_at, ending_at, stop_ending, merge_ending, ending_of_merging, NamesMerged, MergesFiles};
 
 use crate::blaming::{Halted, answer_inputs, failed_parts};
 use crate::failures::is_failed;
@@ -74,7 +74,7 @@ fn merge_opened<W: World>(
 ) -> Outcome
     requires some { 1 ≤ chunk }
     requires within { chunk ≤ chunk_size_limit }
-    requires few { AreFew inputs.now }
+    requires few { InputsAreFew inputs.now }
     requires many { vec_len room.stores ≡ length inputs.now }
     requires none { room.failed.items ≡ [] }
     requires room { length inputs.now ≤ vec_capacity room.failed }
@@ -119,7 +119,7 @@ fn merge_names<W: World>(
 ) -> Outcome
     requires some { 1 ≤ chunk }
     requires within { chunk ≤ chunk_size_limit }
-    requires few { AreFew inputs.now }
+    requires few { InputsAreFew inputs.now }
     requires world_fits { (W.state world.old).faults < 2 ^ 64 }
     requires inputs_fit { (W.state world.old).input_faults < 2 ^ 64 }
     requires outputs_fit { (W.state world.old).output_faults < 2 ^ 64 }
@@ -158,7 +158,7 @@ fn merge_names<W: World>(
 
 // Prints the line of what was merged, if something was. It takes no memory.
 fn print_merging<O: Sink>(out: &mut O, inputs: &[Text], merging: &Merging)
-    ensures { Takes (O.state out.old) (O.state out.new) (text_of (ending_of inputs.now merging.now)) }
+    ensures { Takes (O.state out.old) (O.state out.new) (joined_text (ending_of_merging inputs.now merging.now)) }
 {
     match merging {
         Merging::Made { merged } => {
@@ -220,7 +220,7 @@ fn halted_by<'a>(inputs: &'a [Text], why: &'a MergeRefused) -> Option<Halted<'a>
 
 // The same of what a merging came to.
 fn halted_in<'a>(inputs: &'a [Text], merging: &'a Merging) -> Option<Halted<'a>>
-    ensures { halted_lists result ≡ halts_in (ending_of inputs.now merging.now) }
+    ensures { halted_lists result ≡ halts_in (ending_of_merging inputs.now merging.now) }
 {
     match merging {
         Merging::Refused { why } => halted_by(inputs, why),
@@ -240,7 +240,7 @@ fn stops_at_limit(stop: &Stop) -> bool
 
 // Whether it stopped for want of memory.
 fn stops_for_memory(stop: &Stop) -> bool
-    ensures { result ≡ is_lack (stop_ending stop.now) }
+    ensures { result ≡ is_merge_lack (stop_ending stop.now) }
 {
     match stop {
         Stop::Memory => true,
@@ -264,7 +264,7 @@ fn is_refused_at_limit(why: &MergeRefused) -> bool
 // Whether it was for want of memory.
 #[tactic(auto, using(crate::proofs::Halting::halted_lack))]
 fn is_refused_for_memory(why: &MergeRefused) -> bool
-    ensures { (inputs : List (List ℕ)) → result ≡ is_lack (merge_ending inputs why.now) }
+    ensures { (inputs : List (List ℕ)) → result ≡ is_merge_lack (merge_ending inputs why.now) }
 {
     match why {
         MergeRefused::Halted { input: _, why } => return lacks_memory(why),
@@ -276,7 +276,7 @@ fn is_refused_for_memory(why: &MergeRefused) -> bool
 
 // Whether the output would pass a limit.
 fn is_at_limit(merging: &Merging) -> bool
-    ensures { (inputs : List (List ℕ)) → result ≡ is_limited (ending_of inputs merging.now) }
+    ensures { (inputs : List (List ℕ)) → result ≡ is_limited (ending_of_merging inputs merging.now) }
 {
     match merging {
         Merging::Refused { why } => is_refused_at_limit(why),
@@ -286,7 +286,7 @@ fn is_at_limit(merging: &Merging) -> bool
 
 // Whether memory lacked.
 fn has_lacked(merging: &Merging) -> bool
-    ensures { (inputs : List (List ℕ)) → result ≡ is_lack (ending_of inputs merging.now) }
+    ensures { (inputs : List (List ℕ)) → result ≡ is_merge_lack (ending_of_merging inputs merging.now) }
 {
     match merging {
         Merging::Refused { why } => is_refused_for_memory(why),
@@ -309,7 +309,7 @@ pub fn merge_file<W: World, O: Sink, E: Sink>(
 ) -> u8
     requires some { 1 ≤ chunk }
     requires within { chunk ≤ chunk_size_limit }
-    requires few { AreFew inputs.now }
+    requires few { InputsAreFew inputs.now }
     ensures { MergesFiles chunk inputs.now out_name.now
         (scene (W.state world.old) (O.state out.old) (E.state err.old))
         (scene (W.state world.new) (O.state out.new) (E.state err.new))

@@ -1,15 +1,15 @@
 //! The line of what was recovered.
 ghost use Rattle.std.specs.Prelude.{◌≡◌, ◌+◌, ◌≤◌, ◌++◌, length};
-ghost use Rattle.output_commands.specs.Recover.{number_text, recovered_line, why_text};
+ghost use Rattle.output_commands.specs.Recover.{number_after_name, recovered_line, why_text};
 
 use command_base::{LINE_ROOM, Line};
 use mcap_recover::{Recovered, Why};
 
 /// Puts a number behind its name, behind the line.
-#[tactic(auto, unfolding(crate::specs::Recover::number_text))]
+#[tactic(auto, unfolding(crate::specs::Recover::number_after_name))]
 pub(crate) fn push_named(line: &mut Line, name: &str, number: u64)
     requires { length line.old + length name.now + 20 ≤ LINE_ROOM }
-    ensures text { line.new ≡ line.old ++ number_text name.now number }
+    ensures text { line.new ≡ line.old ++ number_after_name name.now number }
     ensures len { length line.new ≤ length line.old + length name.now + 20 }
 {
     line.push_text(name);

@@ -4,8 +4,8 @@ ghost use Rattle.mcap_wire.specs.Limits.{chunk_size_limit};
 ghost use Rattle.command_base.specs.Texts.{complained};
 ghost use Rattle.command_base.specs.Printing.{Takes};
 ghost use Rattle.command_base.specs.Ran.{scene};
-ghost use Rattle.output_commands.specs.OneOutput.{text_of, halts_in, is_limited, is_lack};
-ghost use Rattle.output_commands.specs.Recover.{recovery_of as came_to, unopened_so, ending_of, NamesRecovered, RecoversFile};
+ghost use Rattle.output_commands.specs.OneOutput.{rewritten_text, input_halt, is_output_limited, is_recovery_lack};
+ghost use Rattle.output_commands.specs.Recover.{recovery_of as came_to, unopened_recovery, ending_of_recovery, NamesRecovered, RecoversFile};
 
 use crate::failures::{answer_output, failures_of, is_failed};
 use crate::recovered_line::line_of_recovered;
@@ -46,7 +46,7 @@ fn recovery_of(answer: Result<Recovered, RecoverRefused>) -> Recovery
 
 // Nothing was recovered, since an opening failed, or else for want of memory.
 fn unopened(failed: bool) -> Recovery
-    ensures { result ≡ unopened_so failed }
+    ensures { result ≡ unopened_recovery failed }
 {
     if failed {
         return Recovery::Unopened;
@@ -110,7 +110,7 @@ fn recover_names<W: World>(
 
 // Prints the line of what was recovered, if something was. It takes no memory.
 fn print_recovery<O: Sink>(out: &mut O, recovery: &Recovery)
-    ensures { (input : List ℕ) → Takes (O.state out.old) (O.state out.new) (text_of (ending_of input recovery.now)) }
+    ensures { (input : List ℕ) → Takes (O.state out.old) (O.state out.new) (rewritten_text (ending_of_recovery input recovery.now)) }
 {
     match recovery {
         Recovery::Made { recovered } => {
@@ -127,7 +127,7 @@ fn print_recovery<O: Sink>(out: &mut O, recovery: &Recovery)
 
 // The complaint of a source that doesn't begin with the magic.
 fn halt_complaint<'a>(input: &'a str, recovery: &Recovery) -> Option<Complaint<'a>>
-    ensures { complained result ≡ halts_in (ending_of input.now recovery.now) }
+    ensures { complained result ≡ input_halt (ending_of_recovery input.now recovery.now) }
 {
     match recovery {
         Recovery::Refused {
@@ -145,7 +145,7 @@ fn halt_complaint<'a>(input: &'a str, recovery: &Recovery) -> Option<Complaint<'
 
 // Whether the output would pass a limit.
 fn is_at_limit(recovery: &Recovery) -> bool
-    ensures { (input : List ℕ) → result ≡ is_limited (ending_of input recovery.now) }
+    ensures { (input : List ℕ) → result ≡ is_output_limited (ending_of_recovery input recovery.now) }
 {
     match recovery {
         Recovery::Refused {
@@ -159,7 +159,7 @@ fn is_at_limit(recovery: &Recovery) -> bool
 
 // Whether memory lacked.
 fn has_lacked(recovery: &Recovery) -> bool
-    ensures { (input : List ℕ) → result ≡ is_lack (ending_of input recovery.now) }
+    ensures { (input : List ℕ) → result ≡ is_recovery_lack (ending_of_recovery input recovery.now) }
 {
     match recovery {
         Recovery::Refused {

@@ -9,7 +9,7 @@ use Rattle.mcap_wire.specs.Contents.{a_number, a_text, some_bytes, row, RowBegin
 use Rattle.mcap_wire.proofs.Numbers.{length-le}
 use Rattle.mcap_wire.proofs.Contents.{begins, begins_end, begins_decided, not_refused, refused}
 use Rattle.mcap_wire.proofs.Fields.{number_spelled}
-use Rattle.rec_data.specs.Laws.{IsMessage}
+use Rattle.rec_data.specs.Laws.{IsMessageContent}
 use Rattle.mcap_wire.proofs.Framing.{length-string, are_bytes}
 use Rattle.mcap_wire.specs.declared.faults.Bad.{Bad}
 use Rattle.rec_data.specs.Fields.{HeaderFields, FooterFields, SchemaFields, MessageFields, AttachmentFields}
@@ -116,7 +116,7 @@ message_decided content id other m n one two =
     (ap (λ v. v.0) same.0, one_message id other m n same.0 same.1)
 
 -- bytes that are enough for the fields of a Message are one
-message_of : (content : List ℕ) → All (λ b. b < 256) content → 22 ≤ length content → IsMessage content
+message_of : (content : List ℕ) → All (λ b. b < 256) content → 22 ≤ length content → IsMessageContent content
 message_of content bytes long =
     let small = are_bytes content bytes in
     let id = number_spelled 2 content 0 small (omega arith) in
@@ -137,7 +137,7 @@ message_of content bytes long =
 pub length-message_text : (channel_id : ℕ) (m : MessageFields) → length (message_text channel_id m) ≡ 22 + length m.payload
 length-message_text channel_id m = simp (length-append, length-le) (omega arith)
 
-pub message_is_long : (content : List ℕ) → All (λ b. b < 256) content → IsMessage content ↔ (22 ≤ length content)
+pub message_is_long : (content : List ℕ) → All (λ b. b < 256) content → IsMessageContent content ↔ (22 ≤ length content)
 message_is_long content bytes = (
   λ m. omega (arith, ap length m.2.spelled_there, length-message_text m.0 m.1),
   message_of content bytes,

@@ -22,12 +22,12 @@ pub record MessagesReadBack : Type 0 where
       → ShowsMessage content other n → (id ≡ other) × (m ≡ n)
 
 -- a content shows some Message
-abbrev pub IsMessage : List ℕ → Type 0
-IsMessage content = (channel_id : ℕ) × (m : MessageFields) × ShowsMessage content channel_id m
+abbrev pub IsMessageContent : List ℕ → Type 0
+IsMessageContent content = (channel_id : ℕ) × (m : MessageFields) × ShowsMessage content channel_id m
 
 -- bytes are a Message exactly where there are enough for its fields
 abbrev pub MessagesAreLongEnough : Type 0
-MessagesAreLongEnough = (content : List ℕ) → All (λ b. b < 256) content → IsMessage content ↔ (22 ≤ length content)
+MessagesAreLongEnough = (content : List ℕ) → All (λ b. b < 256) content → IsMessageContent content ↔ (22 ≤ length content)
 
 -- a Message with its first two bytes replaced is the same Message on another channel
 abbrev pub MessagesChangeChannel : Type 0

@@ -17,7 +17,7 @@ use Rattle.rec_data.specs.Owned.{rec_opcode, rec_text, rec_bytes}
 use Rattle.mcap_model.specs.History.{history_bytes}
 use Rattle.record_cache.specs.Reading.{records_shown}
 use Rattle.byte_region.specs.Regions.{RegionView, empty_region}
-use Rattle.record_cache.specs.Buffers.{IsKept, Buffer, buffer_of, IsBuffer, IsHeld}
+use Rattle.record_cache.specs.Buffers.{IsKept, Buffer, buffer_of, IsBuffer, HasRecordRoom}
 use Rattle.record_cache.specs.Offers.{Offered, StartsAt, StandsThere}
 use Rattle.record_cache.proofs.Readback.{records_read}
 
@@ -36,7 +36,7 @@ empty_buffer limit items small none = subst (IsBuffer limit 0) (sym none) (recor
   room = omega arith;
 })
 
-pub empty_held : (limit : ℕ) (region : RegionView) → limit ≤ 1073741824 → region ≡ empty_region (limit + 33554463) → IsHeld limit 0 region
+pub empty_held : (limit : ℕ) (region : RegionView) → limit ≤ 1073741824 → region ≡ empty_region (limit + 33554463) → HasRecordRoom limit 0 region
 empty_held limit region small none = record {
   buffer = empty_buffer limit region.bytes small (ap (λ (r : RegionView). r.bytes) none);
   reserved = ap (λ (r : RegionView). r.room) none;

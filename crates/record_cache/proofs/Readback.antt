@@ -13,7 +13,7 @@ use Rattle.rec_data.specs.Owned.{rec_opcode, rec_text, rec_bytes, RecFits}
 use Rattle.rec_data.specs.Records.{schema_text, channel_text, message_text}
 use Rattle.mcap_model.specs.History.{history_bytes}
 use Rattle.mcap_model.proofs.Unpacking.{number_first}
-use Rattle.record_cache.specs.Reading.{first_text, behind_text, pairs_within, schema_read, map_read, channel_read, message_read, record_read, records_within, records_shown}
+use Rattle.record_cache.specs.Reading.{first_text, bytes_behind_text, pairs_within, schema_read, map_read, channel_read, message_read, record_read, records_within, records_shown}
 use Rattle.record_cache.specs.Buffers.{IsKept}
 
 -- ---- numbers and texts
@@ -39,14 +39,14 @@ text_first text rest fits =
     ap (λ (n : ℕ). take n (drop 4 (string text ++ rest))) (text_length text rest fits)
     ∙ ap (take (length text)) (text_parts text rest) ∙ take-append_seam text rest
 
-text_behind : (text rest : List ℕ) → length text < 2 ^ 32 → behind_text (string text ++ rest) ≡ rest
+text_behind : (text rest : List ℕ) → length text < 2 ^ 32 → bytes_behind_text (string text ++ rest) ≡ rest
 text_behind text rest fits =
     ap (λ (n : ℕ). drop n (drop 4 (string text ++ rest))) (text_length text rest fits)
     ∙ ap (drop (length text)) (text_parts text rest) ∙ drop-append_seam text rest
 
 -- ---- maps
 
-pairs_step : (n : ℕ) (bytes : List ℕ) → 0 < length bytes → pairs_within (suc n) bytes ≡ (first_text bytes, first_text (behind_text bytes)) ∷ pairs_within n (behind_text (behind_text bytes))
+pairs_step : (n : ℕ) (bytes : List ℕ) → 0 < length bytes → pairs_within (suc n) bytes ≡ (first_text bytes, first_text (bytes_behind_text bytes)) ∷ pairs_within n (bytes_behind_text (bytes_behind_text bytes))
 unfolding pairs_within
 pairs_step n [] some = absurd (omega (arith, some))
 pairs_step n (b ∷ bs) some = refl
@@ -73,13 +73,13 @@ pairs_found (suc n) (p ∷ ps) few all =
     let spelled : pair_texts (p ∷ ps) ≡ string p.0 ++ (string p.1 ++ rest) = append_assoc (string p.0) (string p.1) rest in
     let bytes = string p.0 ++ (string p.1 ++ rest) in
     let some : 0 < length bytes = omega (arith, length-append (string p.0) (string p.1 ++ rest), length-string p.0) in
-    let behind : behind_text bytes ≡ string p.1 ++ rest = text_behind p.0 (string p.1 ++ rest) key_fits in
+    let behind : bytes_behind_text bytes ≡ string p.1 ++ rest = text_behind p.0 (string p.1 ++ rest) key_fits in
     let later = pairs_found n ps (omega (arith, few)) (λ k d lt. all (suc k) d (omega (arith, lt))) in
     ap (pairs_within (suc n)) spelled ∙ pairs_step n bytes some
-    ∙ pair_same (first_text bytes) p.0 (first_text (behind_text bytes)) p.1 (pairs_within n (behind_text (behind_text bytes))) ps
+    ∙ pair_same (first_text bytes) p.0 (first_text (bytes_behind_text bytes)) p.1 (pairs_within n (bytes_behind_text (bytes_behind_text bytes))) ps
     (text_first p.0 (string p.1 ++ rest) key_fits)
     (ap first_text behind ∙ text_first p.1 rest value_fits)
-    (ap (pairs_within n) (ap behind_text behind ∙ text_behind p.1 rest value_fits) ∙ later)
+    (ap (pairs_within n) (ap bytes_behind_text behind ∙ text_behind p.1 rest value_fits) ∙ later)
 
 pairs_short : (pairs : List (List ℕ × List ℕ)) → length pairs ≤ length (pair_texts pairs)
 pairs_short [] = omega arith
@@ -106,10 +106,10 @@ schema_found id name encoding payload id_fits name_fits encoding_fits payload_fi
     let second = string encoding ++ third in
     let first = string name ++ second in
     let at_name : drop 2 (le 2 id ++ first) ≡ first = number_behind 2 id first in
-    let at_encoding : behind_text (drop 2 (le 2 id ++ first)) ≡ second = ap behind_text at_name ∙ text_behind name second name_fits in
-    let at_payload : behind_text (behind_text (drop 2 (le 2 id ++ first))) ≡ third = ap behind_text at_encoding ∙ text_behind encoding third encoding_fits in
+    let at_encoding : bytes_behind_text (drop 2 (le 2 id ++ first)) ≡ second = ap bytes_behind_text at_name ∙ text_behind name second name_fits in
+    let at_payload : bytes_behind_text (bytes_behind_text (drop 2 (le 2 id ++ first))) ≡ third = ap bytes_behind_text at_encoding ∙ text_behind encoding third encoding_fits in
     schema_same (number (take 2 (le 2 id ++ first))) id (first_text (drop 2 (le 2 id ++ first))) name
-    (first_text (behind_text (drop 2 (le 2 id ++ first)))) encoding (first_text (behind_text (behind_text (drop 2 (le 2 id ++ first))))) payload
+    (first_text (bytes_behind_text (drop 2 (le 2 id ++ first)))) encoding (first_text (bytes_behind_text (bytes_behind_text (drop 2 (le 2 id ++ first))))) payload
     (number_first 2 id first id_fits)
     (ap first_text at_name ∙ text_first name second name_fits)
     (ap first_text at_encoding ∙ text_first encoding third encoding_fits)
@@ -128,10 +128,10 @@ channel_found id schema topic encoding metadata id_fits schema_fits topic_fits e
     let content = le 2 id ++ (le 2 schema ++ first) in
     let at_schema : drop 2 content ≡ le 2 schema ++ first = number_behind 2 id (le 2 schema ++ first) in
     let at_topic : drop 2 (drop 2 content) ≡ first = ap (drop 2) at_schema ∙ number_behind 2 schema first in
-    let at_encoding : behind_text (drop 2 (drop 2 content)) ≡ second = ap behind_text at_topic ∙ text_behind topic second topic_fits in
-    let at_map : behind_text (behind_text (drop 2 (drop 2 content))) ≡ third = ap behind_text at_encoding ∙ text_behind encoding third encoding_fits in
+    let at_encoding : bytes_behind_text (drop 2 (drop 2 content)) ≡ second = ap bytes_behind_text at_topic ∙ text_behind topic second topic_fits in
+    let at_map : bytes_behind_text (bytes_behind_text (drop 2 (drop 2 content))) ≡ third = ap bytes_behind_text at_encoding ∙ text_behind encoding third encoding_fits in
     channel_same (number (take 2 content)) id (number (take 2 (drop 2 content))) schema (first_text (drop 2 (drop 2 content))) topic
-    (first_text (behind_text (drop 2 (drop 2 content)))) encoding (map_read (first_text (behind_text (behind_text (drop 2 (drop 2 content)))))) metadata
+    (first_text (bytes_behind_text (drop 2 (drop 2 content)))) encoding (map_read (first_text (bytes_behind_text (bytes_behind_text (drop 2 (drop 2 content)))))) metadata
     (number_first 2 id (le 2 schema ++ first) id_fits)
     (ap (λ (l : List ℕ). number (take 2 l)) at_schema ∙ number_first 2 schema first schema_fits)
     (ap first_text at_topic ∙ text_first topic second topic_fits)

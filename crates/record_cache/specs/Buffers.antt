@@ -37,6 +37,6 @@ pub record IsBuffer (limit count : ℕ) (framed : List ℕ) : Type 0 where
   pub room : length framed ≤ limit + record_limit
 
 -- Its region has the room for a record that begins below the limit.
-pub record IsHeld (limit count : ℕ) (region : RegionView) : Type 0 where
+pub record HasRecordRoom (limit count : ℕ) (region : RegionView) : Type 0 where
   pub buffer : IsBuffer limit count region.bytes
   pub reserved : region.room ≡ limit + record_limit

@@ -8,20 +8,20 @@ use Rattle.rec_data.specs.declared.owned.Rec.TheVariants.{Schema, Channel, Messa
 abbrev pub first_text : List ℕ → List ℕ
 first_text bytes = take (number (take 4 bytes)) (drop 4 bytes)
 
-abbrev pub behind_text : List ℕ → List ℕ
-behind_text bytes = drop (number (take 4 bytes)) (drop 4 bytes)
+abbrev pub bytes_behind_text : List ℕ → List ℕ
+bytes_behind_text bytes = drop (number (take 4 bytes)) (drop 4 bytes)
 
 -- at most so many pairs of texts
 unfoldable pub pairs_within : ℕ → List ℕ → List (List ℕ × List ℕ)
 pairs_within zero bytes = []
 pairs_within (suc n) [] = []
-pairs_within (suc n) (b ∷ bs) = (first_text (b ∷ bs), first_text (behind_text (b ∷ bs))) ∷ pairs_within n (behind_text (behind_text (b ∷ bs)))
+pairs_within (suc n) (b ∷ bs) = (first_text (b ∷ bs), first_text (bytes_behind_text (b ∷ bs))) ∷ pairs_within n (bytes_behind_text (bytes_behind_text (b ∷ bs)))
 
 unfoldable pub schema_read : List ℕ → Rec
 schema_read content = Schema (number (take 2 content)) (record {
   name = first_text (drop 2 content);
-  encoding = first_text (behind_text (drop 2 content));
-  payload = first_text (behind_text (behind_text (drop 2 content)));
+  encoding = first_text (bytes_behind_text (drop 2 content));
+  payload = first_text (bytes_behind_text (bytes_behind_text (drop 2 content)));
 })
 
 unfoldable pub map_read : List ℕ → List (List ℕ × List ℕ)
@@ -30,7 +30,7 @@ map_read bytes = pairs_within (length bytes) bytes
 unfoldable pub channel_read : List ℕ → Rec
 channel_read content =
     Channel (number (take 2 content)) (number (take 2 (drop 2 content))) (first_text (drop 2 (drop 2 content)))
-    (first_text (behind_text (drop 2 (drop 2 content)))) (map_read (first_text (behind_text (behind_text (drop 2 (drop 2 content))))))
+    (first_text (bytes_behind_text (drop 2 (drop 2 content)))) (map_read (first_text (bytes_behind_text (bytes_behind_text (drop 2 (drop 2 content))))))
 
 unfoldable pub message_read : List ℕ → Rec
 message_read content =

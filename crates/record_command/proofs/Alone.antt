@@ -12,8 +12,8 @@ use Rattle.live_directory.specs.Reading.{ReaderState}
 use Rattle.watching.specs.declared.report.WatchReport.{WatchReport}
 use Rattle.watching.specs.declared.report.WatchEnd.{WatchEnd}
 use Rattle.watching.specs.declared.report.WatchEnd.TheVariants as watch_ends
-use Rattle.watching.specs.Text.{Ending, undecided, sealed_by, unsealed, WatchText, WatchPart, WatchTextOf, WatchPartOf, replays_of, IsReplayText}
-use Rattle.watching.specs.Watching.{Written, unwritten, written_by, Takes, WritesTo, Holds}
+use Rattle.watching.specs.Text.{SealState, undecided, sealed_by, unsealed, WatchText, WatchPart, WatchTextOf, WatchPartOf, replays_of, IsReplayText}
+use Rattle.watching.specs.Watching.{Written, unwritten, written_by, TakesSuchText, WritesTo, HoldsAllSealed}
 use Rattle.watching.proofs.Taking.{takes_as}
 use Rattle.watching.proofs.Texts.{whole_as, part_as}
 use Rattle.watched_recording.specs.Watched.{Watch, WatchTells, IsWatched}
@@ -50,19 +50,19 @@ module _ {X : Type 0} (tells : X → Option (List ℕ)) where
     as_many : length entries ≡ length (map told_entry entries)
     as_many = sym (length-map entries told_entry)
 
-    whole_so : (fronts : List ℕ) (ending : Ending) (old new : Option (List ℕ)) → Takes (WatchTextOf tells range entries fronts ending) old new → Takes (WatchTextOf told_bytes range (map told_entry entries) fronts ending) old new
+    whole_so : (fronts : List ℕ) (ending : SealState) (old new : Option (List ℕ)) → TakesSuchText (WatchTextOf tells range entries fronts ending) old new → TakesSuchText (WatchTextOf told_bytes range (map told_entry entries) fronts ending) old new
     whole_so fronts ending old new took =
         takes_as (WatchTextOf tells range entries fronts ending) (WatchTextOf told_bytes range (map told_entry entries) fronts ending) old new
         (λ t is. subst (λ (blocks : ℕ). WatchText (replays_of told_bytes range (map told_entry entries)) blocks fronts ending t) as_many
         (whole_as (replays_of tells range entries) (replays_of told_bytes range (map told_entry entries)) (length entries) replays_so fronts ending t is)) took
 
-    part_so : (fronts : List ℕ) (ending : Ending) (old new : Option (List ℕ)) → Takes (WatchPartOf tells range entries fronts ending) old new → Takes (WatchPartOf told_bytes range (map told_entry entries) fronts ending) old new
+    part_so : (fronts : List ℕ) (ending : SealState) (old new : Option (List ℕ)) → TakesSuchText (WatchPartOf tells range entries fronts ending) old new → TakesSuchText (WatchPartOf told_bytes range (map told_entry entries) fronts ending) old new
     part_so fronts ending old new took =
         takes_as (WatchPartOf tells range entries fronts ending) (WatchPartOf told_bytes range (map told_entry entries) fronts ending) old new
         (λ t is. subst (λ (blocks : ℕ). WatchPart (replays_of told_bytes range (map told_entry entries)) blocks fronts ending t) as_many
         (part_as (replays_of tells range entries) (replays_of told_bytes range (map told_entry entries)) (length entries) replays_so fronts ending t is)) took
 
-    writes_so : (ending : Ending) (before now : Written) (end : WatchEnd) → WritesTo tells range entries ending before now (Some end) → WritesTo told_bytes range (map told_entry entries) ending before now (Some end)
+    writes_so : (ending : SealState) (before now : Written) (end : WatchEnd) → WritesTo tells range entries ending before now (Some end) → WritesTo told_bytes range (map told_entry entries) ending before now (Some end)
     writes_so ending before now watch_ends.Whole is = (is.0, is.1, whole_so now.fronts ending before.sink.took now.sink.took is.2)
     writes_so ending before now watch_ends.Unsealed is = (is.0, is.1, whole_so now.fronts ending before.sink.took now.sink.took is.2)
     writes_so ending before now (watch_ends.Fault faults) is = (is.0, part_so now.fronts ending before.sink.took now.sink.took is.1)
@@ -77,7 +77,7 @@ module _ {X : Type 0} (tells : X → Option (List ℕ)) where
   end_so [] = refl
   end_so (a ∷ more) = ap (end_or a.end) (end_so more)
 
-  holds_so : (reader : ReaderState X) (ending : Ending) → Holds reader ending → Holds (told_reader reader) ending
+  holds_so : (reader : ReaderState X) (ending : SealState) → HoldsAllSealed reader ending → HoldsAllSealed (told_reader reader) ending
   holds_so reader undecided is = tt
   holds_so reader (sealed_by end) is = (ap (map told_entry) is.0 ∙ entries_so reader.known, end_so reader.known ∙ is.1)
   holds_so reader unsealed is = is

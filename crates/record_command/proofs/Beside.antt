@@ -4,7 +4,7 @@ use Rattle.std.specs.List.{sum}
 use Rattle.std.proofs.lemmas.Bool.{cases_order}
 use Rattle.std.proofs.lemmas.List.{append-nil}
 use Rattle.std.proofs.lemmas.Option.{same_Some}
-use Rattle.mcap_io.specs.Outside.{HasCause, Opens, OpenCause, CountsStand, added, Opening, Told, Names, opened, with_opening, went_well, SourceState, SinkState, LiveState, WorldState, KeepsLive, Placed, NoneIsOut}
+use Rattle.mcap_io.specs.Outside.{HasCause, Opens, OpenCause, CountsStand, added, Opening, Told, Names, opened, with_opening, went_well, SourceState, SinkState, LiveState, WorldState, KeepsLive, PlacedUnder, NoneIsOut}
 use Rattle.mcap_io.specs.declared.outside.Failed.{Failed}
 use Rattle.mcap_io.specs.declared.outside.ObjectKind.{ObjectKind}
 use Rattle.mcap_io.specs.declared.outside.ObjectKind.TheVariants as kinds
@@ -14,12 +14,12 @@ use Rattle.mcap_io.proofs.Notes.{noted_in}
 use Rattle.mcap_model.specs.Places.{At, Has, Each}
 use Rattle.mcap_model.proofs.Places.{at_none, at_within, at_read, at_one, at_kept}
 use Rattle.mcap_model.proofs.Lists.{pairs_at}
-use Rattle.command_words.specs.Commands.{AreApart}
+use Rattle.command_words.specs.Commands.{NamesDiffer}
 use Rattle.command_base.specs.Ran.{Wanted, refused, input_faults, output_faults, world_faults, AreOpened}
 use Rattle.command_base.proofs.Counting.{added_none, kept_adds}
 use Rattle.command_base.proofs.Opened.{tells_more}
-use Rattle.record_command.specs.Record.{FeedKept, entry_of, live_entry}
-use Rattle.record_command.specs.Sources.{given, with_openings, FeedsKept}
+use Rattle.record_command.specs.Record.{FeedKept, feed_entry, live_entry}
+use Rattle.record_command.specs.Sources.{feed_given, with_feed_openings, FeedsKept}
 use Rattle.record_command.specs.Sinks.{SinkKept, sink_entry, sink_names, back_sinks, watch_faults, given_sink, AreOnce, SinkHolds, SinksOpened, SinksKept, ViewsLetGo, OutOpened}
 use Rattle.record_command.proofs.Runs.{world_faults-append, input_faults-append, output_faults-append, sources_write_nothing, refusal_of}
 
@@ -37,7 +37,7 @@ pub sinks_write_nothing : (ks : List SinkKept) → output_faults (map sink_entry
 sinks_write_nothing [] = refl
 sinks_write_nothing (k ∷ ks) = let more = sinks_write_nothing ks in omega (arith, more)
 
-pub feeds_watch_nothing : (ks : List FeedKept) → watch_faults (map entry_of ks) ≡ 0
+pub feeds_watch_nothing : (ks : List FeedKept) → watch_faults (map feed_entry ks) ≡ 0
 feeds_watch_nothing [] = refl
 feeds_watch_nothing (k ∷ ks) = let more = feeds_watch_nothing ks in omega (arith, more)
 
@@ -56,7 +56,7 @@ opened_sinks (k ∷ ks) rest behind opens = inr (record { well = k.well; faults 
 
 -- ---- names
 
-pub names_once : (out : List ℕ) (names : List (List ℕ)) → AreApart out names → AreOnce names
+pub names_once : (out : List ℕ) (names : List (List ℕ)) → NamesDiffer out names → AreOnce names
 names_once out names apart m n name first second = elim (cases_order m n) [
   | inl same ↦ same
   | inr (inl less) ↦ absurd (pairs_at (λ (a b : List ℕ). a ≡ b → ⊥) names apart.1 m n name name less first second refl)
@@ -66,7 +66,7 @@ names_once out names apart m n name first second = elim (cases_order m n) [
 pub once_front : (names more : List (List ℕ)) → AreOnce (names ++ more) → AreOnce names
 once_front names more once m n name first second = once m n name (at_kept names more m name first) (at_kept names more n name second)
 
-pub out_apart : (out : List ℕ) (names : List (List ℕ)) → AreApart out names → Has names out → ⊥
+pub out_apart : (out : List ℕ) (names : List (List ℕ)) → NamesDiffer out names → Has names out → ⊥
 out_apart out names apart has =
     let within = at_within names has.0 out has.1 in
     apart.0 has.0 out within (sym (at_one names has.0 (get_or names has.0 out) out (at_read names has.0 out within) has.1))
@@ -165,11 +165,11 @@ pub record AllSeen (out : List ℕ) (feeds names : List (List ℕ)) : Type 0 whe
 
 -- what the names hold then
 pub record NamesHold (out : List ℕ) (names : List (List ℕ)) (sinks : List SinkKept) (live : LiveState) (live_kept : Result Unit Failed) (all now : Names) : Type 0 where
-  pub output : (bytes : List ℕ) → live.held ≡ Some bytes → Placed all now out bytes live_kept
+  pub output : (bytes : List ℕ) → live.held ≡ Some bytes → PlacedUnder all now out bytes live_kept
   pub watch_files : Each (SinkHolds all now) sinks
   pub same : (name : List ℕ) → (name ≡ out → ⊥) → (Has names name → ⊥) → now name ≡ all name
 
-placed_from : (all before now : Names) (out bytes : List ℕ) (result : Result Unit Failed) → before out ≡ all out → Placed before now out bytes result → Placed all now out bytes result
+placed_from : (all before now : Names) (out bytes : List ℕ) (result : Result Unit Failed) → before out ≡ all out → PlacedUnder before now out bytes result → PlacedUnder all now out bytes result
 placed_from all before now out bytes (Ok it) same is = is
 placed_from all before now out bytes (Err why) same (inl is) = inl is
 placed_from all before now out bytes (Err why) same (inr is) = inr (is ∙ same)
@@ -186,7 +186,7 @@ has_named (x ∷ ks) (suc n) k at = let more = has_named ks n k at in (suc more.
 adds_both : (a b c m n : ℕ) → m ≡ added a b → n ≡ added m c → n ≡ added a (b + c)
 adds_both a b c m n first second = omega (arith, first, second)
 
-feeds_not_sinks : (fs : List FeedKept) (kind : ObjectKind) (name : List ℕ) → NoneIsOut kind name (map entry_of fs)
+feeds_not_sinks : (fs : List FeedKept) (kind : ObjectKind) (name : List ℕ) → NoneIsOut kind name (map feed_entry fs)
 feeds_not_sinks [] kind name k d within = absurd (omega (arith, within))
 feeds_not_sinks (f ∷ fs) kind name zero d within = λ is. let out = is.out in absurd cc
 feeds_not_sinks (f ∷ fs) kind name (suc n) d within = feeds_not_sinks fs kind name n d (omega (arith, within))
@@ -214,22 +214,22 @@ module _ (out : List ℕ) (feeds names : List (List ℕ)) (b : AllSeen out feeds
   sinks_behind = map sink_entry seen_sinks ++ b.behind
 
   abbrev pub seen_entries : List Opening
-  seen_entries = map entry_of seen_feeds ++ store ∷ sinks_behind
+  seen_entries = map feed_entry seen_feeds ++ store ∷ sinks_behind
 
   pub told_since : (told : Told) → b.w0.told ≡ Some told → (now : Told) × (b.w8.told ≡ Some now) × (now.log ≡ told.log ++ seen_entries) × NamesHold out names seen_sinks b.live_now b.live_kept told.names now.names
   told_since told here =
-      let t1 = with_openings told (map given feeds) in
+      let t1 = with_feed_openings told (map feed_given feeds) in
       let t2 = with_opening t1 (opened kinds.Live out true) in
-      let t3 = with_openings t2 (map given_sink names) in
+      let t3 = with_feed_openings t2 (map given_sink names) in
       let here2 = tells_more b.opens.between.told b.w2.told (opened kinds.Live out true) t1 b.opens.opens (b.opens.feeds_opened.told told here) in
       let t4 = b.refuses.told t3 (b.opens_sinks.told t2 here2) in
       let t6 = b.keeps_sinks.told t4.0 t2.log b.behind (b.lets_go.told ∙ t4.1) (t4.3 ∙ append_assoc t2.log (map given_sink names) b.behind) (λ name. b.refuses.none_out kinds.Sink name) in
-      let fronts : t6.0.log ≡ told.log ++ (map given feeds ++ opened kinds.Live out true ∷ sinks_behind) =
-      t6.2 ∙ append_assoc (told.log ++ map given feeds) (opened kinds.Live out true ∷ []) sinks_behind ∙ append_assoc told.log (map given feeds) (opened kinds.Live out true ∷ sinks_behind) in
+      let fronts : t6.0.log ≡ told.log ++ (map feed_given feeds ++ opened kinds.Live out true ∷ sinks_behind) =
+      t6.2 ∙ append_assoc (told.log ++ map feed_given feeds) (opened kinds.Live out true ∷ []) sinks_behind ∙ append_assoc told.log (map feed_given feeds) (opened kinds.Live out true ∷ sinks_behind) in
       let t7 = b.keeps.told t6.0 told.log (opened kinds.Live out true ∷ sinks_behind) t6.1 fronts (λ name. store_first out sinks_behind name (sinks_not_out seen_sinks b.behind kinds.Source name (b.refuses.none_out kinds.Source name))) in
       let t8 = b.keeps_out t7.0 t7.1 in
-      let noted = noted_in t7.0.log t8.0.log (told.log ++ map entry_of seen_feeds) sinks_behind (opened kinds.Live out true) kinds.Live out (record { well = went_well b.live_kept; faults = b.live_now.faults; left = None; asked = 0 }) (record {
-        there = t7.3 ∙ sym (append_assoc told.log (map entry_of seen_feeds) (opened kinds.Live out true ∷ sinks_behind));
+      let noted = noted_in t7.0.log t8.0.log (told.log ++ map feed_entry seen_feeds) sinks_behind (opened kinds.Live out true) kinds.Live out (record { well = went_well b.live_kept; faults = b.live_now.faults; left = None; asked = 0 }) (record {
+        there = t7.3 ∙ sym (append_assoc told.log (map feed_entry seen_feeds) (opened kinds.Live out true ∷ sinks_behind));
         out = record { kind_is = refl; name_is = refl; given = refl; out = refl };
         newest = sinks_not_out seen_sinks b.behind kinds.Live out (b.refuses.none_out kinds.Live out);
       }) t8.3 in
@@ -237,7 +237,7 @@ module _ (out : List ℕ) (feeds names : List (List ℕ)) (b : AllSeen out feeds
       let front : (name : List ℕ) → t4.0.names name ≡ told.names name = λ name. ap (λ (n : Names). n name) t4.2 in (
         t8.0,
         t8.1,
-        noted ∙ append_assoc told.log (map entry_of seen_feeds) (store ∷ sinks_behind),
+        noted ∙ append_assoc told.log (map feed_entry seen_feeds) (store ∷ sinks_behind),
         record {
           output = λ bytes held. placed_from told.names t7.0.names t8.0.names out bytes b.live_kept (back out ∙ t6.3 out b.others ∙ front out) (t8.2.placed bytes held);
           watch_files = λ n k at bytes took.
@@ -257,11 +257,11 @@ module _ (out : List ℕ) (feeds names : List (List ℕ)) (b : AllSeen out feeds
       subst (λ (n : Told). NamesHold out names seen_sinks b.live_now b.live_kept told.names n.names) (same_Some t.0 now (sym t.1 ∙ here_now)) t.3
 
   pub nothing_yet : (told : Told) → b.w0.told ≡ Some told → b.live.held ≡ Some []
-  nothing_yet told here = b.opens.nothing (with_openings told (map given feeds)) (b.opens.feeds_opened.told told here)
+  nothing_yet told here = b.opens.nothing (with_feed_openings told (map feed_given feeds)) (b.opens.feeds_opened.told told here)
 
   pub sinks_yet : (told : Told) → b.w0.told ≡ Some told → Each (λ (s : SinkState). s.took ≡ Some []) b.ks
   sinks_yet told here =
-      let t1 = with_openings told (map given feeds) in
+      let t1 = with_feed_openings told (map feed_given feeds) in
       b.opens_sinks.empty (with_opening t1 (opened kinds.Live out true)) (tells_more b.opens.between.told b.w2.told (opened kinds.Live out true) t1 b.opens.opens (b.opens.feeds_opened.told told here))
 
   pub world_since : b.w8.faults ≡ added b.w0.faults (world_faults seen_entries)
@@ -272,20 +272,20 @@ module _ (out : List ℕ) (feeds names : List (List ℕ)) (b : AllSeen out feeds
       let two = b.keeps_sinks.world (omega (arith, one)) in
       let three = adds_both b.w0.faults (world_faults b.behind) (world_faults (map sink_entry seen_sinks)) b.w5.faults b.w6.faults one two in
       let four = b.keeps.world (omega (arith, three)) in
-      let five = adds_both b.w0.faults (world_faults b.behind + world_faults (map sink_entry seen_sinks)) (world_faults (map entry_of seen_feeds)) b.w6.faults b.w7.faults three four in
+      let five = adds_both b.w0.faults (world_faults b.behind + world_faults (map sink_entry seen_sinks)) (world_faults (map feed_entry seen_feeds)) b.w6.faults b.w7.faults three four in
       let six = kept_adds b.w7.faults b.w8.faults b.live_kept (omega (arith, five)) b.cause_out in
-      omega (arith, five, six, world_faults-append (map entry_of seen_feeds) (store ∷ sinks_behind), world_faults-append (map sink_entry seen_sinks) b.behind)
+      omega (arith, five, six, world_faults-append (map feed_entry seen_feeds) (store ∷ sinks_behind), world_faults-append (map sink_entry seen_sinks) b.behind)
 
   pub inputs_since : b.w8.input_faults ≡ added b.w0.input_faults (input_faults seen_entries)
   inputs_since =
       let still : b.w6.input_faults ≡ b.w0.input_faults = b.keeps_sinks.inputs ∙ b.lets_go.inputs ∙ b.refuses.stands.inputs ∙ b.opens_sinks.stands.inputs ∙ b.opens.stands.inputs ∙ b.opens.feeds_opened.stands.inputs in
       let one = b.keeps.inputs (omega (arith, still, b.opens.fits.inputs)) in
-      omega (arith, still, one, b.inputs_now, input_faults-append (map entry_of seen_feeds) (store ∷ sinks_behind), input_faults-append (map sink_entry seen_sinks) b.behind, sinks_read_nothing seen_sinks, b.refuses.inputs)
+      omega (arith, still, one, b.inputs_now, input_faults-append (map feed_entry seen_feeds) (store ∷ sinks_behind), input_faults-append (map sink_entry seen_sinks) b.behind, sinks_read_nothing seen_sinks, b.refuses.inputs)
 
   pub outputs_since : b.w8.output_faults ≡ added b.w0.output_faults (output_faults seen_entries)
   outputs_since =
       let still : b.w7.output_faults ≡ b.w0.output_faults = b.keeps.outputs ∙ b.keeps_sinks.outputs ∙ b.lets_go.outputs ∙ b.refuses.stands.outputs ∙ b.opens_sinks.stands.outputs ∙ b.opens.stands.outputs ∙ b.opens.feeds_opened.stands.outputs in
-      omega (arith, still, b.outputs_now, output_faults-append (map entry_of seen_feeds) (store ∷ sinks_behind), output_faults-append (map sink_entry seen_sinks) b.behind, sources_write_nothing seen_feeds, sinks_write_nothing seen_sinks, b.refuses.outputs)
+      omega (arith, still, b.outputs_now, output_faults-append (map feed_entry seen_feeds) (store ∷ sinks_behind), output_faults-append (map sink_entry seen_sinks) b.behind, sources_write_nothing seen_feeds, sinks_write_nothing seen_sinks, b.refuses.outputs)
 
   pub watches_since : b.w8.watch_faults ≡ added b.w0.watch_faults (watch_faults seen_entries + sum b.views)
   watches_since =
@@ -294,4 +294,4 @@ module _ (out : List ℕ) (feeds names : List (List ℕ)) (b : AllSeen out feeds
       let two = b.keeps_sinks.watches (omega (arith, one)) in
       let three = adds_both b.w0.watch_faults (sum b.views) (watch_faults (map sink_entry seen_sinks)) b.w5.watch_faults b.w6.watch_faults one two in
       let last : b.w8.watch_faults ≡ b.w6.watch_faults = b.watches_now ∙ b.keeps.watches in
-      omega (arith, three, last, watch_faults-append (map entry_of seen_feeds) (store ∷ sinks_behind), watch_faults-append (map sink_entry seen_sinks) b.behind, feeds_watch_nothing seen_feeds, b.refuses.watches)
+      omega (arith, three, last, watch_faults-append (map feed_entry seen_feeds) (store ∷ sinks_behind), watch_faults-append (map sink_entry seen_sinks) b.behind, feeds_watch_nothing seen_feeds, b.refuses.watches)

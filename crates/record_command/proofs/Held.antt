@@ -1,7 +1,7 @@
 -- What the output of a recording holds.
 use Rattle.std.proofs.Common.{◌≡◌, ◌⊎◌, ℕ, ◌≤◌, List, [], ◌∷◌, ◌++◌, length, map, take, Option, Some, Result, Ok, Err, refl, sym, ap, inl, inr, ◌∙◌, arith, length-append}
 use Rattle.std.proofs.lemmas.List.{append-nil}
-use Rattle.mcap_io.specs.Outside.{went_well, Names, Placed}
+use Rattle.mcap_io.specs.Outside.{went_well, Names, PlacedUnder}
 use Rattle.mcap_io.specs.declared.outside.Failed.{Failed}
 use Rattle.rec_data.specs.declared.owned.Rec.{Rec}
 use Rattle.mcap_model.specs.declared.ends.End.{End}
@@ -14,7 +14,7 @@ use Rattle.mcap_model.proofs.Pieces.{pieces_make_files, stops_leave_prefixes}
 use Rattle.mcap_model.proofs.Prefixes.{begins_with}
 use Rattle.chunk_writer.specs.Stops.{numbers}
 use Rattle.chunk_writer.specs.Scribes.{Ends}
-use Rattle.recorder.specs.Recorded.{answer_of, IsBegun}
+use Rattle.recorder.specs.Recorded.{end_answer, TookFront}
 use Rattle.recorder.specs.declared.report.WriterReport.{WriterReport}
 use Rattle.record_command.specs.Record.{OutputHolds}
 
@@ -35,7 +35,7 @@ long text front more n split size = omega (arith, ap length split, length-append
 file_begins : (options : FileOptions) (history : List Rec) → file_of options [] history ≡ front options.profile ++ joined (map piece_bytes (pieces_of options.chunk history) ++ back_of options [] history ∷ [])
 file_begins options history = sym (pieces_make_files options [] history)
 
-some_held : (options : FileOptions) (before now : Option (List ℕ)) (history : List Rec) (w : WriterReport) (end : End) → w.end ≡ end → Ends options [] before now history (numbers w.blocks w.bytes) (answer_of end) → IsBegun options history w.bytes → before ≡ Some [] → Holds options history w now
+some_held : (options : FileOptions) (before now : Option (List ℕ)) (history : List Rec) (w : WriterReport) (end : End) → w.end ≡ end → Ends options [] before now history (numbers w.blocks w.bytes) (end_answer end) → TookFront options history w.bytes → before ≡ Some [] → Holds options history w now
 some_held options before now history w ends.Closed is all begun none = record {
   text = file_of options [] history;
   is = all.0 [] none;
@@ -61,14 +61,14 @@ some_held options before now history w (ends.Stopped stop) is stopped begun none
       ];
     }
 
-pub holds : (options : FileOptions) (before now : Option (List ℕ)) (history : List Rec) (w : WriterReport) → Ends options [] before now history (numbers w.blocks w.bytes) (answer_of w.end) → IsBegun options history w.bytes → before ≡ Some [] → Holds options history w now
+pub holds : (options : FileOptions) (before now : Option (List ℕ)) (history : List Rec) (w : WriterReport) → Ends options [] before now history (numbers w.blocks w.bytes) (end_answer w.end) → TookFront options history w.bytes → before ≡ Some [] → Holds options history w now
 holds options before now history w wrote begun none = some_held options before now history w w.end refl wrote begun none
 
 abbrev some_text : List ℕ → Option (List ℕ)
 some_text l = Some l
 
 -- what a keeping left under the name is the store's text, or what the name held
-pub placed_holds : (options : FileOptions) (all now : Names) (out : List ℕ) (history : List Rec) (w : WriterReport) (held : Option (List ℕ)) (result : Result Unit Failed) → (h : Holds options history w held) → Placed all now out h.text result
+pub placed_holds : (options : FileOptions) (all now : Names) (out : List ℕ) (history : List Rec) (w : WriterReport) (held : Option (List ℕ)) (result : Result Unit Failed) → (h : Holds options history w held) → PlacedUnder all now out h.text result
     → OutputHolds options history w (went_well result) (all out) (now out)
 placed_holds options all now out history w held (Ok it) h is = record {
   whole = λ closed well. is ∙ ap (λ (l : List ℕ). some_text l) (h.closed closed);
@@ -87,7 +87,7 @@ placed_holds options all now out history w held (Err why) h (inr same) = record 
 }
 
 -- an empty object leaves nothing under the name, or what it held
-pub placed_nothing : (all now : Names) (out : List ℕ) (result : Result Unit Failed) → Placed all now out [] result → (now out ≡ all out) ⊎ (now out ≡ Some [])
+pub placed_nothing : (all now : Names) (out : List ℕ) (result : Result Unit Failed) → PlacedUnder all now out [] result → (now out ≡ all out) ⊎ (now out ≡ Some [])
 placed_nothing all now out (Ok it) is = inr is
 placed_nothing all now out (Err why) (inl is) = inr is
 placed_nothing all now out (Err why) (inr same) = inl same

@@ -6,8 +6,8 @@ use Rattle.mcap_io.specs.Outside.{Rose}
 use Rattle.command_base.specs.declared.faults.Counts.{Counts}
 use Rattle.record_command.specs.declared.answering.Failures.{Failures}
 use Rattle.record_command.specs.declared.answering.Outcome.{Outcome}
-use Rattle.record_command.specs.Record.{some_failed}
-use Rattle.record_command.specs.Answer.{flags_of, FaultsShow}
+use Rattle.record_command.specs.Record.{any_failed}
+use Rattle.record_command.specs.Answer.{feed_flags, RecordingFaultsShow}
 use Rattle.record_command.proofs.Flags.{all_blamed}
 
 abbrev pub but : Bool → Bool → Bool
@@ -64,15 +64,15 @@ three_none false false false out is first second = is
 abbrev pub shown : List (List ℕ) → Bool → List Bool → List Bool
 shown feeds every flags = if every then map (λ (feed : List ℕ). true) feeds else flags
 
-pub shown_every : (feeds : List (List ℕ)) (every : Bool) (flags : List Bool) → 1 ≤ length feeds → every ≡ true → some_failed (shown feeds every flags) ≡ true
+pub shown_every : (feeds : List (List ℕ)) (every : Bool) (flags : List Bool) → 1 ≤ length feeds → every ≡ true → any_failed (shown feeds every flags) ≡ true
 shown_every feeds true flags many on = all_blamed feeds many
 shown_every feeds false flags many on = absurd cc
 
-pub shown_some : (feeds : List (List ℕ)) (every : Bool) (flags : List Bool) → 1 ≤ length feeds → some_failed flags ≡ true → some_failed (shown feeds every flags) ≡ true
+pub shown_some : (feeds : List (List ℕ)) (every : Bool) (flags : List Bool) → 1 ≤ length feeds → any_failed flags ≡ true → any_failed (shown feeds every flags) ≡ true
 shown_some feeds true flags many some = all_blamed feeds many
 shown_some feeds false flags many some = some
 
-pub shown_which : (feeds : List (List ℕ)) (every : Bool) (flags : List Bool) → some_failed (shown feeds every flags) ≡ true → (every ≡ true) ⊎ (some_failed flags ≡ true)
+pub shown_which : (feeds : List (List ℕ)) (every : Bool) (flags : List Bool) → any_failed (shown feeds every flags) ≡ true → (every ≡ true) ⊎ (any_failed flags ≡ true)
 shown_which feeds true flags some = inl refl
 shown_which feeds false flags some = inr some
 
@@ -81,16 +81,16 @@ shown_same feeds true flags off = absurd cc
 shown_same feeds false flags off = refl
 
 -- what the parts are, from what the counts and the outcome say
-pub parts_show : (before now : Counts) (feeds : List (List ℕ)) (outcome : Outcome) (failed : Failures) (some world inputs outputs : Bool) → 1 ≤ length feeds → some ≡ some_failed outcome.feeds_failed.items
+pub parts_show : (before now : Counts) (feeds : List (List ℕ)) (outcome : Outcome) (failed : Failures) (some world inputs outputs : Bool) → 1 ≤ length feeds → some ≡ any_failed outcome.feeds_failed.items
     → ((world ≡ true) ↔ Rose before.world now.world) → ((inputs ≡ true) ↔ Rose before.inputs now.inputs) → ((outputs ≡ true) ↔ Rose before.outputs now.outputs) → ((failed.printing ≡ true) ↔ Rose before.printing now.printing)
     → failed.feeds.now ≡ outcome.feeds_failed.items → failed.every_feed ≡ but inputs some → failed.out ≡ three outcome.out_failed outputs (but world some)
-    → (some_failed outcome.feeds_failed.items ≡ true → Rose before.world now.world ⊎ Rose before.inputs now.inputs) → (outcome.out_failed ≡ true → Rose before.world now.world ⊎ Rose before.outputs now.outputs)
-    → FaultsShow before now feeds outcome failed
+    → (any_failed outcome.feeds_failed.items ≡ true → Rose before.world now.world ⊎ Rose before.inputs now.inputs) → (outcome.out_failed ≡ true → Rose before.world now.world ⊎ Rose before.outputs now.outputs)
+    → RecordingFaultsShow before now feeds outcome failed
 parts_show before now feeds outcome failed some world inputs outputs many some_is is_world is_inputs is_outputs is_printing told every_is out_is feed_cause out_cause =
     let every = failed.every_feed in
     let flags = failed.feeds.now in
-    let same_some : some_failed flags ≡ some = ap some_failed told ∙ sym some_is in
-    let blamed_some : some ≡ true → some_failed (flags_of feeds failed) ≡ true = λ on. shown_some feeds every flags many (same_some ∙ on) in
+    let same_some : any_failed flags ≡ some = ap any_failed told ∙ sym some_is in
+    let blamed_some : some ≡ true → any_failed (feed_flags feeds failed) ≡ true = λ on. shown_some feeds every flags many (same_some ∙ on) in
     let inputs_on : inputs ≡ true → (every ≡ true) ⊎ (some ≡ true) = λ on. elim (on_or_off some) [ inl yes_it ↦ inr yes_it | inr off ↦ inl (but_both inputs some every every_is on off) ] in
     let world_on : world ≡ true → (some ≡ true) ⊎ (failed.out ≡ true) = λ on. elim (on_or_off some) [ inl yes_it ↦ inl yes_it | inr off ↦ inr (three_third outcome.out_failed outputs (but world some) failed.out out_is (but_both world some (but world some) refl on off)) ] in
     let outputs_on : outputs ≡ true → failed.out ≡ true = λ on. three_second outcome.out_failed outputs (but world some) failed.out out_is on in

@@ -11,8 +11,8 @@ use Rattle.mcap_model.specs.Places.{Each}
 use Rattle.mcap_model.proofs.Places.{at_none, at_more}
 use Rattle.command_base.specs.Ran.{failed_so}
 use Rattle.command_base.proofs.Opened.{tells_more}
-use Rattle.record_command.specs.Record.{FeedKept, entry_of}
-use Rattle.record_command.specs.Sources.{source_keeping, given, with_openings, FeedsOpened, OneKept, NoSourceOut, FeedsKept}
+use Rattle.record_command.specs.Record.{FeedKept, feed_entry}
+use Rattle.record_command.specs.Sources.{source_keeping, feed_given, with_feed_openings, FeedsOpened, SourceKept, NoSourceOut, FeedsKept}
 
 -- ---- lists
 
@@ -48,22 +48,22 @@ none_opened w = record {
   unused = λ n s at. absurd (at_none n s at);
 }
 
-pub one_opened : (w0 w1 w2 : WorldState) (fs : List (List ℕ)) (ss : List SourceState) (f : List ℕ) (s : SourceState) → FeedsOpened w0 w1 fs ss → w2.told ≡ option_map (λ (t : Told). with_opening t (given f)) w1.told
+pub one_opened : (w0 w1 w2 : WorldState) (fs : List (List ℕ)) (ss : List SourceState) (f : List ℕ) (s : SourceState) → FeedsOpened w0 w1 fs ss → w2.told ≡ option_map (λ (t : Told). with_opening t (feed_given f)) w1.told
     → CountsStand w1 w2 → w2.faults ≡ w1.faults → TellsName w1 f s → s.faults ≡ 0 → FeedsOpened w0 w2 (fs ++ f ∷ []) (ss ++ s ∷ [])
 one_opened w0 w1 w2 fs ss f s it opens stands still tells unused = record {
   told = λ told here.
-      tells_more w1.told w2.told (given f) (with_openings told (map given fs)) opens (it.told told here)
-      ∙ ap (λ (l : List Opening). some_told (record { names = told.names; log = l })) (append_assoc told.log (map given fs) (given f ∷ []) ∙ ap (λ (l : List Opening). told.log ++ l) (sym (map-append given fs (f ∷ []))));
+      tells_more w1.told w2.told (feed_given f) (with_feed_openings told (map feed_given fs)) opens (it.told told here)
+      ∙ ap (λ (l : List Opening). some_told (record { names = told.names; log = l })) (append_assoc told.log (map feed_given fs) (feed_given f ∷ []) ∙ ap (λ (l : List Opening). told.log ++ l) (sym (map-append feed_given fs (f ∷ []))));
   stands = record { inputs = stands.inputs ∙ it.stands.inputs; outputs = stands.outputs ∙ it.stands.outputs; watches = stands.watches ∙ it.stands.watches };
   still = still ∙ it.still;
-  tells = zip_push (TellsName w0) fs ss f s it.tells (λ told here. tells (with_openings told (map given fs)) (it.told told here));
+  tells = zip_push (TellsName w0) fs ss f s it.tells (λ told here. tells (with_feed_openings told (map feed_given fs)) (it.told told here));
   unused = each_push (λ (x : SourceState). x.faults ≡ 0) ss s it.unused unused;
 }
 
 -- ---- keepings
 
 -- no source that was kept is out
-none_out : (ks : List FeedKept) (behind : List Opening) → NoSourceOut behind → (name : List ℕ) → NoneIsOut kinds.Source name (map entry_of ks ++ behind)
+none_out : (ks : List FeedKept) (behind : List Opening) → NoSourceOut behind → (name : List ℕ) → NoneIsOut kinds.Source name (map feed_entry ks ++ behind)
 none_out [] behind none name k d within = none name k d within
 none_out (k ∷ ks) behind none name zero d within = λ is. let out = is.out in absurd cc
 none_out (k ∷ ks) behind none name (suc n) d within = none_out ks behind none name n d (omega (arith, within))
@@ -81,7 +81,7 @@ none_kept w = record {
   failed_are = refl;
 }
 
-pub one_kept : (w0 w1 w2 : WorldState) (fs : List (List ℕ)) (ss : List SourceState) (flags : List Bool) (f : List ℕ) (s : SourceState) (failed : Bool) → FeedsKept w0 w1 fs ss flags → OneKept w1 w2 f s failed
+pub one_kept : (w0 w1 w2 : WorldState) (fs : List (List ℕ)) (ss : List SourceState) (flags : List Bool) (f : List ℕ) (s : SourceState) (failed : Bool) → FeedsKept w0 w1 fs ss flags → SourceKept w1 w2 f s failed
     → FeedsKept w0 w2 (f ∷ fs) (s ∷ ss) (failed ∷ flags)
 one_kept w0 w1 w2 fs ss flags f s failed it one =
     let k : FeedKept = record { name = f; back = s; well = one.well } in
@@ -90,13 +90,13 @@ one_kept w0 w1 w2 fs ss flags f s failed it one =
       names_are = ap (λ (l : List (List ℕ)). f ∷ l) it.names_are;
       sources_are = ap (λ (l : List SourceState). s ∷ l) it.sources_are;
       told = λ told log behind here is none.
-          let first = it.told told (log ++ given f ∷ []) behind here (is ∙ sym (append_assoc log (given f ∷ []) (map given fs ++ behind))) none in
+          let first = it.told told (log ++ feed_given f ∷ []) behind here (is ∙ sym (append_assoc log (feed_given f ∷ []) (map feed_given fs ++ behind))) none in
           let back = one.keeps first.0 first.1 in (
             back.0,
             back.1,
             back.2 ∙ first.2,
-            noted_in first.0.log back.0.log log (map entry_of it.kept ++ behind) (given f) kinds.Source f (source_keeping s one.well) (record {
-              there = first.3 ∙ append_assoc log (given f ∷ []) (map entry_of it.kept ++ behind);
+            noted_in first.0.log back.0.log log (map feed_entry it.kept ++ behind) (feed_given f) kinds.Source f (source_keeping s one.well) (record {
+              there = first.3 ∙ append_assoc log (feed_given f ∷ []) (map feed_entry it.kept ++ behind);
               out = record { kind_is = refl; name_is = refl; given = refl; out = refl };
               newest = none_out it.kept behind none f;
             }) back.3,
@@ -130,7 +130,7 @@ kept_none w feeds all failed many none = record {
     take-all (x ∷ xs) = ap (λ l. x ∷ l) (take-all xs)
 
 pub kept_more : (old mid now : WorldState) (feeds : List (List ℕ)) (all before after : List SourceState) (s : SourceState) (flags : List Bool) (failed : Bool) (other : List ℕ) → KeptSoFar old mid feeds all before flags → before ≡ after ++ s ∷ []
-    → length after < length feeds → OneKept mid now (get_or feeds (length after) other) s failed → KeptSoFar old now feeds all after (flags ++ failed ∷ [])
+    → length after < length feeds → SourceKept mid now (get_or feeds (length after) other) s failed → KeptSoFar old now feeds all after (flags ++ failed ∷ [])
 kept_more old mid now feeds all before after s flags failed other it is within one =
     let f = get_or feeds (length after) other in
     let many : length before ≡ length after + 1 = ap length is ∙ length-append after (s ∷ []) in

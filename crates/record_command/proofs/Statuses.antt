@@ -9,9 +9,9 @@ use Rattle.feed_lane.specs.declared.report.FeedEnd.TheVariants as feed_ends
 use Rattle.mcap_model.specs.declared.refusals.ReadingRefused.{ReadingRefused}
 use Rattle.mcap_model.specs.declared.refusals.ReadingRefused.TheVariants as refusals
 use Rattle.command_base.specs.OneFile.{refusal_ending, troubles_in}
-use Rattle.command_base.specs.Texts.{Trouble, fault, output_fault, output_limit, no_memory, asked_status, is_asked, status_of}
+use Rattle.command_base.specs.Texts.{Trouble, fault, output_fault, output_limit, no_memory, asked_status, status_is_asked, status_of}
 use Rattle.command_base.specs.Ran.{when, first_failed, told_of, troubles_of}
-use Rattle.record_command.specs.Record.{files_of, end_troubles, refusal_status, end_status, ends_of, reports_in, limit_passed, findings_of, some_failed, failed_of, worst}
+use Rattle.record_command.specs.Record.{feeds_and_output, end_troubles, refusal_status, end_status, ends_of, reports_in, limit_was_passed, recording_findings, any_failed, failed_feeds, worst}
 
 -- ---- what the feeds ask for
 
@@ -19,11 +19,11 @@ use Rattle.record_command.specs.Record.{files_of, end_troubles, refusal_status, 
 abbrev pub halts_ask : ℕ → List (List ℕ) → List FeedReport → Bool
 halts_ask s [] reports = false
 halts_ask s (feed ∷ feeds) [] = false
-halts_ask s (feed ∷ feeds) (report ∷ reports) = is_asked (end_troubles feed report.end) s || halts_ask s feeds reports
+halts_ask s (feed ∷ feeds) (report ∷ reports) = status_is_asked (end_troubles feed report.end) s || halts_ask s feeds reports
 
 abbrev pub faults_ask : ℕ → List (List ℕ) → List Bool → Bool
 faults_ask s [] flags = false
-faults_ask s (feed ∷ feeds) flags = is_asked (when (first_failed flags) (fault feed)) s || faults_ask s feeds (drop 1 flags)
+faults_ask s (feed ∷ feeds) flags = status_is_asked (when (first_failed flags) (fault feed)) s || faults_ask s feeds (drop 1 flags)
 
 shuffled : (a b c d e : Bool) → (a || (b || (c || (d || e)))) ≡ ((a || c) || ((b || d) || e))
 shuffled true true true d e = refl
@@ -35,20 +35,20 @@ shuffled false true false d e = refl
 shuffled false false true d e = refl
 shuffled false false false d e = refl
 
-asked_first : (s : ℕ) (halts fault_told rest : List Trouble) (h f r : Bool) → is_asked rest s ≡ r → is_asked (halts ++ (fault_told ++ rest)) s ≡ (is_asked halts s || (is_asked fault_told s || r))
+asked_first : (s : ℕ) (halts fault_told rest : List Trouble) (h f r : Bool) → status_is_asked rest s ≡ r → status_is_asked (halts ++ (fault_told ++ rest)) s ≡ (status_is_asked halts s || (status_is_asked fault_told s || r))
 asked_first s halts fault_told rest h f r is =
     list_any-append (λ (t : Trouble). asked_status t == s) halts (fault_told ++ rest)
-    ∙ ap (λ (b : Bool). is_asked halts s || b) (list_any-append (λ (t : Trouble). asked_status t == s) fault_told rest ∙ ap (λ (b : Bool). is_asked fault_told s || b) is)
+    ∙ ap (λ (b : Bool). status_is_asked halts s || b) (list_any-append (λ (t : Trouble). asked_status t == s) fault_told rest ∙ ap (λ (b : Bool). status_is_asked fault_told s || b) is)
 
 pub asked_told : (s : ℕ) (feeds : List (List ℕ)) (reports : List FeedReport) (flags : List Bool) (behind : List Trouble)
-    → is_asked (told_of feeds (ends_of feeds reports) flags behind) s ≡ (halts_ask s feeds reports || (faults_ask s feeds flags || is_asked behind s))
+    → status_is_asked (told_of feeds (ends_of feeds reports) flags behind) s ≡ (halts_ask s feeds reports || (faults_ask s feeds flags || status_is_asked behind s))
 asked_told s [] reports flags behind = refl
 asked_told s (feed ∷ feeds) [] flags behind =
     let rest = told_of feeds [] (drop 1 flags) behind in
-    let more : is_asked rest s ≡ (faults_ask s feeds (drop 1 flags) || is_asked behind s) = ap (λ (l : List (List Trouble)). is_asked (told_of feeds l (drop 1 flags) behind) s) (sym (none_end feeds)) ∙ asked_told s feeds [] (drop 1 flags) behind ∙ ap (λ (b : Bool). b || (faults_ask s feeds (drop 1 flags) || is_asked behind s)) (none_ask s feeds) in
+    let more : status_is_asked rest s ≡ (faults_ask s feeds (drop 1 flags) || status_is_asked behind s) = ap (λ (l : List (List Trouble)). status_is_asked (told_of feeds l (drop 1 flags) behind) s) (sym (none_end feeds)) ∙ asked_told s feeds [] (drop 1 flags) behind ∙ ap (λ (b : Bool). b || (faults_ask s feeds (drop 1 flags) || status_is_asked behind s)) (none_ask s feeds) in
     list_any-append (λ (t : Trouble). asked_status t == s) (when (first_failed flags) (fault feed)) rest
-    ∙ ap (λ (b : Bool). is_asked (when (first_failed flags) (fault feed)) s || b) more
-    ∙ sym (grouped (is_asked (when (first_failed flags) (fault feed)) s) (faults_ask s feeds (drop 1 flags)) (is_asked behind s))
+    ∙ ap (λ (b : Bool). status_is_asked (when (first_failed flags) (fault feed)) s || b) more
+    ∙ sym (grouped (status_is_asked (when (first_failed flags) (fault feed)) s) (faults_ask s feeds (drop 1 flags)) (status_is_asked behind s))
   where
     none_end : (feeds : List (List ℕ)) → ends_of feeds [] ≡ []
     none_end [] = refl
@@ -63,15 +63,15 @@ asked_told s (feed ∷ feeds) [] flags behind =
     grouped false b c = refl
 asked_told s (feed ∷ feeds) (report ∷ reports) flags behind =
     asked_first s (end_troubles feed report.end) (when (first_failed flags) (fault feed)) (told_of feeds (ends_of feeds reports) (drop 1 flags) behind) true true _ (asked_told s feeds reports (drop 1 flags) behind)
-    ∙ shuffled (is_asked (end_troubles feed report.end) s) (is_asked (when (first_failed flags) (fault feed)) s) (halts_ask s feeds reports) (faults_ask s feeds (drop 1 flags)) (is_asked behind s)
+    ∙ shuffled (status_is_asked (end_troubles feed report.end) s) (status_is_asked (when (first_failed flags) (fault feed)) s) (halts_ask s feeds reports) (faults_ask s feeds (drop 1 flags)) (status_is_asked behind s)
 
 -- which status some troubles ask for: that one, or none
 record AskFor (troubles : List Trouble) (status : ℕ) : Type 0 where
-  pub one : is_asked troubles 1 ≡ (status == 1)
-  pub two : is_asked troubles 2 ≡ false
-  pub three : is_asked troubles 3 ≡ false
-  pub four : is_asked troubles 4 ≡ (status == 4)
-  pub five : is_asked troubles 5 ≡ false
+  pub one : status_is_asked troubles 1 ≡ (status == 1)
+  pub two : status_is_asked troubles 2 ≡ false
+  pub three : status_is_asked troubles 3 ≡ false
+  pub four : status_is_asked troubles 4 ≡ (status == 4)
+  pub five : status_is_asked troubles 5 ≡ false
 
 refusal_asks : (feed : List ℕ) (why : ReadingRefused) → AskFor (troubles_in (refusal_ending feed why)) (refusal_status why)
 refusal_asks feed (refusals.Fault faults) = record { one = refl; two = refl; three = refl; four = refl; five = refl }
@@ -114,7 +114,7 @@ halts_one (feed ∷ feeds) [] few = refl
 halts_one (feed ∷ feeds) (report ∷ reports) few =
     ap (λ (b : Bool). b || halts_ask 1 feeds reports) (end_asks feed report.end).one ∙ ap (λ (b : Bool). (end_status report.end == 1) || b) (halts_one feeds reports (omega (arith, few)))
 
-fault_two : (feed : List ℕ) (b : Bool) → is_asked (when b (fault feed)) 2 ≡ false
+fault_two : (feed : List ℕ) (b : Bool) → status_is_asked (when b (fault feed)) 2 ≡ false
 fault_two feed true = refl
 fault_two feed false = refl
 
@@ -122,7 +122,7 @@ pub faults_two : (feeds : List (List ℕ)) (flags : List Bool) → faults_ask 2 
 faults_two [] flags = refl
 faults_two (feed ∷ feeds) flags = ap (λ (b : Bool). b || faults_ask 2 feeds (drop 1 flags)) (fault_two feed (first_failed flags)) ∙ faults_two feeds (drop 1 flags)
 
-fault_five : (feed : List ℕ) (b : Bool) → is_asked (when b (fault feed)) 5 ≡ false
+fault_five : (feed : List ℕ) (b : Bool) → status_is_asked (when b (fault feed)) 5 ≡ false
 fault_five feed true = refl
 fault_five feed false = refl
 
@@ -130,7 +130,7 @@ pub faults_five : (feeds : List (List ℕ)) (flags : List Bool) → faults_ask 5
 faults_five [] flags = refl
 faults_five (feed ∷ feeds) flags = ap (λ (b : Bool). b || faults_ask 5 feeds (drop 1 flags)) (fault_five feed (first_failed flags)) ∙ faults_five feeds (drop 1 flags)
 
-fault_four : (feed : List ℕ) (b : Bool) → is_asked (when b (fault feed)) 4 ≡ false
+fault_four : (feed : List ℕ) (b : Bool) → status_is_asked (when b (fault feed)) 4 ≡ false
 fault_four feed true = refl
 fault_four feed false = refl
 
@@ -138,7 +138,7 @@ pub faults_four : (feeds : List (List ℕ)) (flags : List Bool) → faults_ask 4
 faults_four [] flags = refl
 faults_four (feed ∷ feeds) flags = ap (λ (b : Bool). b || faults_ask 4 feeds (drop 1 flags)) (fault_four feed (first_failed flags)) ∙ faults_four feeds (drop 1 flags)
 
-fault_one : (feed : List ℕ) (b : Bool) → is_asked (when b (fault feed)) 1 ≡ false
+fault_one : (feed : List ℕ) (b : Bool) → status_is_asked (when b (fault feed)) 1 ≡ false
 fault_one feed true = refl
 fault_one feed false = refl
 
@@ -146,7 +146,7 @@ pub faults_one : (feeds : List (List ℕ)) (flags : List Bool) → faults_ask 1 
 faults_one [] flags = refl
 faults_one (feed ∷ feeds) flags = ap (λ (b : Bool). b || faults_ask 1 feeds (drop 1 flags)) (fault_one feed (first_failed flags)) ∙ faults_one feeds (drop 1 flags)
 
-fault_three : (feed : List ℕ) (b : Bool) → is_asked (when b (fault feed)) 3 ≡ b
+fault_three : (feed : List ℕ) (b : Bool) → status_is_asked (when b (fault feed)) 3 ≡ b
 fault_three feed true = refl
 fault_three feed false = refl
 
@@ -154,7 +154,7 @@ none_blamed : (feeds : List (List ℕ)) → faults_ask 3 feeds [] ≡ false
 none_blamed [] = refl
 none_blamed (feed ∷ feeds) = none_blamed feeds
 
-pub faults_three : (feeds : List (List ℕ)) (flags : List Bool) → length flags ≤ length feeds → faults_ask 3 feeds flags ≡ some_failed flags
+pub faults_three : (feeds : List (List ℕ)) (flags : List Bool) → length flags ≤ length feeds → faults_ask 3 feeds flags ≡ any_failed flags
 faults_three [] [] few = refl
 faults_three [] (b ∷ flags) few = absurd (omega (arith, few))
 faults_three (feed ∷ feeds) [] few = none_blamed feeds
@@ -165,7 +165,7 @@ faults_three (feed ∷ feeds) (b ∷ flags) few = ap (λ (x : Bool). x || faults
 abbrev rest_of : List ℕ → Bool → Bool → Bool → Bool → List Trouble
 rest_of out o l p m = when o (fault out) ++ (when l (output_limit out) ++ (when p output_fault ++ when m no_memory))
 
-rest_two : (out : List ℕ) (o l p m : Bool) → is_asked (rest_of out o l p m) 2 ≡ false
+rest_two : (out : List ℕ) (o l p m : Bool) → status_is_asked (rest_of out o l p m) 2 ≡ false
 rest_two out true true true true = refl
 rest_two out true true true false = refl
 rest_two out true true false true = refl
@@ -183,7 +183,7 @@ rest_two out false false true false = refl
 rest_two out false false false true = refl
 rest_two out false false false false = refl
 
-rest_five : (out : List ℕ) (o l p m : Bool) → is_asked (rest_of out o l p m) 5 ≡ m
+rest_five : (out : List ℕ) (o l p m : Bool) → status_is_asked (rest_of out o l p m) 5 ≡ m
 rest_five out true true true true = refl
 rest_five out true true true false = refl
 rest_five out true true false true = refl
@@ -201,7 +201,7 @@ rest_five out false false true false = refl
 rest_five out false false false true = refl
 rest_five out false false false false = refl
 
-rest_three : (out : List ℕ) (o l p m : Bool) → is_asked (rest_of out o l p m) 3 ≡ (o || p)
+rest_three : (out : List ℕ) (o l p m : Bool) → status_is_asked (rest_of out o l p m) 3 ≡ (o || p)
 rest_three out true true true true = refl
 rest_three out true true true false = refl
 rest_three out true true false true = refl
@@ -219,7 +219,7 @@ rest_three out false false true false = refl
 rest_three out false false false true = refl
 rest_three out false false false false = refl
 
-rest_four : (out : List ℕ) (o l p m : Bool) → is_asked (rest_of out o l p m) 4 ≡ l
+rest_four : (out : List ℕ) (o l p m : Bool) → status_is_asked (rest_of out o l p m) 4 ≡ l
 rest_four out true true true true = refl
 rest_four out true true true false = refl
 rest_four out true true false true = refl
@@ -237,7 +237,7 @@ rest_four out false false true false = refl
 rest_four out false false false true = refl
 rest_four out false false false false = refl
 
-rest_one : (out : List ℕ) (o l p m : Bool) → is_asked (rest_of out o l p m) 1 ≡ false
+rest_one : (out : List ℕ) (o l p m : Bool) → status_is_asked (rest_of out o l p m) 1 ≡ false
 rest_one out true true true true = refl
 rest_one out true true true false = refl
 rest_one out true true false true = refl
@@ -269,13 +269,13 @@ picks false false false true e = refl
 picks false false false false true = refl
 picks false false false false false = refl
 
-pub status_picks : (due : List Trouble) (a b c d e : Bool) → is_asked due 2 ≡ a → is_asked due 5 ≡ b → is_asked due 3 ≡ c → is_asked due 4 ≡ d → is_asked due 1 ≡ e → status_of due ≡ picked a b c d e
+pub status_picks : (due : List Trouble) (a b c d e : Bool) → status_is_asked due 2 ≡ a → status_is_asked due 5 ≡ b → status_is_asked due 3 ≡ c → status_is_asked due 4 ≡ d → status_is_asked due 1 ≡ e → status_of due ≡ picked a b c d e
 status_picks due a b c d e two five three four one =
-    picks (is_asked due 2) (is_asked due 5) (is_asked due 3) (is_asked due 4) (is_asked due 1)
-    ∙ ap (λ (x : Bool). picked x (is_asked due 5) (is_asked due 3) (is_asked due 4) (is_asked due 1)) two
-    ∙ ap (λ (x : Bool). picked a x (is_asked due 3) (is_asked due 4) (is_asked due 1)) five
-    ∙ ap (λ (x : Bool). picked a b x (is_asked due 4) (is_asked due 1)) three
-    ∙ ap (λ (x : Bool). picked a b c x (is_asked due 1)) four
+    picks (status_is_asked due 2) (status_is_asked due 5) (status_is_asked due 3) (status_is_asked due 4) (status_is_asked due 1)
+    ∙ ap (λ (x : Bool). picked x (status_is_asked due 5) (status_is_asked due 3) (status_is_asked due 4) (status_is_asked due 1)) two
+    ∙ ap (λ (x : Bool). picked a x (status_is_asked due 3) (status_is_asked due 4) (status_is_asked due 1)) five
+    ∙ ap (λ (x : Bool). picked a b x (status_is_asked due 4) (status_is_asked due 1)) three
+    ∙ ap (λ (x : Bool). picked a b c x (status_is_asked due 1)) four
     ∙ ap (λ (x : Bool). picked a b c d x) one
 
 -- the end of the feeds is asked for behind a limit of the file
@@ -292,7 +292,7 @@ limits_first false true one = refl
 limits_first false false one = refl
 
 abbrev pub any : List Bool → Bool → Bool → Bool
-any flags o p = some_failed flags || (o || p)
+any flags o p = any_failed flags || (o || p)
 
 pub or_nothing : (a : Bool) → (a || false) ≡ a
 or_nothing true = refl
@@ -302,25 +302,25 @@ module _ (out : List ℕ) (feeds : List (List ℕ)) (reports : List FeedReport) 
   abbrev due : List Trouble
   due = told_of feeds (ends_of feeds reports) flags (rest_of out o l p m)
 
-  asks_two : is_asked due 2 ≡ false
-  asks_two = asked_told 2 feeds reports flags (rest_of out o l p m) ∙ ap (λ (b : Bool). b || (faults_ask 2 feeds flags || is_asked (rest_of out o l p m) 2)) (halts_two feeds reports)
-      ∙ ap (λ (b : Bool). b || is_asked (rest_of out o l p m) 2) (faults_two feeds flags) ∙ rest_two out o l p m
+  asks_two : status_is_asked due 2 ≡ false
+  asks_two = asked_told 2 feeds reports flags (rest_of out o l p m) ∙ ap (λ (b : Bool). b || (faults_ask 2 feeds flags || status_is_asked (rest_of out o l p m) 2)) (halts_two feeds reports)
+      ∙ ap (λ (b : Bool). b || status_is_asked (rest_of out o l p m) 2) (faults_two feeds flags) ∙ rest_two out o l p m
 
-  asks_five : is_asked due 5 ≡ m
-  asks_five = asked_told 5 feeds reports flags (rest_of out o l p m) ∙ ap (λ (b : Bool). b || (faults_ask 5 feeds flags || is_asked (rest_of out o l p m) 5)) (halts_five feeds reports)
-      ∙ ap (λ (b : Bool). b || is_asked (rest_of out o l p m) 5) (faults_five feeds flags) ∙ rest_five out o l p m
+  asks_five : status_is_asked due 5 ≡ m
+  asks_five = asked_told 5 feeds reports flags (rest_of out o l p m) ∙ ap (λ (b : Bool). b || (faults_ask 5 feeds flags || status_is_asked (rest_of out o l p m) 5)) (halts_five feeds reports)
+      ∙ ap (λ (b : Bool). b || status_is_asked (rest_of out o l p m) 5) (faults_five feeds flags) ∙ rest_five out o l p m
 
-  asks_three : length flags ≤ length feeds → is_asked due 3 ≡ any flags o p
-  asks_three few = asked_told 3 feeds reports flags (rest_of out o l p m) ∙ ap (λ (b : Bool). b || (faults_ask 3 feeds flags || is_asked (rest_of out o l p m) 3)) (halts_three feeds reports)
-      ∙ ap (λ (b : Bool). b || is_asked (rest_of out o l p m) 3) (faults_three feeds flags few) ∙ ap (λ (b : Bool). some_failed flags || b) (rest_three out o l p m)
+  asks_three : length flags ≤ length feeds → status_is_asked due 3 ≡ any flags o p
+  asks_three few = asked_told 3 feeds reports flags (rest_of out o l p m) ∙ ap (λ (b : Bool). b || (faults_ask 3 feeds flags || status_is_asked (rest_of out o l p m) 3)) (halts_three feeds reports)
+      ∙ ap (λ (b : Bool). b || status_is_asked (rest_of out o l p m) 3) (faults_three feeds flags few) ∙ ap (λ (b : Bool). any_failed flags || b) (rest_three out o l p m)
 
-  asks_four : length reports ≤ length feeds → is_asked due 4 ≡ (list_any (λ (n : ℕ). n == 4) (map (λ (f : FeedReport). end_status f.end) reports) || l)
-  asks_four few = asked_told 4 feeds reports flags (rest_of out o l p m) ∙ ap (λ (b : Bool). b || (faults_ask 4 feeds flags || is_asked (rest_of out o l p m) 4)) (halts_four feeds reports few)
-      ∙ ap (λ (b : Bool). list_any (λ (n : ℕ). n == 4) (map (λ (f : FeedReport). end_status f.end) reports) || b) (ap (λ (b : Bool). b || is_asked (rest_of out o l p m) 4) (faults_four feeds flags) ∙ rest_four out o l p m)
+  asks_four : length reports ≤ length feeds → status_is_asked due 4 ≡ (list_any (λ (n : ℕ). n == 4) (map (λ (f : FeedReport). end_status f.end) reports) || l)
+  asks_four few = asked_told 4 feeds reports flags (rest_of out o l p m) ∙ ap (λ (b : Bool). b || (faults_ask 4 feeds flags || status_is_asked (rest_of out o l p m) 4)) (halts_four feeds reports few)
+      ∙ ap (λ (b : Bool). list_any (λ (n : ℕ). n == 4) (map (λ (f : FeedReport). end_status f.end) reports) || b) (ap (λ (b : Bool). b || status_is_asked (rest_of out o l p m) 4) (faults_four feeds flags) ∙ rest_four out o l p m)
 
-  asks_one : length reports ≤ length feeds → is_asked due 1 ≡ list_any (λ (n : ℕ). n == 1) (map (λ (f : FeedReport). end_status f.end) reports)
-  asks_one few = asked_told 1 feeds reports flags (rest_of out o l p m) ∙ ap (λ (b : Bool). b || (faults_ask 1 feeds flags || is_asked (rest_of out o l p m) 1)) (halts_one feeds reports few)
-      ∙ ap (λ (b : Bool). list_any (λ (n : ℕ). n == 1) (map (λ (f : FeedReport). end_status f.end) reports) || b) (ap (λ (b : Bool). b || is_asked (rest_of out o l p m) 1) (faults_one feeds flags) ∙ rest_one out o l p m)
+  asks_one : length reports ≤ length feeds → status_is_asked due 1 ≡ list_any (λ (n : ℕ). n == 1) (map (λ (f : FeedReport). end_status f.end) reports)
+  asks_one few = asked_told 1 feeds reports flags (rest_of out o l p m) ∙ ap (λ (b : Bool). b || (faults_ask 1 feeds flags || status_is_asked (rest_of out o l p m) 1)) (halts_one feeds reports few)
+      ∙ ap (λ (b : Bool). list_any (λ (n : ℕ). n == 1) (map (λ (f : FeedReport). end_status f.end) reports) || b) (ap (λ (b : Bool). b || status_is_asked (rest_of out o l p m) 1) (faults_one feeds flags) ∙ rest_one out o l p m)
       ∙ or_nothing (list_any (λ (n : ℕ). n == 1) (map (λ (f : FeedReport). end_status f.end) reports))
 
   due_status : length reports ≤ length feeds → length flags ≤ length feeds → status_of due ≡ cond m 5 (cond (any flags o p) 3 (cond l 4 (worst (map (λ (f : FeedReport). end_status f.end) reports))))
@@ -329,7 +329,7 @@ module _ (out : List ℕ) (feeds : List (List ℕ)) (reports : List FeedReport) 
       ∙ ap (λ (n : ℕ). cond m 5 (cond (any flags o p) 3 n)) (limits_first (list_any (λ (n : ℕ). n == 4) (map (λ (f : FeedReport). end_status f.end) reports)) l (list_any (λ (n : ℕ). n == 1) (map (λ (f : FeedReport). end_status f.end) reports)))
 
   due_not_two : status_of due ≡ 2 → ⊥
-  due_not_two two = none_is_two m (is_asked due 3) (is_asked due 4) (is_asked due 1) (sym (status_picks due false m (is_asked due 3) (is_asked due 4) (is_asked due 1) asks_two asks_five refl refl refl) ∙ two)
+  due_not_two two = none_is_two m (status_is_asked due 3) (status_is_asked due 4) (status_is_asked due 1) (sym (status_picks due false m (status_is_asked due 3) (status_is_asked due 4) (status_is_asked due 1) asks_two asks_five refl refl refl) ∙ two)
     where
       none_is_two : (b c d e : Bool) → picked false b c d e ≡ 2 → ⊥
       none_is_two true c d e is = omega (arith, is)
@@ -340,21 +340,21 @@ module _ (out : List ℕ) (feeds : List (List ℕ)) (reports : List FeedReport) 
 
 -- the status is 5 where memory lacked, and else that of the parts that failed, of a limit and of the feeds' ends
 pub status_of_due : (out : List ℕ) (feeds : List (List ℕ)) (report : Option Report) (flags : List Bool) (o p lacked : Bool) → length (reports_in report) ≤ length feeds → length flags ≤ length feeds
-    → status_of (troubles_of (files_of out feeds) (findings_of out feeds report lacked) (failed_of flags o) p) ≡ cond lacked 5 (cond (any flags o p) 3 (cond (limit_passed report) 4 (worst (map (λ (f : FeedReport). end_status f.end) (reports_in report)))))
-status_of_due out feeds report flags o p lacked few few_flags = due_status out feeds (reports_in report) flags o (limit_passed report) p lacked few few_flags
+    → status_of (troubles_of (feeds_and_output out feeds) (recording_findings out feeds report lacked) (failed_feeds flags o) p) ≡ cond lacked 5 (cond (any flags o p) 3 (cond (limit_was_passed report) 4 (worst (map (λ (f : FeedReport). end_status f.end) (reports_in report)))))
+status_of_due out feeds report flags o p lacked few few_flags = due_status out feeds (reports_in report) flags o (limit_was_passed report) p lacked few few_flags
 
-pub status_not_two : (out : List ℕ) (feeds : List (List ℕ)) (report : Option Report) (flags : List Bool) (o p lacked : Bool) → status_of (troubles_of (files_of out feeds) (findings_of out feeds report lacked) (failed_of flags o) p) ≡ 2 → ⊥
-status_not_two out feeds report flags o p lacked two = due_not_two out feeds (reports_in report) flags o (limit_passed report) p lacked two
+pub status_not_two : (out : List ℕ) (feeds : List (List ℕ)) (report : Option Report) (flags : List Bool) (o p lacked : Bool) → status_of (troubles_of (feeds_and_output out feeds) (recording_findings out feeds report lacked) (failed_feeds flags o) p) ≡ 2 → ⊥
+status_not_two out feeds report flags o p lacked two = due_not_two out feeds (reports_in report) flags o (limit_was_passed report) p lacked two
 
 -- some part failed: 3
-pub some_part : (flags : List Bool) (o p : Bool) → (some_failed flags ≡ true) ⊎ ((o ≡ true) ⊎ (p ≡ true)) → any flags o p ≡ true
+pub some_part : (flags : List Bool) (o p : Bool) → (any_failed flags ≡ true) ⊎ ((o ≡ true) ⊎ (p ≡ true)) → any flags o p ≡ true
 some_part flags o p (inl is) = ap (λ (b : Bool). b || (o || p)) is
-some_part flags o p (inr (inl is)) = ap (λ (b : Bool). some_failed flags || (b || p)) is ∙ or_true (some_failed flags)
+some_part flags o p (inr (inl is)) = ap (λ (b : Bool). any_failed flags || (b || p)) is ∙ or_true (any_failed flags)
   where
     or_true : (a : Bool) → (a || true) ≡ true
     or_true true = refl
     or_true false = refl
-some_part flags o p (inr (inr is)) = ap (λ (b : Bool). some_failed flags || (o || b)) is ∙ both (some_failed flags) o
+some_part flags o p (inr (inr is)) = ap (λ (b : Bool). any_failed flags || (o || b)) is ∙ both (any_failed flags) o
   where
     both : (a b : Bool) → (a || (b || true)) ≡ true
     both true b = refl

@@ -19,11 +19,11 @@ use Rattle.command_base.specs.Ran.{Scene, has_failed, input_faults, output_fault
 use Rattle.record_command.specs.declared.watched_names.WatchedOutcome.{WatchedOutcome}
 use Rattle.record_command.specs.declared.watched_answer.WatchedCounts.{WatchedCounts}
 use Rattle.record_command.specs.declared.watched_answer.WatchedFailures.{WatchedFailures}
-use Rattle.record_command.specs.Record.{entry_of, live_entry, reports_in, some_failed, worst, report_text, limit_passed, passes_limit, lacks_memory, HaltsThere}
-use Rattle.record_command.specs.Answer.{flags_of}
+use Rattle.record_command.specs.Record.{feed_entry, live_entry, reports_in, any_failed, worst, report_text, limit_was_passed, recording_passes_limit, lacks_memory, FeedHalts}
+use Rattle.record_command.specs.Answer.{feed_flags}
 use Rattle.record_command.specs.Sinks.{SinkKept, sink_entry}
 use Rattle.record_command.specs.Watched.{named, requested, reported_with, CountsBeside, ReportedBeside, NamesWatched, is_watch_fault, is_flaw}
-use Rattle.record_command.specs.WatchedAnswer.{watched_counts_in, AnyCountRose, is_memory_watch, some_flaw, lacks_beside, LackIsToldBeside, BlamesExactly, watch_flags_of, blamed_in, AnyPartFailed, PartsShow, LacksMemoryBeside, AnswersBeside, ends_status_beside, EndsBeside, RecordsAllBeside, RecordsWatched}
+use Rattle.record_command.specs.WatchedAnswer.{watched_counts_in, AnyCountRose, is_memory_watch, some_flaw, lacks_beside, LackIsToldBeside, BlamesExactly, watch_flags_of, blamed_in, AnyPartFailed, WatchedPartsShow, LacksMemoryBeside, AnswersBeside, ends_status_beside, EndsBeside, RecordsAllBeside, RecordsWatched}
 use Rattle.record_command.proofs.Runs.{input_faults-append, output_faults-append}
 use Rattle.record_command.proofs.Flags.{flags_long, every_caused}
 use Rattle.record_command.proofs.Parts.{shown_every, shown_some}
@@ -46,7 +46,7 @@ read_beside : (options : RecordOptions) (range : Range) (out : List ℕ) (watche
     → ReportedBeside (requested options range out watches feeds) old new entries failures (reported_with r sealed reports) → CountsBeside old new entries failures → Read options feeds old new r
 read_beside options range out watches feeds old new entries failures r sealed reports is counts =
     let sinks = map sink_entry is.kept_sinks in
-    let sources = map entry_of is.kept_feeds in
+    let sources = map feed_entry is.kept_feeds in
     let store = live_entry out is.live_now is.live_kept in
     record {
       given = is.given;
@@ -86,11 +86,11 @@ module _ (options : RecordOptions) (range : Range) (out : List ℕ) (watches fee
 
 -- ---- what failed
 
-module _ (before now : WatchedCounts) (watches feeds : List (List ℕ)) (outcome : WatchedOutcome) (failed : WatchedFailures) (many_watches : 1 ≤ length watches) (many : 1 ≤ length feeds) (shows : PartsShow before now watches feeds outcome failed) where
-  feed_rose : (failed.parts.every_feed ≡ true) ⊎ (some_failed failed.parts.feeds.now ≡ true) → AnyCountRose before now
+module _ (before now : WatchedCounts) (watches feeds : List (List ℕ)) (outcome : WatchedOutcome) (failed : WatchedFailures) (many_watches : 1 ≤ length watches) (many : 1 ≤ length feeds) (shows : WatchedPartsShow before now watches feeds outcome failed) where
+  feed_rose : (failed.parts.every_feed ≡ true) ⊎ (any_failed failed.parts.feeds.now ≡ true) → AnyCountRose before now
   feed_rose some = elim (shows.causes.feed_cause (every_caused feeds failed.parts some many)) [ inl world ↦ inl (inl world) | inr inputs ↦ inl (inr (inl inputs)) ]
 
-  watch_rose : some_failed (watch_flags_of watches failed) ≡ true → AnyCountRose before now
+  watch_rose : any_failed (watch_flags_of watches failed) ≡ true → AnyCountRose before now
   watch_rose some = elim (shows.causes.watch_cause some) [ inl world ↦ inl (inl world) | inr (inl outputs) ↦ inl (inr (inr (inl outputs))) | inr (inr sinks) ↦ inr sinks ]
 
   out_rose : failed.parts.out ≡ true → AnyCountRose before now
@@ -117,12 +117,12 @@ module _ (before now : WatchedCounts) (watches feeds : List (List ℕ)) (outcome
   -- ---- the status
 
   abbrev parts : Bool
-  parts = any_part (flags_of feeds failed.parts) failed.parts.out (watch_flags_of watches failed) failed.parts.printing
+  parts = any_part (feed_flags feeds failed.parts) failed.parts.out (watch_flags_of watches failed) failed.parts.printing
 
   rise : AnyCountRose before now → parts ≡ true
   rise risen =
-      let flags = some_failed (flags_of feeds failed.parts) in
-      let sinks = some_failed (watch_flags_of watches failed) in
+      let flags = any_failed (feed_flags feeds failed.parts) in
+      let sinks = any_failed (watch_flags_of watches failed) in
       elim risen [
         | inl (inl world) ↦ elim (shows.causes.world_told world) [
           | inl some ↦ some_of flags failed.parts.out sinks failed.parts.printing (inl some)
@@ -147,7 +147,7 @@ module _ (before now : WatchedCounts) (watches feeds : List (List ℕ)) (outcome
 
   fall : (AnyCountRose before now → ⊥) → parts ≡ false
   fall quiet =
-      none_of (some_failed (flags_of feeds failed.parts)) failed.parts.out (some_failed (watch_flags_of watches failed)) failed.parts.printing
+      none_of (any_failed (feed_flags feeds failed.parts)) failed.parts.out (any_failed (watch_flags_of watches failed)) failed.parts.printing
       (λ some. elim (shows.causes.feed_cause some) [ inl world ↦ quiet (inl (inl world)) | inr inputs ↦ quiet (inl (inr (inl inputs))) ])
       (λ some. quiet (out_rose some)) (λ some. quiet (watch_rose some)) (λ some. quiet (printing_rose some))
     where
@@ -158,11 +158,11 @@ module _ (before now : WatchedCounts) (watches feeds : List (List ℕ)) (outcome
       none_of false false false true first second third fourth = absurd (fourth refl)
       none_of false false false false first second third fourth = refl
 
-  ended : (out : List ℕ) (err err_now : SinkState) (answer : ℕ) → length (reports_in outcome.report) ≤ length feeds → length outcome.watches.items ≤ length watches → length (flags_of feeds failed.parts) ≤ length feeds → length (watch_flags_of watches failed) ≤ length watches
+  ended : (out : List ℕ) (err err_now : SinkState) (answer : ℕ) → length (reports_in outcome.report) ≤ length feeds → length outcome.watches.items ≤ length watches → length (feed_flags feeds failed.parts) ≤ length feeds → length (watch_flags_of watches failed) ≤ length watches
       → (a : AnswersBeside (named out watches feeds) outcome failed err err_now answer) → EndsBeside before now outcome.report outcome.watches.items a.lacked answer
   ended out err err_now answer few few_ends few_flags few_sinks a =
       let number = ends_status_beside (reports_in outcome.report) outcome.watches.items in
-      let rest = cond (limit_passed outcome.report) 4 number in
+      let rest = cond (limit_was_passed outcome.report) 4 number in
       let told = cond parts 3 rest in
       let status : answer ≡ cond a.lacked 5 told = a.told.status_is ∙ watched_status out watches feeds outcome.report outcome.watches.items (blamed_in watches feeds failed) failed.parts.printing a.lacked few few_ends few_flags few_sinks in
       record {
@@ -171,7 +171,7 @@ module _ (before now : WatchedCounts) (watches feeds : List (List ℕ)) (outcome
         calm = λ enough quiet r here.
             where_enough a.lacked told answer status enough
             ∙ ap (λ (b : Bool). cond b 3 rest) (fall quiet)
-            ∙ ap (λ (x : Option Report). cond (limit_passed x) 4 (ends_status_beside (reports_in x) outcome.watches.items)) here;
+            ∙ ap (λ (x : Option Report). cond (limit_was_passed x) 4 (ends_status_beside (reports_in x) outcome.watches.items)) here;
       }
 
 -- ---- the status 0
@@ -214,8 +214,8 @@ module _ (options : RecordOptions) (range : Range) (out : List ℕ) (watches fee
   after = watched_counts_in new
 
   module _ (report : Option Report) (here : outcome.report ≡ report) (lacking : LackIsToldBeside before after report outcome.sealed outcome.watches.items lacked) (came : EndsBeside before after report outcome.watches.items lacked answer) where
-    decided_in : (r : Report) → report ≡ Some r → (told : Told) (halts : List Halt) → old.world.told ≡ Some told → AllZip (HaltsThere told) feeds halts
-        → (AnyCountRose before after → ⊥) → lacked ≡ false → passes_limit r ≡ false → answer ≡ worst (map halt_status halts)
+    decided_in : (r : Report) → report ≡ Some r → (told : Told) (halts : List Halt) → old.world.told ≡ Some told → AllZip (FeedHalts told) feeds halts
+        → (AnyCountRose before after → ⊥) → lacked ≡ false → recording_passes_limit r ≡ false → answer ≡ worst (map halt_status halts)
     decided_in r is told halts there all quiet enough within =
         let lacking_here : lacked ≡ lacks_beside r outcome.sealed outcome.watches.items = subst (λ (x : Option Report). LackIsToldBeside before after x outcome.sealed outcome.watches.items lacked) is lacking in
         let none = none_lacks (lacks_memory r) outcome.sealed _ (sym lacking_here ∙ enough) in
@@ -223,7 +223,7 @@ module _ (options : RecordOptions) (range : Range) (out : List ℕ) (watches fee
         let unflawed : some_flaw outcome.watches.items ≡ false = ap some_flaw it.reports_are ∙ none_flaws it.seen (it.unflawed told there none.1.0) in
         let ends = ends_decided options feeds old.world new.world r (read_in options range out watches feeds old.world new.world outcome made inputs_fit outputs_fit r (here ∙ is)) inputs_fit outputs_fit
         (λ rose. quiet (inl (inr (inl rose)))) (λ rose. quiet (inl (inr (inr (inl rose))))) none.0 within told halts there all in
-        unlimited (passes_limit r) (ends_status_beside r.feeds.items outcome.watches.items) answer (came.calm enough quiet r is) within
+        unlimited (recording_passes_limit r) (ends_status_beside r.feeds.items outcome.watches.items) answer (came.calm enough quiet r is) within
         ∙ worst_unflawed r.feeds.items outcome.watches.items unflawed ∙ ap worst ends
 
     whole_in : (r : Report) → report ≡ Some r → answer ≡ 0 → RecordsAllBeside options r outcome.sealed outcome.watches.items
@@ -235,8 +235,8 @@ module _ (options : RecordOptions) (range : Range) (out : List ℕ) (watches fee
         let none = none_lacks (lacks_memory r) outcome.sealed _ (sym lacking_here ∙ enough) in
         let number = ends_status_beside r.feeds.items reports in
         let status = came.calm enough quiet r is in
-        let within = limit_kept (passes_limit r) number answer status zero_is in
-        let ends = unlimited_status (passes_limit r) number answer status zero_is in
+        let within = limit_kept (recording_passes_limit r) number answer status zero_is in
+        let ends = unlimited_status (recording_passes_limit r) number answer status zero_is in
         let unflawed = none_flawed r.feeds.items reports ends in
         let it = made.reported r (here ∙ is) in
         record {
@@ -259,8 +259,8 @@ module _ (options : RecordOptions) (range : Range) (out : List ℕ) (watches fee
         both_ways lacked enough (lacking_here.0 quiet)
 
   decided : (report : Option Report) → outcome.report ≡ report → LackIsToldBeside before after report outcome.sealed outcome.watches.items lacked → EndsBeside before after report outcome.watches.items lacked answer
-      → (told : Told) (halts : List Halt) → old.world.told ≡ Some told → AllZip (HaltsThere told) feeds halts
-      → (AnyCountRose before after → ⊥) → lacked ≡ false → limit_passed report ≡ false → answer ≡ worst (map halt_status halts)
+      → (told : Told) (halts : List Halt) → old.world.told ≡ Some told → AllZip (FeedHalts told) feeds halts
+      → (AnyCountRose before after → ⊥) → lacked ≡ false → limit_was_passed report ≡ false → answer ≡ worst (map halt_status halts)
   decided None here lacking came told halts there all quiet enough within = absurd (no_report None here lacking came refl enough quiet)
   decided (Some r) here lacking came told halts there all quiet enough within = decided_in (Some r) here lacking came r refl told halts there all quiet enough within
 
@@ -272,7 +272,7 @@ module _ (options : RecordOptions) (range : Range) (out : List ℕ) (watches fee
 
 -- which names are blamed
 blames : (options : RecordOptions) (range : Range) (out : List ℕ) (watches feeds : List (List ℕ)) (old new : Scene) (outcome : WatchedOutcome) (failed : WatchedFailures) → (made : NamesWatched (requested options range out watches feeds) old.world new.world outcome)
-    → PartsShow (watched_counts_in old) (watched_counts_in new) watches feeds outcome failed → ShowingBeside old.world new.world outcome → BlamesExactly old.world watches feeds made.entries outcome.watches.items (blamed_in watches feeds failed)
+    → WatchedPartsShow (watched_counts_in old) (watched_counts_in new) watches feeds outcome failed → ShowingBeside old.world new.world outcome → BlamesExactly old.world watches feeds made.entries outcome.watches.items (blamed_in watches feeds failed)
 blames options range out watches feeds old new outcome failed made shows showing = record {
   inputs = made.inputs;
   outputs = made.outputs;
@@ -291,7 +291,7 @@ blames options range out watches feeds old new outcome failed made shows showing
 -- all that the program promises of a recording with watchers
 pub watched_recorded : (options : RecordOptions) (range : Range) (out : List ℕ) (watches feeds : List (List ℕ)) (old new : Scene) (outcome : WatchedOutcome) (failed : WatchedFailures) (answer : ℕ) → 1 ≤ length watches → 1 ≤ length feeds
     → old.world.input_faults < 2 ^ 64 → old.world.output_faults < 2 ^ 64 → NamesWatched (requested options range out watches feeds) old.world new.world outcome → ShowingBeside old.world new.world outcome → Takes old.out new.out (report_text outcome.report)
-    → AnswersBeside (named out watches feeds) outcome failed old.err new.err answer → PartsShow (watched_counts_in old) (watched_counts_in new) watches feeds outcome failed → RecordsWatched (requested options range out watches feeds) old new outcome.report answer
+    → AnswersBeside (named out watches feeds) outcome failed old.err new.err answer → WatchedPartsShow (watched_counts_in old) (watched_counts_in new) watches feeds outcome failed → RecordsWatched (requested options range out watches feeds) old new outcome.report answer
 watched_recorded options range out watches feeds old new outcome failed answer many_watches many inputs_fit outputs_fit made showing prints a shows =
     let before = watched_counts_in old in
     let now = watched_counts_in new in
@@ -331,9 +331,9 @@ pub not_two : (options : RecordOptions) (range : Range) (out : List ℕ) (watche
 not_two options range out watches feeds old new report answer all two = watched_not_two out watches feeds report all.reports all.blamed all.printing all.lacked (sym all.said.status_is ∙ two)
 
 -- what holds of counts holds of equal ones
-pub watched_shows_in : (b before n now : WatchedCounts) (watches feeds : List (List ℕ)) (outcome : WatchedOutcome) (failed : WatchedFailures) → b ≡ before → n ≡ now → PartsShow b n watches feeds outcome failed → PartsShow before now watches feeds outcome failed
+pub watched_shows_in : (b before n now : WatchedCounts) (watches feeds : List (List ℕ)) (outcome : WatchedOutcome) (failed : WatchedFailures) → b ≡ before → n ≡ now → WatchedPartsShow b n watches feeds outcome failed → WatchedPartsShow before now watches feeds outcome failed
 watched_shows_in b before n now watches feeds outcome failed same same_now shows =
-    subst (λ (x : WatchedCounts). PartsShow before x watches feeds outcome failed) same_now (subst (λ (x : WatchedCounts). PartsShow x n watches feeds outcome failed) same shows)
+    subst (λ (x : WatchedCounts). WatchedPartsShow before x watches feeds outcome failed) same_now (subst (λ (x : WatchedCounts). WatchedPartsShow x n watches feeds outcome failed) same shows)
 
 pub watched_counts_same : (P : WatchedCounts → WatchedCounts → Type 0) (b before n now : WatchedCounts) → b ≡ before → n ≡ now → P before now → P b n
 watched_counts_same P b before n now same same_now holds = subst (λ (x : WatchedCounts). P x n) (sym same) (subst (P before) (sym same_now) holds)

@@ -27,13 +27,13 @@ use Rattle.watching.specs.declared.report.WatchEnd.{WatchEnd}
 use Rattle.watching.specs.declared.report.WatchEnd.TheVariants as watch_ends
 use Rattle.watched_recording.specs.Watched.{Watch, IsWatched, RecordedWatched}
 use Rattle.watched_recording.specs.Files.{IsWatchedFile, WatchFilesAreTold}
-use Rattle.command_words.specs.Commands.{AreApart}
-use Rattle.command_base.specs.Ran.{Wanted, wanted, has_failed, failed_so, failed_names, named_when, object_faults, output_faults, world_faults, AreOpened, IsWritten}
+use Rattle.command_words.specs.Commands.{NamesDiffer}
+use Rattle.command_base.specs.Ran.{Wanted, wanted, has_failed, failed_so, failed_names, named_when, object_faults, output_faults, world_faults, AreOpened, IsGivenLive}
 use Rattle.command_base.proofs.Counting.{not_risen}
 use Rattle.record_command.specs.declared.answering.Outcome.{Outcome}
 use Rattle.record_command.specs.declared.watched_names.WatchedOutcome.{WatchedOutcome}
-use Rattle.record_command.specs.Record.{files_of, some_failed, FeedKept, entry_of, names_kept, back_sources, IsLeft, NamesRecorded}
-use Rattle.record_command.specs.Sources.{flags_with}
+use Rattle.record_command.specs.Record.{feeds_and_output, any_failed, FeedKept, feed_entry, feed_names_kept, back_sources, LeftUnderName, NamesRecorded}
+use Rattle.record_command.specs.Sources.{feed_flags_with}
 use Rattle.record_command.specs.Sinks.{SinkKept, sink_entry, sink_names, back_sinks, sink_faults, watch_faults}
 use Rattle.record_command.specs.Watched.{requested, reported_with, wanted_names, IsWrittenBeside, EndsSo, view_faults, is_flaw, IsWatchedAlone, with_ends, watch_flags, ReportedBeside, UnreportedBeside, NamesWatched}
 use Rattle.record_command.proofs.Held.{Holds, holds, placed_holds, placed_nothing}
@@ -46,7 +46,7 @@ use Rattle.record_command.proofs.WatchEnds.{ended_so, ends_nothing, ends_why, en
 -- ---- no watch file was reached
 
 -- a live store of the openings of a recording has the output's name
-live_named : (out : List ℕ) (feeds : List (List ℕ)) (entries : List Opening) → AreOpened (wanted (files_of out feeds)) entries → (n : ℕ) (e : Opening) → At entries n e → e.kind ≡ kinds.Live → e.name ≡ out
+live_named : (out : List ℕ) (feeds : List (List ℕ)) (entries : List Opening) → AreOpened (wanted (feeds_and_output out feeds)) entries → (n : ℕ) (e : Opening) → At entries n e → e.kind ≡ kinds.Live → e.name ≡ out
 live_named out feeds [] opens n e at kind = absurd (at_none n e at)
 live_named out [] (x ∷ xs) (inl (is, none)) zero e at kind = ap (λ (o : Opening). o.name) (sym (same_Some x e at) ∙ is)
 live_named out [] (x ∷ xs) (inl (is, none)) (suc n) e at kind = absurd (at_none n e (subst (λ (l : List Opening). At l n e) none at))
@@ -79,17 +79,17 @@ watch_nothing kind (x ∷ xs) none are =
 abbrev pub alone : WatchedOutcome → Outcome
 alone outcome = record { report = None; feeds_failed = outcome.feeds_failed; out_failed = outcome.out_failed }
 
-pub unreached : (options : RecordOptions) (range : Range) (out : List ℕ) (watches feeds : List (List ℕ)) (w0 w3 : WorldState) (outcome : WatchedOutcome) → AreApart out watches → NamesRecorded options out feeds w0 w3 (alone outcome)
+pub unreached : (options : RecordOptions) (range : Range) (out : List ℕ) (watches feeds : List (List ℕ)) (w0 w3 : WorldState) (outcome : WatchedOutcome) → NamesDiffer out watches → NamesRecorded options out feeds w0 w3 (alone outcome)
     → w3.watch_faults ≡ w0.watch_faults → w0.watch_faults < 2 ^ 64 → outcome.report ≡ None → outcome.watches.items ≡ [] → outcome.watches_failed.items ≡ [] → NamesWatched (requested options range out watches feeds) w0 w3 outcome
 unreached options range out watches feeds w0 w3 outcome apart made still fits none no_reports no_flags =
     let first = watch_nothing kinds.Source made.inputs (λ n. refl) made.sources in
     let second = watch_nothing kinds.Live made.outputs (λ n. refl) made.stores in
     let no_faults : watch_faults made.entries ≡ 0 = omega (arith, ap watch_faults made.parts, watch_faults-append made.inputs made.outputs, first, second) in
-    let not_written : (name : List ℕ) → Has watches name → IsWritten made.entries name → ⊥ = λ name has is.
+    let not_written : (name : List ℕ) → Has watches name → IsGivenLive made.entries name → ⊥ = λ name has is.
     out_apart out watches apart (subst (Has watches) (sym is.named ∙ live_named out feeds made.entries made.opened is.there.0 is.entry is.there.1 is.live) has) in
     record {
       entries = made.entries;
-      opened = opened_more (wanted (files_of out feeds)) (map (λ (name : List ℕ). (kinds.Sink, name)) watches) made.entries made.opened;
+      opened = opened_more (wanted (feeds_and_output out feeds)) (map (λ (name : List ℕ). (kinds.Sink, name)) watches) made.entries made.opened;
       leaves = λ told here. let l = made.leaves told here in (l.0, l.1, l.2, λ name unwritten. l.3 name (λ is. unwritten (record { entry = is.entry; there = is.there; written = inl is.live; given = is.given; named = is.named })));
       failures = 0;
       counts = record { kept = made.counts; watches = omega (arith, still, fits, no_faults) };
@@ -118,13 +118,13 @@ unreached options range out watches feeds w0 w3 outcome apart made still fits no
       out_failed = made.out_failed;
       watches_failed = no_flags;
       failed = ap failed_names (sym made.parts) ∙ made.failed;
-      watch_cause = λ is. absurd (both_ways false refl (ap some_failed (sym no_flags) ∙ is));
+      watch_cause = λ is. absurd (both_ways false refl (ap any_failed (sym no_flags) ∙ is));
       watch_told = λ on rose. not_risen _ w0.watch_faults w3.watch_faults on still rose;
     }
 
 -- ---- lists
 
-not_left : (told : Told) (xs : List Opening) → Each (λ (e : Opening). e.kind ≡ kinds.Source → ⊥) xs → Each (IsLeft told) xs
+not_left : (told : Told) (xs : List Opening) → Each (λ (e : Opening). e.kind ≡ kinds.Source → ⊥) xs → Each (LeftUnderName told) xs
 not_left told xs other n e at feed keeping is = absurd (other n e at (ap (λ (o : Opening). o.kind) is))
 
 sinks_other : (xs : List Opening) → AreKind kinds.Sink xs → Each (λ (e : Opening). e.kind ≡ kinds.Source → ⊥) xs
@@ -179,7 +179,7 @@ refused_names : (why : OpenRefused) (name : List ℕ) (cut : List (List ℕ)) �
 refused_names open_refusals.Failed name cut = refl
 refused_names open_refusals.Memory name cut = refl
 
-refused_flags : (flags : List Bool) (why : OpenRefused) (failed : Bool) (name : List ℕ) → (failed ≡ true → why ≡ open_refusals.Failed) → (failed ≡ false → why ≡ open_refusals.Memory) → flags_with flags failed ≡ flags ++ map has_failed (refusal_of kinds.Sink name why)
+refused_flags : (flags : List Bool) (why : OpenRefused) (failed : Bool) (name : List ℕ) → (failed ≡ true → why ≡ open_refusals.Failed) → (failed ≡ false → why ≡ open_refusals.Memory) → feed_flags_with flags failed ≡ flags ++ map has_failed (refusal_of kinds.Sink name why)
 refused_flags flags open_refusals.Failed true name a b = refl
 refused_flags flags open_refusals.Failed false name a b = absurd (let e = b refl in cc)
 refused_flags flags open_refusals.Memory true name a b = absurd (let e = a refl in cc)
@@ -237,7 +237,7 @@ no_total failures (v ∷ views) is = absurd cc
 
 -- ---- the output and watch files were reached
 
-module _ (options : RecordOptions) (range : Range) (out : List ℕ) (watches feeds names more : List (List ℕ)) (b : AllSeen out feeds names) (apart : AreApart out watches) (split : watches ≡ names ++ more) where
+module _ (options : RecordOptions) (range : Range) (out : List ℕ) (watches feeds names more : List (List ℕ)) (b : AllSeen out feeds names) (apart : NamesDiffer out watches) (split : watches ≡ names ++ more) where
   abbrev fs : List FeedKept
   fs = seen_feeds out feeds names b
 
@@ -257,24 +257,24 @@ module _ (options : RecordOptions) (range : Range) (out : List ℕ) (watches fee
   writers_are = each_both (λ (entry : Opening). entry.kind ≡ kinds.Sink) (map sink_entry sinks) b.behind (are_sinks sinks) b.refuses.writers
 
   file_there : Has all file
-  file_there = (length (map entry_of fs), at_last (map entry_of fs) file behind)
+  file_there = (length (map feed_entry fs), at_last (map feed_entry fs) file behind)
 
   sink_there : (name : List ℕ) → Has names name → IsWrittenBeside all name
   sink_there name (n, at) =
       let (k, there, is) = kept_named sinks n name (subst (λ (l : List (List ℕ)). At l n name) b.keeps_sinks.names_are at) in
       record {
         entry = sink_entry k;
-        there = (length (map entry_of fs) + suc n, at_second (map entry_of fs) (file ∷ behind) (suc n) (sink_entry k) (at_kept (map sink_entry sinks) b.behind n (sink_entry k) (entry_at sinks n k there)));
+        there = (length (map feed_entry fs) + suc n, at_second (map feed_entry fs) (file ∷ behind) (suc n) (sink_entry k) (at_kept (map sink_entry sinks) b.behind n (sink_entry k) (entry_at sinks n k there)));
         written = inr refl;
         given = refl;
         named = is;
       }
 
   abbrev Why : WatchedOutcome → Type 0
-  Why outcome = some_failed outcome.watches_failed.items ≡ true → (1 ≤ world_faults behind) ⊎ ((1 ≤ b.live_now.faults) ⊎ (1 ≤ watch_faults behind + sum b.views))
+  Why outcome = any_failed outcome.watches_failed.items ≡ true → (1 ≤ world_faults behind) ⊎ ((1 ≤ b.live_now.faults) ⊎ (1 ≤ watch_faults behind + sum b.views))
 
   abbrev Tells : WatchedOutcome → Type 0
-  Tells outcome = 1 ≤ watch_faults behind + sum b.views → some_failed outcome.watches_failed.items ≡ true
+  Tells outcome = 1 ≤ watch_faults behind + sum b.views → any_failed outcome.watches_failed.items ≡ true
 
   seen_watched : (outcome : WatchedOutcome) → outcome.feeds_failed.items ≡ b.flags → outcome.out_failed ≡ failed_so (went_well b.live_kept) b.live_now.faults → outcome.watches_failed.items ≡ watch_flags behind outcome.watches.items
       → AreOpened (map (λ (name : List ℕ). (kinds.Sink, name)) watches) behind → length behind ≤ length watches → map (λ (entry : Opening). entry.name) behind ≡ take (length behind) watches
@@ -283,12 +283,12 @@ module _ (options : RecordOptions) (range : Range) (out : List ℕ) (watches fee
       → NamesWatched (requested options range out watches feeds) b.w0 b.w8 outcome
   seen_watched outcome flags_are out_is watch_flags_are opens few named reported unreported none why tells =
       let sink_list : List Wanted = map (λ (name : List ℕ). (kinds.Sink, name)) watches in
-      let feed_list : List Wanted = map (λ (name : List ℕ). (kinds.Source, name)) (names_kept fs) in
+      let feed_list : List Wanted = map (λ (name : List ℕ). (kinds.Source, name)) (feed_names_kept fs) in
       let all_are : feed_list ++ (kinds.Live, out) ∷ sink_list ≡ wanted_names out watches feeds =
       sym (append_assoc feed_list ((kinds.Live, out) ∷ []) sink_list) ∙ ap (λ (l : List (List ℕ)). wanted_names out watches l) (sym b.keeps.names_are) in
-      let world : world_faults all ≡ world_faults (map entry_of fs) + world_faults (file ∷ behind) = world_faults-append (map entry_of fs) (file ∷ behind) in
-      let outputs : output_faults all ≡ output_faults (map entry_of fs) + output_faults (file ∷ behind) = output_faults-append (map entry_of fs) (file ∷ behind) in
-      let faults : watch_faults all ≡ watch_faults (map entry_of fs) + watch_faults (file ∷ behind) = watch_faults-append (map entry_of fs) (file ∷ behind) in
+      let world : world_faults all ≡ world_faults (map feed_entry fs) + world_faults (file ∷ behind) = world_faults-append (map feed_entry fs) (file ∷ behind) in
+      let outputs : output_faults all ≡ output_faults (map feed_entry fs) + output_faults (file ∷ behind) = output_faults-append (map feed_entry fs) (file ∷ behind) in
+      let faults : watch_faults all ≡ watch_faults (map feed_entry fs) + watch_faults (file ∷ behind) = watch_faults-append (map feed_entry fs) (file ∷ behind) in
       let no_faults = feeds_watch_nothing fs in
       record {
         entries = all;
@@ -306,10 +306,10 @@ module _ (options : RecordOptions) (range : Range) (out : List ℕ) (watches fee
         unreported = unreported;
         none = none;
         spares = λ told now here here_now feed has missing. has_there b.w0 told feeds b.ss has.0 feed (now.names out ≡ told.names out) here b.opens.feeds_opened.tells has.1 missing;
-        inputs = map entry_of fs;
+        inputs = map feed_entry fs;
         outputs = file ∷ [];
         sinks = behind;
-        few = omega (arith, length-map fs entry_of, length-map fs (λ (k : FeedKept). k.name), ap length b.keeps.names_are);
+        few = omega (arith, length-map fs feed_entry, length-map fs (λ (k : FeedKept). k.name), ap length b.keeps.names_are);
         few_sinks = few;
         parts = refl;
         sources = are_sources fs;
@@ -319,7 +319,7 @@ module _ (options : RecordOptions) (range : Range) (out : List ℕ) (watches fee
         feeds_failed = flags_are ∙ b.keeps.failed_are ∙ sym (map_kept fs);
         out_failed = out_is ∙ or_nothing (failed_so (went_well b.live_kept) b.live_now.faults);
         watches_failed = watch_flags_are;
-        failed = names_same out feeds [] fs (file ∷ []) [] outcome.out_failed outcome.feeds_failed.items (b.keeps.names_are ∙ sym (append-nil (names_kept fs))) (flags_are ∙ b.keeps.failed_are ∙ sym (map_kept fs) ∙ sym (append-nil (map has_failed (map entry_of fs))))
+        failed = names_same out feeds [] fs (file ∷ []) [] outcome.out_failed outcome.feeds_failed.items (b.keeps.names_are ∙ sym (append-nil (feed_names_kept fs))) (flags_are ∙ b.keeps.failed_are ∙ sym (map_kept fs) ∙ sym (append-nil (map has_failed (map feed_entry fs))))
             (ap (λ (x : Bool). named_when x out ++ []) (sym out_is));
         watch_cause = λ is. elim (why is) [
           | inl some ↦ inl (omega (arith, world_since out feeds names b, world, some, b.opens.fits.world))
@@ -339,13 +339,13 @@ module _ (options : RecordOptions) (range : Range) (out : List ℕ) (watches fee
       let no_faults = unused_sinks_count sinks (subst (Each (λ (s : SinkState). s.faults ≡ 0)) back_sinks_are b.opens_sinks.unused) in
       record {
         same = record {
-          inputs = omega (arith, input_faults-append (map entry_of fs) (file ∷ behind), input_faults-append (map sink_entry sinks) b.behind, no_inputs, sinks_read_nothing sinks, b.refuses.inputs);
-          outputs = omega (arith, output_faults-append (map entry_of fs) (file ∷ behind), output_faults-append (map sink_entry sinks) b.behind, sources_write_nothing fs, sinks_write_nothing sinks, b.refuses.outputs, ap (λ (l : LiveState). l.faults) lives, b.opens.unused);
-          left = λ told here. each_both (IsLeft told) (map entry_of fs) (file ∷ behind) (left_all b.w0 told fs here (subst (λ (l : List SourceState). AllZip (TellsName b.w0) (names_kept fs) l) back_are (subst (λ (l : List (List ℕ)). AllZip (TellsName b.w0) l b.ss) b.keeps.names_are b.opens.feeds_opened.tells)))
+          inputs = omega (arith, input_faults-append (map feed_entry fs) (file ∷ behind), input_faults-append (map sink_entry sinks) b.behind, no_inputs, sinks_read_nothing sinks, b.refuses.inputs);
+          outputs = omega (arith, output_faults-append (map feed_entry fs) (file ∷ behind), output_faults-append (map sink_entry sinks) b.behind, sources_write_nothing fs, sinks_write_nothing sinks, b.refuses.outputs, ap (λ (l : LiveState). l.faults) lives, b.opens.unused);
+          left = λ told here. each_both (LeftUnderName told) (map feed_entry fs) (file ∷ behind) (left_all b.w0 told fs here (subst (λ (l : List SourceState). AllZip (TellsName b.w0) (feed_names_kept fs) l) back_are (subst (λ (l : List (List ℕ)). AllZip (TellsName b.w0) l b.ss) b.keeps.names_are b.opens.feeds_opened.tells)))
               (not_left told (file ∷ behind) (each_cons (λ (e : Opening). e.kind ≡ kinds.Source → ⊥) file behind (λ kind. absurd (let other : kinds.Live ≡ kinds.Source = kind in cc)) (sinks_other behind writers_are)));
           file = λ told now here here_now. placed_nothing told.names now.names out b.live_kept ((names_since out feeds names b told now here here_now).output [] (ap (λ (l : LiveState). l.held) lives ∙ nothing_yet out feeds names b told here));
         };
-        sinks = omega (arith, watch_faults-append (map entry_of fs) (file ∷ behind), watch_faults-append (map sink_entry sinks) b.behind, feeds_watch_nothing fs, no_faults, b.refuses.watches);
+        sinks = omega (arith, watch_faults-append (map feed_entry fs) (file ∷ behind), watch_faults-append (map sink_entry sinks) b.behind, feeds_watch_nothing fs, no_faults, b.refuses.watches);
         views = no_views;
         watch_files = λ told now here here_now n name at.
             let held = names_since out feeds names b told now here here_now in
@@ -395,23 +395,23 @@ module _ (options : RecordOptions) (range : Range) (out : List ℕ) (watches fee
   why_unreported : (outcome : WatchedOutcome) → outcome.watches_failed.items ≡ watch_flags behind outcome.watches.items → outcome.watches.items ≡ [] → Why outcome
   why_unreported outcome flags_are none is =
       let plain : outcome.watches_failed.items ≡ map has_failed behind = flags_are ∙ ap (λ (l : List WatchReport). watch_flags behind l) none ∙ ends_nothing (map has_failed behind) in
-      elim (some_has_sink behind writers_are (ap some_failed (sym plain) ∙ is)) [
+      elim (some_has_sink behind writers_are (ap any_failed (sym plain) ∙ is)) [
         | inl world ↦ inl world
         | inr faults ↦ inr (inr (omega (arith, faults)))
       ]
 
   tells_unreported : (outcome : WatchedOutcome) → outcome.watches_failed.items ≡ watch_flags behind outcome.watches.items → sum b.views ≡ 0 → Tells outcome
   tells_unreported outcome flags_are none some =
-      ap some_failed flags_are ∙ ends_first (map has_failed behind) outcome.watches.items (sinks_have behind writers_are (omega (arith, some, none)))
+      ap any_failed flags_are ∙ ends_first (map has_failed behind) outcome.watches.items (sinks_have behind writers_are (omega (arith, some, none)))
 
   -- ---- a watch file wasn't given
 
   pub sink_refused_so : (outcome : WatchedOutcome) (name : List ℕ) (cut : List (List ℕ)) (why : OpenRefused) (failed : Bool) → more ≡ name ∷ cut → b.behind ≡ refusal_of kinds.Sink name why → (failed ≡ true → why ≡ open_refusals.Failed) → (failed ≡ false → why ≡ open_refusals.Memory)
       → b.ss_now ≡ b.ss → b.live_now ≡ b.live → b.ks_now ≡ b.ks → sum b.views ≡ 0
-      → outcome.report ≡ None → outcome.watches.items ≡ [] → outcome.feeds_failed.items ≡ b.flags → outcome.out_failed ≡ failed_so (went_well b.live_kept) b.live_now.faults → outcome.watches_failed.items ≡ flags_with b.sink_flags failed
+      → outcome.report ≡ None → outcome.watches.items ≡ [] → outcome.feeds_failed.items ≡ b.flags → outcome.out_failed ≡ failed_so (went_well b.live_kept) b.live_now.faults → outcome.watches_failed.items ≡ feed_flags_with b.sink_flags failed
       → NamesWatched (requested options range out watches feeds) b.w0 b.w8 outcome
   sink_refused_so outcome name cut why failed more_is behind_is is_failed is_memory sources lives sinks_same no_views none no_reports flags_are out_is watch_flags_are =
-      let refusal : flags_with b.sink_flags failed ≡ b.sink_flags ++ map has_failed b.behind = refused_flags b.sink_flags why failed name is_failed is_memory ∙ ap (λ (l : List Opening). b.sink_flags ++ map has_failed l) (sym behind_is) in
+      let refusal : feed_flags_with b.sink_flags failed ≡ b.sink_flags ++ map has_failed b.behind = refused_flags b.sink_flags why failed name is_failed is_memory ∙ ap (λ (l : List Opening). b.sink_flags ++ map has_failed l) (sym behind_is) in
       let all_flags : outcome.watches_failed.items ≡ watch_flags behind outcome.watches.items =
       watch_flags_are ∙ refusal ∙ sym flags_behind ∙ sym (ends_nothing (map has_failed behind)) ∙ ap (λ (l : List WatchReport). watch_flags behind l) (sym no_reports) in
       seen_watched outcome flags_are out_is all_flags
@@ -468,7 +468,7 @@ module _ (options : RecordOptions) (range : Range) (out : List ℕ) (watches fee
       let there = moved options (sides b.ss it.viewed) b.ss_now (back_sources fs) b.live_now r b.keeps.sources_are it.recorded.recorded in
       let ends = ends_are tells r reports sealed it in
       let total = totals_are tells r reports sealed it in
-      let faults : watch_faults all ≡ watch_faults (map entry_of fs) + (watch_faults (map sink_entry sinks) + watch_faults b.behind) = omega (arith, watch_faults-append (map entry_of fs) (file ∷ behind), watch_faults-append (map sink_entry sinks) b.behind) in
+      let faults : watch_faults all ≡ watch_faults (map feed_entry fs) + (watch_faults (map sink_entry sinks) + watch_faults b.behind) = omega (arith, watch_faults-append (map feed_entry fs) (file ∷ behind), watch_faults-append (map sink_entry sinks) b.behind) in
       record {
         given = b.ss;
         kept_feeds = fs;
@@ -493,7 +493,7 @@ module _ (options : RecordOptions) (range : Range) (out : List ℕ) (watches fee
         ends = ends;
         sealed_ends = λ is n w at un. sealed_so b.live it.viewed sealed w w.report.end (ends n w at) is un;
         fault_cause = λ n w at is. elim (fault_shows b.live it.viewed sealed it.watches (unused_before tells r reports sealed it) ends n w at is) [
-          | inl viewed ↦ inl (omega (arith, store_rose tells r reports sealed it viewed, outputs_since out feeds names b, output_faults-append (map entry_of fs) (file ∷ behind), b.opens.fits.outputs))
+          | inl viewed ↦ inl (omega (arith, store_rose tells r reports sealed it viewed, outputs_since out feeds names b, output_faults-append (map feed_entry fs) (file ∷ behind), b.opens.fits.outputs))
           | inr watch ↦ inr (omega (arith, watch, total, faults, watches_since out feeds names b, b.opens.fits.watches))
         ];
         file = λ told now here here_now.
@@ -504,14 +504,14 @@ module _ (options : RecordOptions) (range : Range) (out : List ℕ) (watches fee
         texts = texts;
         unflawed = λ told here is. unflawed_by tells r reports sealed it told here it.note refl (it.sealed is);
         texts_alone = alone_by tells r reports sealed it;
-        kept_are = ap (λ (l : List Opening). map entry_of fs ++ file ∷ l) (ap (λ (l : List Opening). map sink_entry sinks ++ l) none ∙ append-nil (map sink_entry sinks));
+        kept_are = ap (λ (l : List Opening). map feed_entry fs ++ file ∷ l) (ap (λ (l : List Opening). map sink_entry sinks ++ l) none ∙ append-nil (map sink_entry sinks));
       }
 
   why_reported : {X : Type 0} (tells : X → Option (List ℕ)) (r : Report) (sealed : Bool) (outcome : WatchedOutcome) → Watched tells r outcome.watches.items sealed → outcome.watches_failed.items ≡ watch_flags behind outcome.watches.items → Why outcome
   why_reported tells r sealed outcome it flags_are is =
       let total = totals_are tells r outcome.watches.items sealed it in
       let parts = watch_faults-append (map sink_entry sinks) b.behind in
-      elim (ends_why (map has_failed behind) outcome.watches.items (ap some_failed (sym flags_are) ∙ is)) [
+      elim (ends_why (map has_failed behind) outcome.watches.items (ap any_failed (sym flags_are) ∙ is)) [
         | inl entries ↦ elim (some_has_sink behind writers_are entries) [
           | inl world ↦ inl world
           | inr faults ↦ inr (inr (omega (arith, faults)))
@@ -523,7 +523,7 @@ module _ (options : RecordOptions) (range : Range) (out : List ℕ) (watches fee
       ]
 
   tells_reported : {X : Type 0} (tells : X → Option (List ℕ)) (r : Report) (sealed : Bool) (outcome : WatchedOutcome) → Watched tells r outcome.watches.items sealed → outcome.watches_failed.items ≡ watch_flags behind outcome.watches.items → b.behind ≡ [] → Tells outcome
-  tells_reported tells r sealed outcome it flags_are none some = ap some_failed flags_are ∙ elim (some_more (watch_faults behind) (sum b.views) some) [
+  tells_reported tells r sealed outcome it flags_are none some = ap any_failed flags_are ∙ elim (some_more (watch_faults behind) (sum b.views) some) [
     | inl faults ↦ ends_first (map has_failed behind) outcome.watches.items (sinks_have behind writers_are faults)
     | inr views ↦
         let long : length (map has_failed behind) ≡ length outcome.watches.items = length-map behind has_failed ∙ ap (λ (l : List Opening). length (map sink_entry sinks ++ l)) none ∙ ap length (append-nil (map sink_entry sinks)) ∙ length-map sinks sink_entry ∙ sym (length-map sinks (λ (k : SinkKept). k.back))

@@ -22,20 +22,20 @@ use Rattle.feed_lane.specs.declared.report.FeedEnd.TheVariants as feed_ends
 use Rattle.feed_lane.specs.declared.report.Refused.{Refused}
 use Rattle.feed_lane.specs.declared.report.Cause.{Cause}
 use Rattle.feed_lane.specs.declared.report.Cause.TheVariants as causes
-use Rattle.feed_lane.specs.Lanes.{EndsWith as IntakeEnds, CauseFits}
+use Rattle.feed_lane.specs.Lanes.{LastFindsEnd as IntakeEnds, CauseFits}
 use Rattle.feed_lane.specs.Feeds.{FeedEnds, TakesMessages}
 use Rattle.feed_lane.specs.Steps.{goes_on}
 use Rattle.recorder.specs.declared.options.RecordOptions.{RecordOptions}
 use Rattle.recorder.specs.declared.report.Report.{Report}
 use Rattle.buffer_swap.specs.Shown.{ShownBy}
-use Rattle.recorder.specs.Recorded.{FeedRecorded, Recorded, lane_of, sides, answer_of}
+use Rattle.recorder.specs.Recorded.{FeedRecorded, Recorded, lane_of, sides, end_answer}
 use Rattle.recorder.specs.Laws.{RefusesNoneAsFull}
 use Rattle.command_base.specs.declared.faults.Counts.{Counts}
 use Rattle.command_base.specs.Texts.{halt_status}
 use Rattle.command_base.specs.Ran.{Scene, counts_in, AnyRose, CountsKept, input_faults, output_faults}
 use Rattle.recorder.proofs.Unfull.{lossless_refuses_none_as_full}
 use Rattle.feed_lane.specs.Causes.{is_over, is_memory}
-use Rattle.record_command.specs.Record.{FeedKept, entry_of, live_entry, back_sources, Reported, EndsWith, worst, ends_status, IsAllRecorded, RecordsAll, HaltsThere, refusal_status, end_status, is_full, is_limit, is_memory_end, is_memory_writer, passes_limit, lacks_memory, limit_passed, LackIsTold}
+use Rattle.record_command.specs.Record.{FeedKept, feed_entry, live_entry, back_sources, Reported, StatusFollows, worst, ends_status, IsAllRecorded, RecordsAll, FeedHalts, refusal_status, end_status, is_full, is_limit_end, feed_lacked_memory, writer_lacked_memory, recording_passes_limit, lacks_memory, limit_was_passed, LackIsTold}
 use Rattle.record_command.proofs.Runs.{input_faults-append, output_faults-append}
 use Rattle.record_command.proofs.Sources.{zip_long}
 
@@ -91,17 +91,17 @@ none_at p xs k x none at = false_from_ne_true (p x) (λ is. both_ways (list_any 
 
 feed_lacks : (r : Report) (n : ℕ) (f : FeedReport) → At r.feeds.items n f → f.end ≡ feed_ends.Refused refusals.Memory → lacks_memory r ≡ true
 feed_lacks r n f at is =
-    or_right (is_memory_writer r.writer.end) _ (any_at (λ (g : FeedReport). is_memory_end g.end || list_any (λ (x : Refused). is_memory x.cause) g.refused.items) r.feeds.items n f at
-    (or_left (is_memory_end f.end) _ (ap is_memory_end is)))
+    or_right (writer_lacked_memory r.writer.end) _ (any_at (λ (g : FeedReport). feed_lacked_memory g.end || list_any (λ (x : Refused). is_memory x.cause) g.refused.items) r.feeds.items n f at
+    (or_left (feed_lacked_memory f.end) _ (ap feed_lacked_memory is)))
 
 message_lacks : (r : Report) (n : ℕ) (f : FeedReport) (k : ℕ) (x : Refused) → At r.feeds.items n f → At f.refused.items k x → is_memory x.cause ≡ true → lacks_memory r ≡ true
 message_lacks r n f k x at_f at is =
-    or_right (is_memory_writer r.writer.end) _ (any_at (λ (g : FeedReport). is_memory_end g.end || list_any (λ (y : Refused). is_memory y.cause) g.refused.items) r.feeds.items n f at_f
-    (or_right (is_memory_end f.end) _ (any_at (λ (y : Refused). is_memory y.cause) f.refused.items k x at is)))
+    or_right (writer_lacked_memory r.writer.end) _ (any_at (λ (g : FeedReport). feed_lacked_memory g.end || list_any (λ (y : Refused). is_memory y.cause) g.refused.items) r.feeds.items n f at_f
+    (or_right (feed_lacked_memory f.end) _ (any_at (λ (y : Refused). is_memory y.cause) f.refused.items k x at is)))
 
-message_passes : (r : Report) (n : ℕ) (f : FeedReport) (k : ℕ) (x : Refused) → At r.feeds.items n f → At f.refused.items k x → is_over x.cause ≡ true → passes_limit r ≡ true
+message_passes : (r : Report) (n : ℕ) (f : FeedReport) (k : ℕ) (x : Refused) → At r.feeds.items n f → At f.refused.items k x → is_over x.cause ≡ true → recording_passes_limit r ≡ true
 message_passes r n f k x at_f at is =
-    or_right (is_limit r.writer.end) _ (any_at (λ (g : FeedReport). list_any (λ (y : Refused). is_over y.cause) g.refused.items) r.feeds.items n f at_f
+    or_right (is_limit_end r.writer.end) _ (any_at (λ (g : FeedReport). list_any (λ (y : Refused). is_over y.cause) g.refused.items) r.feeds.items n f at_f
     (any_at (λ (y : Refused). is_over y.cause) f.refused.items k x at is))
 
 -- ---- full buffers
@@ -134,18 +134,18 @@ first_rose : (total now faults : ℕ) → total < 2 ^ 64 → now ≡ added total
 first_rose total now faults fits is some = omega (arith, fits, is, some)
 
 -- that of a source is among those of all
-fault_counts : (ks : List FeedKept) (n : ℕ) (s : SourceState) → At (back_sources ks) n s → 1 ≤ s.faults → 1 ≤ input_faults (map entry_of ks)
+fault_counts : (ks : List FeedKept) (n : ℕ) (s : SourceState) → At (back_sources ks) n s → 1 ≤ s.faults → 1 ≤ input_faults (map feed_entry ks)
 fault_counts [] n s at some = absurd (at_none n s at)
 fault_counts (k ∷ ks) zero s at some = let same = ap (λ (x : SourceState). x.faults) (same_Some k.back s at) in omega (arith, same, some)
 fault_counts (k ∷ ks) (suc n) s at some = let more = fault_counts ks n s at some in omega (arith, more)
 
-pub sources_write_nothing : (ks : List FeedKept) → output_faults (map entry_of ks) ≡ 0
+pub sources_write_nothing : (ks : List FeedKept) → output_faults (map feed_entry ks) ≡ 0
 sources_write_nothing [] = refl
 sources_write_nothing (k ∷ ks) = let more = sources_write_nothing ks in omega (arith, more)
 
 -- what stands in the way of recorded feeds: a count rose, memory lacked, or a limit would be passed
 abbrev Hindered : WorldState → WorldState → Report → Type 0
-Hindered old new r = Rose old.input_faults new.input_faults ⊎ (Rose old.output_faults new.output_faults ⊎ ((lacks_memory r ≡ true) ⊎ (passes_limit r ≡ true)))
+Hindered old new r = Rose old.input_faults new.input_faults ⊎ (Rose old.output_faults new.output_faults ⊎ ((lacks_memory r ≡ true) ⊎ (recording_passes_limit r ≡ true)))
 
 -- The sources of feeds were recorded into a store, and both were taken back.
 pub record Read (options : RecordOptions) (feeds : List (List ℕ)) (old new : WorldState) (r : Report) : Type 0 where
@@ -156,7 +156,7 @@ pub record Read (options : RecordOptions) (feeds : List (List ℕ)) (old new : W
   pub recorded : Recorded options (sides given live) (sides (back_sources kept_feeds) live_now) r
   pub tells : AllZip (TellsName old) feeds given
   pub unused : Each (λ (s : SourceState). s.faults ≡ 0) given
-  pub inputs : new.input_faults ≡ added old.input_faults (input_faults (map entry_of kept_feeds))
+  pub inputs : new.input_faults ≡ added old.input_faults (input_faults (map feed_entry kept_feeds))
   pub outputs : new.output_faults ≡ added old.output_faults live_now.faults
 
 pub read_of : (options : RecordOptions) (out : List ℕ) (feeds : List (List ℕ)) (old new : WorldState) (entries : List Opening) (r : Report) → Reported options out feeds old new entries r → CountsKept old new entries → Read options feeds old new r
@@ -170,20 +170,20 @@ read_of options out feeds old new entries r is kept = record {
   unused = is.unused;
   inputs =
       let all = kept.inputs ∙ ap (λ (es : List Opening). added old.input_faults (input_faults es)) is.kept_are in
-      omega (arith, all, input_faults-append (map entry_of is.kept_feeds) (live_entry out is.live_now is.live_kept ∷ []));
+      omega (arith, all, input_faults-append (map feed_entry is.kept_feeds) (live_entry out is.live_now is.live_kept ∷ []));
   outputs =
       let all = kept.outputs ∙ ap (λ (es : List Opening). added old.output_faults (output_faults es)) is.kept_are in
-      omega (arith, all, output_faults-append (map entry_of is.kept_feeds) (live_entry out is.live_now is.live_kept ∷ []), sources_write_nothing is.kept_feeds);
+      omega (arith, all, output_faults-append (map feed_entry is.kept_feeds) (live_entry out is.live_now is.live_kept ∷ []), sources_write_nothing is.kept_feeds);
 }
 
 module _ (options : RecordOptions) (feeds : List (List ℕ)) (old new : WorldState) (r : Report) (is : Read options feeds old new r) (inputs_fit : old.input_faults < 2 ^ 64) (outputs_fit : old.output_faults < 2 ^ 64) where
   -- a writer that stopped had a reason
   stopped_why : (stop : Stop) → r.writer.end ≡ ends.Stopped stop → Hindered old new r
   stopped_why (stops.Fault faults) stopped =
-      let why = subst (λ (e : End). WriterCause {X = Unit} is.live.faults is.live_now.faults (answer_of e)) stopped is.recorded.writer.cause in
+      let why = subst (λ (e : End). WriterCause {X = Unit} is.live.faults is.live_now.faults (end_answer e)) stopped is.recorded.writer.cause in
       inr (inl (first_rose old.output_faults new.output_faults is.live_now.faults outputs_fit is.outputs (omega (arith, why.0.once))))
-  stopped_why (stops.Limit blocks bytes) stopped = inr (inr (inr (or_left (is_limit r.writer.end) _ (ap is_limit stopped))))
-  stopped_why stops.Memory stopped = inr (inr (inl (or_left (is_memory_writer r.writer.end) _ (ap is_memory_writer stopped))))
+  stopped_why (stops.Limit blocks bytes) stopped = inr (inr (inr (or_left (is_limit_end r.writer.end) _ (ap is_limit_end stopped))))
+  stopped_why stops.Memory stopped = inr (inr (inl (or_left (writer_lacked_memory r.writer.end) _ (ap writer_lacked_memory stopped))))
 
   closed_or : (end : End) → r.writer.end ≡ end → (r.writer.end ≡ ends.Closed) ⊎ Hindered old new r
   closed_or ends.Closed same = inl same
@@ -236,7 +236,7 @@ module _ (options : RecordOptions) (feeds : List (List ℕ)) (old new : WorldSta
     fault_why faults failed =
         let stood = subst (λ (e : FeedEnd). FeedEnds f.before f.now f.reports.tops e) failed f.reports.ends in
         let some : 1 ≤ f.now.faults = omega (arith, stood.rises.once, is.unused n f.before before_at) in
-        inl (first_rose old.input_faults new.input_faults (input_faults (map entry_of is.kept_feeds)) inputs_fit is.inputs (fault_counts is.kept_feeds n f.now now_at some))
+        inl (first_rose old.input_faults new.input_faults (input_faults (map feed_entry is.kept_feeds)) inputs_fit is.inputs (fault_counts is.kept_feeds n f.now now_at some))
 
     memory_why : f.feed.end ≡ feed_ends.Refused refusals.Memory → Hindered old new r
     memory_why lacked = inr (inr (inl (feed_lacks r n f.feed report_at lacked)))
@@ -302,17 +302,17 @@ module _ (options : RecordOptions) (feeds : List (List ℕ)) (old new : WorldSta
       ap length is.recorded.are.reports_are ∙ map_long (λ (x : FeedRecorded). x.feed) is.recorded.feeds ∙ sym (map_long (λ (x : FeedRecorded). x.before) is.recorded.feeds) ∙ sym (ap length is.recorded.are.before_are)
       ∙ sym (zip_long (TellsName old) feeds is.given is.tells)
 
-  decided_all : (Hindered old new r → ⊥) → (told : Told) (halts : List Halt) → old.told ≡ Some told → AllZip (HaltsThere told) feeds halts → map (λ (g : FeedReport). end_status g.end) r.feeds.items ≡ map halt_status halts
+  decided_all : (Hindered old new r → ⊥) → (told : Told) (halts : List Halt) → old.told ≡ Some told → AllZip (FeedHalts told) feeds halts → map (λ (g : FeedReport). end_status g.end) r.feeds.items ≡ map halt_status halts
   decided_all free told halts here all =
       same_lists (map (λ (g : FeedReport). end_status g.end) r.feeds.items) (map halt_status halts)
-      (map_long (λ (g : FeedReport). end_status g.end) r.feeds.items ∙ as_many ∙ zip_long (HaltsThere told) feeds halts all ∙ sym (map_long halt_status halts))
+      (map_long (λ (g : FeedReport). end_status g.end) r.feeds.items ∙ as_many ∙ zip_long (FeedHalts told) feeds halts all ∙ sym (map_long halt_status halts))
       (λ n x y at_x at_y.
       let report = at_map (λ (g : FeedReport). end_status g.end) r.feeds.items n x at_x in
       let recorded = report_of n report.0 report.1 in
       let f = recorded.0 in
       let halt = at_map halt_status halts n y at_y in
-      let name = zip_left (HaltsThere told) feeds halts n halt.0 all halt.1 in
-      let there : HaltsThere told name.0 halt.0 = zip_at (HaltsThere told) feeds halts n name.0 halt.0 all name.1 halt.1 in
+      let name = zip_left (FeedHalts told) feeds halts n halt.0 all halt.1 in
+      let there : FeedHalts told name.0 halt.0 = zip_at (FeedHalts told) feeds halts n name.0 halt.0 all name.1 halt.1 in
       let tells : TellsName old name.0 f.before = zip_at (TellsName old) feeds is.given n name.0 f.before is.tells name.1 (before_at n f recorded.1) in
       let left : f.before.left ≡ Some there.bytes = (tells told here).0 ∙ there.there in
       let same : end_status f.feed.end ≡ halt_status halt.0 = elim (decided_or n f recorded.1 there.bytes there.tops halt.0 there.halts left) [ inl is_same ↦ is_same | inr why ↦ absurd (free why) ] in
@@ -321,12 +321,12 @@ module _ (options : RecordOptions) (feeds : List (List ℕ)) (old new : WorldSta
 -- ---- the status
 
 -- nothing stands in the way
-free_of : (old new : WorldState) (r : Report) → (Rose old.input_faults new.input_faults → ⊥) → (Rose old.output_faults new.output_faults → ⊥) → lacks_memory r ≡ false → passes_limit r ≡ false → Hindered old new r → ⊥
+free_of : (old new : WorldState) (r : Report) → (Rose old.input_faults new.input_faults → ⊥) → (Rose old.output_faults new.output_faults → ⊥) → lacks_memory r ≡ false → recording_passes_limit r ≡ false → Hindered old new r → ⊥
 free_of old new r no_inputs no_outputs enough within why = elim why [
   | inl inputs ↦ no_inputs inputs
   | inr (inl outputs) ↦ no_outputs outputs
   | inr (inr (inl lacks)) ↦ both_ways (lacks_memory r) enough lacks
-  | inr (inr (inr passes)) ↦ both_ways (passes_limit r) within passes
+  | inr (inr (inr passes)) ↦ both_ways (recording_passes_limit r) within passes
 ]
 
 pub limit_kept : (limited : Bool) (number answer : ℕ) → answer ≡ (if limited then 4 else number) → answer ≡ 0 → limited ≡ false
@@ -371,28 +371,28 @@ none_worse reports n f is at =
 
 -- the bytes decide the ends of the feeds, unless a count rises, memory lacks, or a limit would be passed
 pub ends_decided : (options : RecordOptions) (feeds : List (List ℕ)) (old new : WorldState) (r : Report) → Read options feeds old new r → old.input_faults < 2 ^ 64 → old.output_faults < 2 ^ 64
-    → (Rose old.input_faults new.input_faults → ⊥) → (Rose old.output_faults new.output_faults → ⊥) → lacks_memory r ≡ false → passes_limit r ≡ false
-    → (told : Told) (halts : List Halt) → old.told ≡ Some told → AllZip (HaltsThere told) feeds halts → map (λ (g : FeedReport). end_status g.end) r.feeds.items ≡ map halt_status halts
+    → (Rose old.input_faults new.input_faults → ⊥) → (Rose old.output_faults new.output_faults → ⊥) → lacks_memory r ≡ false → recording_passes_limit r ≡ false
+    → (told : Told) (halts : List Halt) → old.told ≡ Some told → AllZip (FeedHalts told) feeds halts → map (λ (g : FeedReport). end_status g.end) r.feeds.items ≡ map halt_status halts
 ends_decided options feeds old new r is inputs_fit outputs_fit no_inputs no_outputs enough within told halts here all =
     decided_all options feeds old new r is inputs_fit outputs_fit (free_of old new r no_inputs no_outputs enough within) told halts here all
 
 -- so they decide the status
 pub decided : (options : RecordOptions) (out : List ℕ) (feeds : List (List ℕ)) (old new : Scene) (report : Option Report) (lacked : Bool) (entries : List Opening) (answer : ℕ) → old.world.input_faults < 2 ^ 64 → old.world.output_faults < 2 ^ 64 → CountsKept old.world new.world entries
-    → ((r : Report) → report ≡ Some r → Reported options out feeds old.world new.world entries r) → LackIsTold (counts_in old) (counts_in new) report lacked → EndsWith (counts_in old) (counts_in new) report lacked answer
-    → (told : Told) (halts : List Halt) → old.world.told ≡ Some told → AllZip (HaltsThere told) feeds halts
-    → (AnyRose (counts_in old) (counts_in new) → ⊥) → lacked ≡ false → limit_passed report ≡ false → answer ≡ worst (map halt_status halts)
+    → ((r : Report) → report ≡ Some r → Reported options out feeds old.world new.world entries r) → LackIsTold (counts_in old) (counts_in new) report lacked → StatusFollows (counts_in old) (counts_in new) report lacked answer
+    → (told : Told) (halts : List Halt) → old.world.told ≡ Some told → AllZip (FeedHalts told) feeds halts
+    → (AnyRose (counts_in old) (counts_in new) → ⊥) → lacked ≡ false → limit_was_passed report ≡ false → answer ≡ worst (map halt_status halts)
 decided options out feeds old new None lacked entries answer inputs_fit outputs_fit kept reported lacking came told halts here all quiet enough within = absurd (both_ways lacked enough (lacking.0 quiet))
 decided options out feeds old new (Some r) lacked entries answer inputs_fit outputs_fit kept reported lacking came told halts here all quiet enough within =
     let is = read_of options out feeds old.world new.world entries r (reported r refl) kept in
     let status = came.calm enough quiet r refl in
     let ends = ends_decided options feeds old.world new.world r is inputs_fit outputs_fit (λ rose. quiet (inr (inl rose))) (λ rose. quiet (inr (inr (inl rose)))) (sym lacking ∙ enough) within told halts here all in
-    unlimited (passes_limit r) (ends_status r) answer status within ∙ ap worst ends
+    unlimited (recording_passes_limit r) (ends_status r) answer status within ∙ ap worst ends
 
 -- with the status 0 memory was enough, and no count rose
-enough_memory : (before now : Counts) (report : Option Report) (lacked : Bool) (answer : ℕ) → EndsWith before now report lacked answer → answer ≡ 0 → lacked ≡ false
+enough_memory : (before now : Counts) (report : Option Report) (lacked : Bool) (answer : ℕ) → StatusFollows before now report lacked answer → answer ≡ 0 → lacked ≡ false
 enough_memory before now report lacked answer came is = false_from_ne_true lacked (λ lacks. let five = came.memory lacks in omega (arith, five, is))
 
-pub calm : (before now : Counts) (report : Option Report) (lacked : Bool) (answer : ℕ) → EndsWith before now report lacked answer → answer ≡ 0 → AnyRose before now → ⊥
+pub calm : (before now : Counts) (report : Option Report) (lacked : Bool) (answer : ℕ) → StatusFollows before now report lacked answer → answer ≡ 0 → AnyRose before now → ⊥
 calm before now report lacked answer came is risen =
     let three = came.rose (enough_memory before now report lacked answer came is) risen in
     omega (arith, three, is)
@@ -404,7 +404,7 @@ none_there (x ∷ xs) none = absurd (none 0 x refl)
 
 -- all of the feeds was recorded where no count rose, memory was enough, no limit would be passed, and no end is a trouble
 pub all_recorded : (options : RecordOptions) (feeds : List (List ℕ)) (old new : WorldState) (r : Report) → Read options feeds old new r → old.input_faults < 2 ^ 64 → old.output_faults < 2 ^ 64
-    → (Rose old.input_faults new.input_faults → ⊥) → (Rose old.output_faults new.output_faults → ⊥) → lacks_memory r ≡ false → passes_limit r ≡ false → ends_status r ≡ 0 → RecordsAll options r
+    → (Rose old.input_faults new.input_faults → ⊥) → (Rose old.output_faults new.output_faults → ⊥) → lacks_memory r ≡ false → recording_passes_limit r ≡ false → ends_status r ≡ 0 → RecordsAll options r
 all_recorded options feeds old new r is inputs_fit outputs_fit no_inputs no_outputs enough within none =
     let free = free_of old new r no_inputs no_outputs enough within in
     record {
@@ -425,7 +425,7 @@ all_recorded options feeds old new r is inputs_fit outputs_fit no_inputs no_outp
 
 -- the status 0 says that
 pub whole : (options : RecordOptions) (out : List ℕ) (feeds : List (List ℕ)) (old new : Scene) (report : Option Report) (lacked : Bool) (entries : List Opening) (answer : ℕ) → old.world.input_faults < 2 ^ 64 → old.world.output_faults < 2 ^ 64 → CountsKept old.world new.world entries
-    → ((r : Report) → report ≡ Some r → Reported options out feeds old.world new.world entries r) → LackIsTold (counts_in old) (counts_in new) report lacked → EndsWith (counts_in old) (counts_in new) report lacked answer
+    → ((r : Report) → report ≡ Some r → Reported options out feeds old.world new.world entries r) → LackIsTold (counts_in old) (counts_in new) report lacked → StatusFollows (counts_in old) (counts_in new) report lacked answer
     → answer ≡ 0 → (r : Report) × (report ≡ Some r) × RecordsAll options r
 whole options out feeds old new None lacked entries answer inputs_fit outputs_fit kept reported lacking came zero_is =
     let enough = enough_memory (counts_in old) (counts_in new) None lacked answer came zero_is in
@@ -434,9 +434,9 @@ whole options out feeds old new (Some r) lacked entries answer inputs_fit output
     let is = read_of options out feeds old.world new.world entries r (reported r refl) kept in
     let enough = enough_memory (counts_in old) (counts_in new) (Some r) lacked answer came zero_is in
     let quiet = calm (counts_in old) (counts_in new) (Some r) lacked answer came zero_is in
-    let status : answer ≡ (if passes_limit r then 4 else ends_status r) = came.calm enough quiet r refl in
-    let within = limit_kept (passes_limit r) (ends_status r) answer status zero_is in (
+    let status : answer ≡ (if recording_passes_limit r then 4 else ends_status r) = came.calm enough quiet r refl in
+    let within = limit_kept (recording_passes_limit r) (ends_status r) answer status zero_is in (
       r,
       refl,
-      all_recorded options feeds old.world new.world r is inputs_fit outputs_fit (λ rose. quiet (inr (inl rose))) (λ rose. quiet (inr (inr (inl rose)))) (sym lacking ∙ enough) within (unlimited_status (passes_limit r) (ends_status r) answer status zero_is),
+      all_recorded options feeds old.world new.world r is inputs_fit outputs_fit (λ rose. quiet (inr (inl rose))) (λ rose. quiet (inr (inr (inl rose)))) (sym lacking ∙ enough) within (unlimited_status (recording_passes_limit r) (ends_status r) answer status zero_is),
     )

@@ -35,8 +35,8 @@ use Rattle.record_command.specs.ReportTexts.{printed}
 use Rattle.command_base.specs.Ran.{Scene, counts_in, AnyRose, Files, wanted, kept, AreOpened, Leaves, input_faults, output_faults, CountsKept, has_failed, failed_names, blamed_names, when, Findings, Failed, Ran}
 
 -- the names of a recording
-abbrev pub files_of : List ℕ → List (List ℕ) → Files
-files_of out feeds = record { kind = kinds.Source; inputs = feeds; outputs = out ∷ [] }
+abbrev pub feeds_and_output : List ℕ → List (List ℕ) → Files
+feeds_and_output out feeds = record { kind = kinds.Source; inputs = feeds; outputs = out ∷ [] }
 
 -- the options of a recording are in their ranges: a buffer of 1 byte to 1 GiB, chunks of 1 byte to 64 MiB, and a profile of at
 -- most 65,535 bytes
@@ -68,14 +68,14 @@ pub record FeedKept : Type 0 where
   pub well : Bool
 
 -- its entry
-abbrev pub entry_of : FeedKept → Opening
-entry_of f = kept kinds.Source f.name (record { well = f.well; faults = f.back.faults; left = f.back.left; asked = 0 })
+abbrev pub feed_entry : FeedKept → Opening
+feed_entry f = kept kinds.Source f.name (record { well = f.well; faults = f.back.faults; left = f.back.left; asked = 0 })
 
 abbrev pub live_entry : List ℕ → LiveState → Bool → Opening
 live_entry out live well = kept kinds.Live out (record { well = well; faults = live.faults; left = None; asked = 0 })
 
-abbrev pub names_kept : List FeedKept → List (List ℕ)
-names_kept feeds = map (λ (f : FeedKept). f.name) feeds
+abbrev pub feed_names_kept : List FeedKept → List (List ℕ)
+feed_names_kept feeds = map (λ (f : FeedKept). f.name) feeds
 
 abbrev pub back_sources : List FeedKept → List SourceState
 back_sources feeds = map (λ (f : FeedKept). f.back) feeds
@@ -85,7 +85,7 @@ pub record Reported (options : RecordOptions) (out : List ℕ) (feeds : List (Li
   -- as the world gave them and as it took them back, in the order of the words, and whether that went well
   pub given : List SourceState
   pub kept_feeds : List FeedKept
-  pub names_are : feeds ≡ names_kept kept_feeds
+  pub names_are : feeds ≡ feed_names_kept kept_feeds
   pub live : LiveState
   pub live_now : LiveState
   pub live_kept : Bool
@@ -98,19 +98,19 @@ pub record Reported (options : RecordOptions) (out : List ℕ) (feeds : List (Li
   -- and then the output's name holds the file of that history
   pub file : (told now : Told) → old.told ≡ Some told → new.told ≡ Some now
       → OutputHolds options.file recorded.history r.writer live_kept (told.names out) (now.names out)
-  pub kept_are : entries ≡ map entry_of kept_feeds ++ live_entry out live_now live_kept ∷ []
+  pub kept_are : entries ≡ map feed_entry kept_feeds ++ live_entry out live_now live_kept ∷ []
 
 -- ---- without a report
 
 -- what a feed that was kept has left is what stands under its name
-abbrev pub IsLeft : Told → Opening → Type 0
-IsLeft told entry = (feed : List ℕ) (keeping : Keeping) → entry ≡ kept kinds.Source feed keeping → keeping.left ≡ told.names feed
+abbrev pub LeftUnderName : Told → Opening → Type 0
+LeftUnderName told entry = (feed : List ℕ) (keeping : Keeping) → entry ≡ kept kinds.Source feed keeping → keeping.left ≡ told.names feed
 
 -- Nothing was read from the feeds and nothing written: the output's name holds what it held, or nothing.
 pub record Unreported (out : List ℕ) (old new : WorldState) (entries : List Opening) : Type 0 where
   pub inputs : input_faults entries ≡ 0
   pub outputs : output_faults entries ≡ 0
-  pub left : (told : Told) → old.told ≡ Some told → Each (IsLeft told) entries
+  pub left : (told : Told) → old.told ≡ Some told → Each (LeftUnderName told) entries
   pub file : (told now : Told) → old.told ≡ Some told → new.told ≡ Some now → (now.names out ≡ told.names out) ⊎ (now.names out ≡ Some [])
 
 -- where one of the feeds isn't there, the output's name holds what it held
@@ -155,41 +155,41 @@ ends_of [] reports = []
 ends_of (feed ∷ feeds) [] = []
 ends_of (feed ∷ feeds) (report ∷ reports) = end_troubles feed report.end ∷ ends_of feeds reports
 
-abbrev pub is_limit : End → Bool
-is_limit ends.Closed = false
-is_limit (ends.Stopped (stops.Fault faults)) = false
-is_limit (ends.Stopped (stops.Limit blocks bytes)) = true
-is_limit (ends.Stopped stops.Memory) = false
+abbrev pub is_limit_end : End → Bool
+is_limit_end ends.Closed = false
+is_limit_end (ends.Stopped (stops.Fault faults)) = false
+is_limit_end (ends.Stopped (stops.Limit blocks bytes)) = true
+is_limit_end (ends.Stopped stops.Memory) = false
 
 -- the file or a message would pass a limit
-abbrev pub passes_limit : Report → Bool
-passes_limit r = is_limit r.writer.end || list_any (λ f. list_any (λ x. is_over x.cause) f.refused.items) r.feeds.items
+abbrev pub recording_passes_limit : Report → Bool
+recording_passes_limit r = is_limit_end r.writer.end || list_any (λ f. list_any (λ x. is_over x.cause) f.refused.items) r.feeds.items
 
 -- memory lacked for a feed, for the file, or for a message
-abbrev pub is_memory_end : FeedEnd → Bool
-is_memory_end feed_ends.Done = false
-is_memory_end (feed_ends.Refused why) = is_lack (refusal_ending [] why)
-is_memory_end feed_ends.Ended = false
+abbrev pub feed_lacked_memory : FeedEnd → Bool
+feed_lacked_memory feed_ends.Done = false
+feed_lacked_memory (feed_ends.Refused why) = is_lack (refusal_ending [] why)
+feed_lacked_memory feed_ends.Ended = false
 
-abbrev pub is_memory_writer : End → Bool
-is_memory_writer ends.Closed = false
-is_memory_writer (ends.Stopped stop) = is_memory_stop stop
+abbrev pub writer_lacked_memory : End → Bool
+writer_lacked_memory ends.Closed = false
+writer_lacked_memory (ends.Stopped stop) = is_memory_stop stop
 
 abbrev pub lacks_memory : Report → Bool
-lacks_memory r = is_memory_writer r.writer.end || list_any (λ f. is_memory_end f.end || list_any (λ x. is_memory x.cause) f.refused.items) r.feeds.items
+lacks_memory r = writer_lacked_memory r.writer.end || list_any (λ f. feed_lacked_memory f.end || list_any (λ x. is_memory x.cause) f.refused.items) r.feeds.items
 
 -- the same where there may be no report
 abbrev pub reports_in : Option Report → List FeedReport
 reports_in None = []
 reports_in (Some r) = r.feeds.items
 
-abbrev pub limit_passed : Option Report → Bool
-limit_passed None = false
-limit_passed (Some r) = passes_limit r
+abbrev pub limit_was_passed : Option Report → Bool
+limit_was_passed None = false
+limit_was_passed (Some r) = recording_passes_limit r
 
 -- what there is to tell of besides faults
-abbrev pub findings_of : List ℕ → List (List ℕ) → Option Report → Bool → Findings
-findings_of out feeds report lacked = record { halts = ends_of feeds (reports_in report); limits = when (limit_passed report) (output_limit out); lacked = lacked }
+abbrev pub recording_findings : List ℕ → List (List ℕ) → Option Report → Bool → Findings
+recording_findings out feeds report lacked = record { halts = ends_of feeds (reports_in report); limits = when (limit_was_passed report) (output_limit out); lacked = lacked }
 
 -- memory lacked exactly where the report names that; or it isn't there though no count rose
 abbrev pub LackIsTold : Counts → Counts → Option Report → Bool → Type 0
@@ -197,21 +197,21 @@ LackIsTold before now None lacked = (AnyRose before now → ⊥) ↔ (lacked ≡
 LackIsTold before now (Some r) lacked = lacked ≡ lacks_memory r
 
 -- one of the answers is that it failed
-abbrev pub some_failed : List Bool → Bool
-some_failed failed = list_any (λ (b : Bool). b) failed
+abbrev pub any_failed : List Bool → Bool
+any_failed failed = list_any (λ (b : Bool). b) failed
 
 -- Which of the feeds are blamed, in their order, and whether the output is, as the counts tell: each with its cause, and none
 -- is left out.
-pub record Causes (before now : Counts) (feeds : List Bool) (out : Bool) : Type 0 where
-  pub feed_cause : some_failed feeds ≡ true → Rose before.world now.world ⊎ Rose before.inputs now.inputs
+pub record FeedCauses (before now : Counts) (feeds : List Bool) (out : Bool) : Type 0 where
+  pub feed_cause : any_failed feeds ≡ true → Rose before.world now.world ⊎ Rose before.inputs now.inputs
   pub out_cause : out ≡ true → Rose before.world now.world ⊎ Rose before.outputs now.outputs
-  pub inputs_told : Rose before.inputs now.inputs → some_failed feeds ≡ true
+  pub inputs_told : Rose before.inputs now.inputs → any_failed feeds ≡ true
   pub outputs_told : Rose before.outputs now.outputs → out ≡ true
-  pub world_told : Rose before.world now.world → (some_failed feeds ≡ true) ⊎ (out ≡ true)
+  pub world_told : Rose before.world now.world → (any_failed feeds ≡ true) ⊎ (out ≡ true)
 
 -- the names that are blamed
-abbrev pub failed_of : List Bool → Bool → Failed
-failed_of feeds out = record { inputs = feeds; outputs = out ∷ [] }
+abbrev pub failed_feeds : List Bool → Bool → Failed
+failed_feeds feeds out = record { inputs = feeds; outputs = out ∷ [] }
 
 -- ---- the status
 
@@ -223,11 +223,11 @@ abbrev pub ends_status : Report → ℕ
 ends_status r = worst (map (λ (f : FeedReport). end_status f.end) r.feeds.items)
 
 -- 5 where memory lacked; else 3 where a count rose; else 4 where a limit would be passed; else that of the feeds' ends
-pub record EndsWith (before now : Counts) (report : Option Report) (lacked : Bool) (status : ℕ) : Type 0 where
+pub record StatusFollows (before now : Counts) (report : Option Report) (lacked : Bool) (status : ℕ) : Type 0 where
   pub memory : lacked ≡ true → status ≡ 5
   pub rose : lacked ≡ false → AnyRose before now → status ≡ 3
   pub calm : lacked ≡ false → (AnyRose before now → ⊥) → (r : Report) → report ≡ Some r
-      → status ≡ (if passes_limit r then 4 else ends_status r)
+      → status ≡ (if recording_passes_limit r then 4 else ends_status r)
 
 -- the buffer stood at its limit
 abbrev pub is_full : Cause → Bool
@@ -253,7 +253,7 @@ pub record RecordsAll (options : RecordOptions) (r : Report) : Type 0 where
   pub closed : r.writer.end ≡ ends.Closed
 
 -- the bytes of a feed halt so
-pub record HaltsThere (told : Told) (feed : List ℕ) (halt : Halt) : Type 0 where
+pub record FeedHalts (told : Told) (feed : List ℕ) (halt : Halt) : Type 0 where
   pub bytes : List ℕ
   pub there : told.names feed ≡ Some bytes
   pub tops : List Top
@@ -272,17 +272,17 @@ pub record Records (options : RecordOptions) (out : List ℕ) (feeds : List (Lis
   -- these names are opened; both outputs are told of the report, of its troubles, and of which part failed
   pub lacked : Bool
   pub lacks : LackIsTold (counts_in old) (counts_in new) report lacked
-  pub ran : Ran (files_of out feeds) old new entries (report_text report) (findings_of out feeds report lacked) status
+  pub ran : Ran (feeds_and_output out feeds) old new entries (report_text report) (recording_findings out feeds report lacked) status
   pub feeds_blamed : List Bool
   pub out_blamed : Bool
-  pub failed_are : ran.failed ≡ failed_of feeds_blamed out_blamed
-  pub causes : Causes (counts_in old) (counts_in new) feeds_blamed out_blamed
+  pub failed_are : ran.failed ≡ failed_feeds feeds_blamed out_blamed
+  pub causes : FeedCauses (counts_in old) (counts_in new) feeds_blamed out_blamed
   -- the status says what became of it
-  pub ended : EndsWith (counts_in old) (counts_in new) report lacked status
+  pub ended : StatusFollows (counts_in old) (counts_in new) report lacked status
   -- where the world tells, the bytes under the feeds' names decide the status, unless a count rises, memory lacks, or a limit
   -- would be passed
-  pub decided : (told : Told) (halts : List Halt) → old.world.told ≡ Some told → AllZip (HaltsThere told) feeds halts
-      → (AnyRose (counts_in old) (counts_in new) → ⊥) → lacked ≡ false → limit_passed report ≡ false → status ≡ worst (map halt_status halts)
+  pub decided : (told : Told) (halts : List Halt) → old.world.told ≡ Some told → AllZip (FeedHalts told) feeds halts
+      → (AnyRose (counts_in old) (counts_in new) → ⊥) → lacked ≡ false → limit_was_passed report ≡ false → status ≡ worst (map halt_status halts)
   -- the status 0 says that all of the feeds was recorded
   pub whole : status ≡ 0 → (r : Report) × (report ≡ Some r) × RecordsAll options r
 
@@ -290,7 +290,7 @@ pub record Records (options : RecordOptions) (out : List ℕ) (feeds : List (Lis
 
 pub record NamesRecorded (options : RecordOptions) (out : List ℕ) (feeds : List (List ℕ)) (old new : WorldState) (outcome : Outcome) : Type 0 where
   pub entries : List Opening
-  pub opened : AreOpened (wanted (files_of out feeds)) entries
+  pub opened : AreOpened (wanted (feeds_and_output out feeds)) entries
   pub leaves : Leaves old new entries
   pub counts : CountsKept old new entries
   pub reported : (r : Report) → outcome.report ≡ Some r → Reported options out feeds old new entries r
@@ -305,4 +305,4 @@ pub record NamesRecorded (options : RecordOptions) (out : List ℕ) (feeds : Lis
   pub stores : Each (λ (entry : Opening). entry.kind ≡ kinds.Live) outputs
   pub feeds_failed : outcome.feeds_failed.items ≡ map has_failed inputs
   pub out_failed : outcome.out_failed ≡ list_any has_failed outputs
-  pub failed : failed_names entries ≡ blamed_names (files_of out feeds) (failed_of outcome.feeds_failed.items outcome.out_failed)
+  pub failed : failed_names entries ≡ blamed_names (feeds_and_output out feeds) (failed_feeds outcome.feeds_failed.items outcome.out_failed)

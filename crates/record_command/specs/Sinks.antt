@@ -8,7 +8,7 @@ use Rattle.mcap_io.specs.declared.outside.ObjectKind.TheVariants as kinds
 use Rattle.mcap_io.specs.declared.outside.OpenRefused.{OpenRefused}
 use Rattle.mcap_model.specs.Places.{At, Has, Each}
 use Rattle.command_base.specs.Ran.{kept, has_failed, failed_so, world_faults, object_faults}
-use Rattle.record_command.specs.Sources.{with_openings, FeedsOpened}
+use Rattle.record_command.specs.Sources.{with_feed_openings, FeedsOpened}
 
 -- a watcher's sink as the world took it back, and whether that went well
 pub record SinkKept : Type 0 where
@@ -81,7 +81,7 @@ NoSinkOut entries = (name : List ℕ) → NoneIsOut kinds.Sink name entries
 
 -- All sinks were given, in the order of their names, and this is seen of them.
 pub record SinksOpened (old new : WorldState) (names : List (List ℕ)) (sinks : List SinkState) : Type 0 where
-  pub told : (told : Told) → old.told ≡ Some told → new.told ≡ Some (with_openings told (map given_sink names))
+  pub told : (told : Told) → old.told ≡ Some told → new.told ≡ Some (with_feed_openings told (map given_sink names))
   pub stands : CountsStand old new
   pub still : new.faults ≡ old.faults
   pub many : length sinks ≡ length names

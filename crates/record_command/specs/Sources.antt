@@ -6,22 +6,22 @@ use Rattle.mcap_io.specs.declared.outside.ObjectKind.TheVariants as kinds
 use Rattle.mcap_io.specs.declared.outside.OpenRefused.{OpenRefused}
 use Rattle.mcap_model.specs.Places.{At, Each}
 use Rattle.command_base.specs.Ran.{has_failed, failed_so, input_faults, world_faults}
-use Rattle.record_command.specs.Record.{FeedKept, entry_of, names_kept, back_sources}
+use Rattle.record_command.specs.Record.{FeedKept, feed_entry, feed_names_kept, back_sources}
 
 -- what a world notes of a source that is taken back
 abbrev pub source_keeping : SourceState → Bool → Keeping
 source_keeping source well = record { well = well; faults = source.faults; left = source.left; asked = 0 }
 
-abbrev pub given : List ℕ → Opening
-given feed = opened kinds.Source feed true
+abbrev pub feed_given : List ℕ → Opening
+feed_given feed = opened kinds.Source feed true
 
 -- the names, and the log with these openings behind
-abbrev pub with_openings : Told → List Opening → Told
-with_openings told entries = record { names = told.names; log = told.log ++ entries }
+abbrev pub with_feed_openings : Told → List Opening → Told
+with_feed_openings told entries = record { names = told.names; log = told.log ++ entries }
 
 -- All were given, in their order, and this is seen of their sources.
 pub record FeedsOpened (old new : WorldState) (feeds : List (List ℕ)) (sources : List SourceState) : Type 0 where
-  pub told : (told : Told) → old.told ≡ Some told → new.told ≡ Some (with_openings told (map given feeds))
+  pub told : (told : Told) → old.told ≡ Some told → new.told ≡ Some (with_feed_openings told (map feed_given feeds))
   pub stands : CountsStand old new
   pub still : new.faults ≡ old.faults
   pub tells : AllZip (TellsName old) feeds sources
@@ -38,7 +38,7 @@ pub record FeedRefused (old new : WorldState) (feeds : List (List ℕ)) (sources
   pub cause : OpenCause {T = Unit} between.faults new.faults (Err why)
 
 -- A source was taken back under a feed's name; that went well, or not, and the feed failed, or not.
-pub record OneKept (old new : WorldState) (feed : List ℕ) (source : SourceState) (failed : Bool) : Type 0 where
+pub record SourceKept (old new : WorldState) (feed : List ℕ) (source : SourceState) (failed : Bool) : Type 0 where
   pub well : Bool
   pub keeps : (told : Told) → old.told ≡ Some told → (now : Told) × (new.told ≡ Some now) × (now.names ≡ told.names)
       × Notes told.log now.log kinds.Source feed (source_keeping source well)
@@ -56,17 +56,17 @@ NoSourceOut entries = (name : List ℕ) → NoneIsOut kinds.Source name entries
 -- entries say how. These failed.
 pub record FeedsKept (old new : WorldState) (feeds : List (List ℕ)) (sources : List SourceState) (failed : List Bool) : Type 0 where
   pub kept : List FeedKept
-  pub names_are : feeds ≡ names_kept kept
+  pub names_are : feeds ≡ feed_names_kept kept
   pub sources_are : sources ≡ back_sources kept
-  pub told : (told : Told) (log behind : List Opening) → old.told ≡ Some told → told.log ≡ log ++ (map given feeds ++ behind) → NoSourceOut behind
-      → (now : Told) × (new.told ≡ Some now) × (now.names ≡ told.names) × (now.log ≡ log ++ (map entry_of kept ++ behind))
-  pub world : old.faults < 2 ^ 64 → new.faults ≡ added old.faults (world_faults (map entry_of kept))
-  pub inputs : old.input_faults < 2 ^ 64 → new.input_faults ≡ added old.input_faults (input_faults (map entry_of kept))
+  pub told : (told : Told) (log behind : List Opening) → old.told ≡ Some told → told.log ≡ log ++ (map feed_given feeds ++ behind) → NoSourceOut behind
+      → (now : Told) × (new.told ≡ Some now) × (now.names ≡ told.names) × (now.log ≡ log ++ (map feed_entry kept ++ behind))
+  pub world : old.faults < 2 ^ 64 → new.faults ≡ added old.faults (world_faults (map feed_entry kept))
+  pub inputs : old.input_faults < 2 ^ 64 → new.input_faults ≡ added old.input_faults (input_faults (map feed_entry kept))
   pub outputs : new.output_faults ≡ old.output_faults
   pub watches : new.watch_faults ≡ old.watch_faults
-  pub failed_are : failed ≡ map (λ (k : FeedKept). has_failed (entry_of k)) kept
+  pub failed_are : failed ≡ map (λ (k : FeedKept). has_failed (feed_entry k)) kept
 
 -- which feeds failed, with the one that was refused
-abbrev pub flags_with : List Bool → Bool → List Bool
-flags_with flags true = flags ++ true ∷ []
-flags_with flags false = flags
+abbrev pub feed_flags_with : List Bool → Bool → List Bool
+feed_flags_with flags true = flags ++ true ∷ []
+feed_flags_with flags false = flags

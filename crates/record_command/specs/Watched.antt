@@ -17,7 +17,7 @@ use Rattle.watched_recording.specs.Watched.{Watch, IsWatched, AsksViews}
 use Rattle.watched_recording.specs.Files.{IsWatchedFile}
 use Rattle.command_base.specs.Ran.{Wanted, wanted, AreOpened, CountsKept, has_failed, failed_names, blamed_names}
 use Rattle.record_command.specs.declared.watched_names.WatchedOutcome.{WatchedOutcome}
-use Rattle.record_command.specs.Record.{files_of, failed_of, some_failed, FeedKept, entry_of, live_entry, names_kept, back_sources, OutputHolds, Unreported, SparesOutput}
+use Rattle.record_command.specs.Record.{feeds_and_output, failed_feeds, any_failed, FeedKept, feed_entry, live_entry, feed_names_kept, back_sources, OutputHolds, Unreported, SparesOutput}
 use Rattle.record_command.specs.Sinks.{SinkKept, sink_entry, sink_names, back_sinks, watch_faults, SinkHolds}
 
 -- ---- what is asked, and what is reported
@@ -53,7 +53,7 @@ reported_with report sealed watches = record { report = report; sealed = sealed;
 
 -- the feeds, then the output, and then the watch files
 abbrev pub wanted_names : List ℕ → List (List ℕ) → List (List ℕ) → List Wanted
-wanted_names out watches feeds = wanted (files_of out feeds) ++ map (λ (name : List ℕ). (kinds.Sink, name)) watches
+wanted_names out watches feeds = wanted (feeds_and_output out feeds) ++ map (λ (name : List ℕ). (kinds.Sink, name)) watches
 
 -- a live store or a sink was given under that name
 pub record IsWrittenBeside (entries : List Opening) (name : List ℕ) : Type 0 where
@@ -150,7 +150,7 @@ pub record ReportedBeside (request : Requested) (old new : WorldState) (entries 
   -- as the world gave them and as it took them back, in the order of the words, and whether that went well
   pub given : List SourceState
   pub kept_feeds : List FeedKept
-  pub names_are : request.names.feeds ≡ names_kept kept_feeds
+  pub names_are : request.names.feeds ≡ feed_names_kept kept_feeds
   pub live : LiveState
   -- as it was when it had been asked for the watchers' views
   pub viewed : LiveState
@@ -186,7 +186,7 @@ pub record ReportedBeside (request : Requested) (old new : WorldState) (entries 
   -- there no watcher finds a flaw; and where it wasn't sealed, each wrote the same of blocks of its own
   pub unflawed : (told : Told) → old.told ≡ Some told → did.sealed ≡ true → Each (λ (w : Watch). is_flaw w.report.end ≡ false) seen
   pub texts_alone : did.sealed ≡ false → Each (IsWatchedAlone request.range) seen
-  pub kept_are : entries ≡ map entry_of kept_feeds ++ live_entry request.names.out live_now live_kept ∷ map sink_entry kept_sinks
+  pub kept_are : entries ≡ map feed_entry kept_feeds ++ live_entry request.names.out live_now live_kept ∷ map sink_entry kept_sinks
 
 -- ---- without a report
 
@@ -227,8 +227,8 @@ pub record NamesWatched (request : Requested) (old new : WorldState) (outcome : 
   pub feeds_failed : outcome.feeds_failed.items ≡ map has_failed inputs
   pub out_failed : outcome.out_failed ≡ list_any has_failed outputs
   pub watches_failed : outcome.watches_failed.items ≡ watch_flags sinks outcome.watches.items
-  pub failed : failed_names (inputs ++ outputs) ≡ blamed_names (files_of request.names.out request.names.feeds) (failed_of outcome.feeds_failed.items outcome.out_failed)
+  pub failed : failed_names (inputs ++ outputs) ≡ blamed_names (feeds_and_output request.names.out request.names.feeds) (failed_feeds outcome.feeds_failed.items outcome.out_failed)
   -- a watch file is blamed only with a cause, and one is where its count rose
-  pub watch_cause : some_failed outcome.watches_failed.items ≡ true
+  pub watch_cause : any_failed outcome.watches_failed.items ≡ true
       → Rose old.faults new.faults ⊎ (Rose old.output_faults new.output_faults ⊎ Rose old.watch_faults new.watch_faults)
-  pub watch_told : old.watch_faults < 2 ^ 64 - 1 → Rose old.watch_faults new.watch_faults → some_failed outcome.watches_failed.items ≡ true
+  pub watch_told : old.watch_faults < 2 ^ 64 - 1 → Rose old.watch_faults new.watch_faults → any_failed outcome.watches_failed.items ≡ true

@@ -13,19 +13,19 @@ use Rattle.watching.specs.declared.report.WatchEnd.TheVariants as watch_ends
 use Rattle.watching.specs.declared.report.WatchReport.{WatchReport}
 use Rattle.command_base.specs.Printing.{Takes}
 use Rattle.command_base.specs.Texts.{Trouble, fault, output_fault, output_limit, flaw, no_memory, halt_status}
-use Rattle.command_base.specs.Ran.{Scene, counts, AnyRose, CountsOn, AreOpened, has_failed, BlamesOutput, when, told_of, Complains}
+use Rattle.command_base.specs.Ran.{Scene, counted_faults, AnyRose, CountsOn, AreOpened, has_failed, BlamesOutput, when, told_of, Complains}
 use Rattle.record_command.specs.declared.watched_names.WatchedOutcome.{WatchedOutcome}
 use Rattle.record_command.specs.declared.watched_answer.WatchedCounts.{WatchedCounts}
 use Rattle.record_command.specs.declared.watched_answer.WatchedFailures.{WatchedFailures}
-use Rattle.record_command.specs.Record.{ends_of, reports_in, limit_passed, passes_limit, lacks_memory, some_failed, end_status, worst, report_text, RecordsAll, HaltsThere, SparesOutput}
-use Rattle.record_command.specs.Answer.{flags_of, PartFailed}
+use Rattle.record_command.specs.Record.{ends_of, reports_in, limit_was_passed, recording_passes_limit, lacks_memory, any_failed, end_status, worst, report_text, RecordsAll, FeedHalts, SparesOutput}
+use Rattle.record_command.specs.Answer.{feed_flags, PartFailed}
 use Rattle.record_command.specs.Watched.{Named, Requested, reported_with, wanted_names, LeavesBeside, CountsBeside, is_flaw, ReportedBeside, UnreportedBeside, watch_flags}
 
 -- ---- counts of faults
 
 -- the counts that every command has, and that of the watchers' sinks and views
 abbrev pub watched_counts : WorldState → SinkState → WatchedCounts
-watched_counts world out = record { seen = counts world out; watches = world.watch_faults }
+watched_counts world out = record { seen = counted_faults world out; watches = world.watch_faults }
 
 abbrev pub watched_counts_in : Scene → WatchedCounts
 watched_counts_in s = watched_counts s.world s.out
@@ -91,13 +91,13 @@ pub record Blamed : Type 0 where
 -- As the counts tell: each that is blamed has its cause, and for each count that rose some name is blamed. A watcher that the
 -- store refused a view has the store's count as its cause.
 pub record CausesBeside (before now : WatchedCounts) (b : Blamed) : Type 0 where
-  pub feed_cause : some_failed b.feeds ≡ true → Rose before.seen.world now.seen.world ⊎ Rose before.seen.inputs now.seen.inputs
+  pub feed_cause : any_failed b.feeds ≡ true → Rose before.seen.world now.seen.world ⊎ Rose before.seen.inputs now.seen.inputs
   pub out_cause : b.out ≡ true → Rose before.seen.world now.seen.world ⊎ Rose before.seen.outputs now.seen.outputs
-  pub watch_cause : some_failed b.watches ≡ true → Rose before.seen.world now.seen.world ⊎ (Rose before.seen.outputs now.seen.outputs ⊎ Rose before.watches now.watches)
-  pub inputs_told : Rose before.seen.inputs now.seen.inputs → some_failed b.feeds ≡ true
+  pub watch_cause : any_failed b.watches ≡ true → Rose before.seen.world now.seen.world ⊎ (Rose before.seen.outputs now.seen.outputs ⊎ Rose before.watches now.watches)
+  pub inputs_told : Rose before.seen.inputs now.seen.inputs → any_failed b.feeds ≡ true
   pub outputs_told : Rose before.seen.outputs now.seen.outputs → b.out ≡ true
-  pub watches_told : Rose before.watches now.watches → some_failed b.watches ≡ true
-  pub world_told : Rose before.seen.world now.seen.world → (some_failed b.feeds ≡ true) ⊎ ((b.out ≡ true) ⊎ (some_failed b.watches ≡ true))
+  pub watches_told : Rose before.watches now.watches → any_failed b.watches ≡ true
+  pub world_told : Rose before.seen.world now.seen.world → (any_failed b.feeds ≡ true) ⊎ ((b.out ≡ true) ⊎ (any_failed b.watches ≡ true))
 
 -- These are the entries of the feeds, of the output and of the watchers that were reached, and exactly those are blamed that
 -- failed, but where a count stands at the end of its type and so can't tell.
@@ -120,24 +120,24 @@ abbrev pub watch_flags_of : List (List ℕ) → WatchedFailures → List Bool
 watch_flags_of watches failed = if failed.every_watch then map (λ (name : List ℕ). true) watches else failed.watches.now
 
 abbrev pub blamed_in : List (List ℕ) → List (List ℕ) → WatchedFailures → Blamed
-blamed_in watches feeds failed = record { feeds = flags_of feeds failed.parts; out = failed.parts.out; watches = watch_flags_of watches failed }
+blamed_in watches feeds failed = record { feeds = feed_flags feeds failed.parts; out = failed.parts.out; watches = watch_flags_of watches failed }
 
 -- some part failed
 abbrev pub AnyPartFailed : WatchedFailures → Type 0
-AnyPartFailed failed = PartFailed failed.parts ⊎ ((failed.every_watch ≡ true) ⊎ (some_failed failed.watches.now ≡ true))
+AnyPartFailed failed = PartFailed failed.parts ⊎ ((failed.every_watch ≡ true) ⊎ (any_failed failed.watches.now ≡ true))
 
 -- what a recording told of failures and what the counts tell: which parts failed
-pub record PartsShow (before now : WatchedCounts) (watches feeds : List (List ℕ)) (outcome : WatchedOutcome) (failed : WatchedFailures) : Type 0 where
+pub record WatchedPartsShow (before now : WatchedCounts) (watches feeds : List (List ℕ)) (outcome : WatchedOutcome) (failed : WatchedFailures) : Type 0 where
   pub causes : CausesBeside before now (blamed_in watches feeds failed)
   pub printing : (failed.parts.printing ≡ true) ↔ Rose before.seen.printing now.seen.printing
   pub any : AnyCountRose before now → AnyPartFailed failed
   pub feeds_told : failed.parts.feeds.now ≡ outcome.feeds_failed.items
   pub watches_told : failed.watches.now ≡ outcome.watches_failed.items
   -- nothing else is blamed where each count that rose shows in what the recording told
-  pub feeds_are : (Rose before.seen.inputs now.seen.inputs → some_failed outcome.feeds_failed.items ≡ true) → flags_of feeds failed.parts ≡ outcome.feeds_failed.items
-  pub watches_are : (Rose before.watches now.watches → some_failed outcome.watches_failed.items ≡ true) → watch_flags_of watches failed ≡ outcome.watches_failed.items
+  pub feeds_are : (Rose before.seen.inputs now.seen.inputs → any_failed outcome.feeds_failed.items ≡ true) → feed_flags feeds failed.parts ≡ outcome.feeds_failed.items
+  pub watches_are : (Rose before.watches now.watches → any_failed outcome.watches_failed.items ≡ true) → watch_flags_of watches failed ≡ outcome.watches_failed.items
   pub out_is : (Rose before.seen.outputs now.seen.outputs → outcome.out_failed ≡ true)
-      → (Rose before.seen.world now.seen.world → (some_failed outcome.feeds_failed.items ≡ true) ⊎ ((outcome.out_failed ≡ true) ⊎ (some_failed outcome.watches_failed.items ≡ true)))
+      → (Rose before.seen.world now.seen.world → (any_failed outcome.feeds_failed.items ≡ true) ⊎ ((outcome.out_failed ≡ true) ⊎ (any_failed outcome.watches_failed.items ≡ true)))
       → failed.parts.out ≡ outcome.out_failed
 
 -- ---- standard error
@@ -145,7 +145,7 @@ pub record PartsShow (before now : WatchedCounts) (watches feeds : List (List �
 -- all troubles, in their order: those of the feeds, of the output, of the watchers, and the others
 abbrev pub watched_troubles : Named → Option Report → List WatchReport → Bool → Blamed → Bool → List Trouble
 watched_troubles names report reports lacked b printing =
-    told_of names.feeds (ends_of names.feeds (reports_in report)) b.feeds (when b.out (fault names.out) ++ (when (limit_passed report) (output_limit names.out)
+    told_of names.feeds (ends_of names.feeds (reports_in report)) b.feeds (when b.out (fault names.out) ++ (when (limit_was_passed report) (output_limit names.out)
     ++ told_of names.watches (flaws_of names.watches reports) b.watches (when printing output_fault ++ when lacked no_memory)))
 
 -- memory lacked exactly where the reports name that, or where there are none though no part failed
@@ -177,7 +177,7 @@ pub record EndsBeside (before now : WatchedCounts) (report : Option Report) (rep
   pub memory : lacked ≡ true → status ≡ 5
   pub rose : lacked ≡ false → AnyCountRose before now → status ≡ 3
   pub calm : lacked ≡ false → (AnyCountRose before now → ⊥) → (r : Report) → report ≡ Some r
-      → status ≡ (if passes_limit r then 4 else ends_status_beside r.feeds.items reports)
+      → status ≡ (if recording_passes_limit r then 4 else ends_status_beside r.feeds.items reports)
 
 -- all of the feeds was recorded, the file was closed, the watchers were told of that, and each wrote all that it had to
 pub record RecordsAllBeside (options : RecordOptions) (r : Report) (sealed : Bool) (reports : List WatchReport) : Type 0 where
@@ -218,8 +218,8 @@ pub record RecordsWatched (request : Requested) (old new : Scene) (report : Opti
   pub ended : EndsBeside (watched_counts_in old) (watched_counts_in new) report reports lacked status
   -- where the world tells, the bytes under the feeds' names decide the status, unless a count rises, memory lacks, or a limit
   -- would be passed
-  pub decided : (told : Told) (halts : List Halt) → old.world.told ≡ Some told → AllZip (HaltsThere told) request.names.feeds halts
-      → (AnyCountRose (watched_counts_in old) (watched_counts_in new) → ⊥) → lacked ≡ false → limit_passed report ≡ false
+  pub decided : (told : Told) (halts : List Halt) → old.world.told ≡ Some told → AllZip (FeedHalts told) request.names.feeds halts
+      → (AnyCountRose (watched_counts_in old) (watched_counts_in new) → ⊥) → lacked ≡ false → limit_was_passed report ≡ false
       → status ≡ worst (map halt_status halts)
   -- the status 0 says that all of the feeds was recorded, and that each watcher wrote all that it had to
   pub whole : status ≡ 0 → (r : Report) × (report ≡ Some r) × RecordsAllBeside request.options r sealed reports

@@ -7,9 +7,9 @@ ghost use Rattle.command_base.specs.Texts.{Trouble, trouble_of, complained, bad_
 ghost use Rattle.command_base.specs.Printing.{Takes};
 ghost use Rattle.feed_lane.specs.Causes.{is_over, is_memory, is_memory_stop};
 ghost use Rattle.command_words.specs.Commands.{feed_limit};
-ghost use Rattle.record_command.specs.Answer.{flags_of, PartFailed, Answers, LacksMemory, FaultsShow};
+ghost use Rattle.record_command.specs.Answer.{feed_flags, PartFailed, Answers, LacksMemory, RecordingFaultsShow};
 ghost use Rattle.command_base.specs.Ran.{first_failed, told_of, Complains};
-ghost use Rattle.record_command.specs.Record.{AreFew, end_troubles, first_end, ends_of, reports_in, some_failed, is_limit, passes_limit, is_memory_end, is_memory_writer, lacks_memory as report_lacks, limit_passed};
+ghost use Rattle.record_command.specs.Record.{AreFew, end_troubles, first_end, ends_of, reports_in, any_failed, is_limit_end, recording_passes_limit, feed_lacked_memory, writer_lacked_memory, lacks_memory as report_lacks, limit_was_passed};
 
 use arrayvec::ArrayVec;
 use command_base::{Complaint, Counts, complain_of, due_when, reading_complaint, rose};
@@ -42,7 +42,7 @@ pub struct Failures<'a> {
 
 // Whether one of the answers is that it failed.
 pub(crate) fn has_some(failed: &[bool]) -> bool
-    ensures { result ≡ some_failed failed.now }
+    ensures { result ≡ any_failed failed.now }
 {
     failed.iter().any(|b| *b)
 }
@@ -64,9 +64,9 @@ pub(crate) fn any_holds(first: bool, second: bool, third: bool) -> bool
 /// Which parts failed between the two counts. A fault of the inputs that no answer told of may be any feed's, and one of the
 /// world is the file's.
 pub fn failed_parts<'a>(before: &Counts, now: &Counts, outcome: &'a Outcome) -> Failures<'a>
-    requires feed_cause { some_failed outcome.now.feeds_failed.items ≡ true → Rose before.now.world now.now.world ⊎ Rose before.now.inputs now.now.inputs }
+    requires feed_cause { any_failed outcome.now.feeds_failed.items ≡ true → Rose before.now.world now.now.world ⊎ Rose before.now.inputs now.now.inputs }
     requires out_cause { outcome.now.out_failed ≡ true → Rose before.now.world now.now.world ⊎ Rose before.now.outputs now.now.outputs }
-    ensures { (feeds : List (List ℕ)) → 1 ≤ length feeds → FaultsShow before.now now.now feeds outcome.now result }
+    ensures { (feeds : List (List ℕ)) → 1 ≤ length feeds → RecordingFaultsShow before.now now.now feeds outcome.now result }
 {
     let world = rose(before.world, now.world);
     let inputs = rose(before.inputs, now.inputs);
@@ -106,7 +106,7 @@ fn end_complaint<'a>(
 
 // Whether the feed at the index failed.
 fn is_blamed(failed: Failures<'_>, index: usize) -> bool
-    ensures { (feeds : List (List ℕ)) → index + 1 ≤ length feeds → result ≡ first_failed (drop index (flags_of feeds failed.entry)) }
+    ensures { (feeds : List (List ℕ)) → index + 1 ≤ length feeds → result ≡ first_failed (drop index (feed_flags feeds failed.entry)) }
 {
     if failed.every_feed {
         return true;
@@ -124,7 +124,7 @@ pub(crate) fn feed_complaints<'a>(
     failed: Failures<'_>,
 ) -> ArrayVec<Option<Complaint<'a>>, MOST_COMPLAINTS>
     requires few { length feeds.now ≤ feed_limit }
-    ensures troubles { flat_map complained result.items ≡ told_of feeds.now (ends_of feeds.now reports.now) (flags_of feeds.now failed.entry) [] }
+    ensures troubles { flat_map complained result.items ≡ told_of feeds.now (ends_of feeds.now reports.now) (feed_flags feeds.now failed.entry) [] }
     ensures many { array_vec_len result ≡ 2 * length feeds.now }
 {
     let mut complaints = ArrayVec::new();
@@ -155,7 +155,7 @@ fn has_too_much(feed: &FeedReport) -> bool
 
 // Whether the writer stopped at a limit.
 fn is_at_limit(end: End) -> bool
-    ensures { result ≡ is_limit end }
+    ensures { result ≡ is_limit_end end }
 {
     match end {
         End::Stopped {
@@ -174,7 +174,7 @@ fn have_too_much(feeds: &[FeedReport]) -> bool
 
 // Whether the file or a message would have passed a limit.
 pub(crate) fn has_limit(report: &Option<Report>) -> bool
-    ensures { result ≡ limit_passed report.now }
+    ensures { result ≡ limit_was_passed report.now }
 {
     match report {
         Some(report) => {
@@ -196,7 +196,7 @@ fn is_out_of_memory(stop: Stop) -> bool
 
 // Whether the reading of the feed ended for want of memory.
 fn is_end_for_memory(end: &FeedEnd) -> bool
-    ensures { result ≡ is_memory_end end.now }
+    ensures { result ≡ feed_lacked_memory end.now }
 {
     match end {
         FeedEnd::Refused { why } => return command_base::lacks_memory(why),
@@ -206,21 +206,21 @@ fn is_end_for_memory(end: &FeedEnd) -> bool
 
 // Whether memory lacked for the feed, or for one of its messages.
 fn has_lacked(feed: &FeedReport) -> bool
-    ensures { result ≡ (is_memory_end feed.now.end || list_any (λ x. is_memory x.cause) feed.now.refused.items) }
+    ensures { result ≡ (feed_lacked_memory feed.now.end || list_any (λ x. is_memory x.cause) feed.now.refused.items) }
 {
     is_end_for_memory(&feed.end) || feed.refused.has_lack()
 }
 
 // Whether memory lacked for one of the feeds.
 fn feeds_lacked(feeds: &[FeedReport]) -> bool
-    ensures { result ≡ list_any (λ f. is_memory_end f.end || list_any (λ x. is_memory x.cause) f.refused.items) feeds.now }
+    ensures { result ≡ list_any (λ f. feed_lacked_memory f.end || list_any (λ x. is_memory x.cause) f.refused.items) feeds.now }
 {
     feeds.iter().any(|feed| has_lacked(feed))
 }
 
 // Whether memory lacked for the file.
 fn writer_lacked(end: End) -> bool
-    ensures { result ≡ is_memory_writer end }
+    ensures { result ≡ writer_lacked_memory end }
 {
     match end {
         End::Stopped { stop } => is_out_of_memory(stop),

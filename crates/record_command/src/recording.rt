@@ -7,7 +7,7 @@ ghost use Rattle.mcap_model.specs.Places.{Each};
 ghost use Rattle.feed_lane.specs.Feeds.{ListsMessages};
 ghost use Rattle.command_base.specs.Printing.{Takes};
 ghost use Rattle.command_base.specs.Ran.{scene};
-ghost use Rattle.record_command.specs.Sources.{FeedsOpened, FeedRefused, OneKept, FeedsKept, flags_with};
+ghost use Rattle.record_command.specs.Sources.{FeedsOpened, FeedRefused, SourceKept, FeedsKept, feed_flags_with};
 ghost use Rattle.record_command.specs.Record.{AreAllowed, AreFew, report_text, NamesRecorded, Records};
 
 use crate::answering::{Outcome, answer, failed_parts};
@@ -93,7 +93,7 @@ pub(crate) fn open_feeds<W: World>(
 
 // Keeps the source of a feed, and says whether it or that failed.
 fn keep_feed<W: World>(world: &mut W, feed: &str, source: W::Source) -> bool
-    ensures { OneKept (W.state world.old) (W.state world.new) feed.now (W.Source.state source) result }
+    ensures { SourceKept (W.state world.old) (W.state world.new) feed.now (W.Source.state source) result }
 {
     let faults = source.faults();
     let kept = world.keep_source(feed, source);
@@ -126,7 +126,7 @@ pub(crate) fn keep_feeds<W: World>(
 /// Adds that the feed failed whose opening was refused so.
 pub(crate) fn add_refused(failed: &mut Vec<bool>, why_failed: bool)
     requires room { vec_len failed.old < vec_capacity failed.old }
-    ensures { failed.new.items ≡ flags_with failed.old.items why_failed }
+    ensures { failed.new.items ≡ feed_flags_with failed.old.items why_failed }
 {
     if why_failed {
         failed.push_reserved(true);

@@ -5,13 +5,13 @@ ghost use Rattle.arrayvec.specs.ArrayVec.{array_vec_len};
 ghost use Rattle.mcap_io.specs.Outside.{Rose};
 ghost use Rattle.mcap_model.specs.Places.{Each};
 ghost use Rattle.feed_lane.specs.Feeds.{ListsMessages};
-ghost use Rattle.command_words.specs.Commands.{AreApart, feed_limit, watcher_limit};
+ghost use Rattle.command_words.specs.Commands.{NamesDiffer, feed_limit, watcher_limit};
 ghost use Rattle.command_base.specs.Texts.{trouble_of, complained};
 ghost use Rattle.command_base.specs.Ran.{scene, first_failed, told_of};
-ghost use Rattle.record_command.specs.Record.{AreAllowed, AreFew, some_failed, report_text};
-ghost use Rattle.record_command.specs.Answer.{flags_of, PartFailed};
+ghost use Rattle.record_command.specs.Record.{AreAllowed, AreFew, any_failed, report_text};
+ghost use Rattle.record_command.specs.Answer.{feed_flags, PartFailed};
 ghost use Rattle.record_command.specs.Watched.{named, requested};
-ghost use Rattle.record_command.specs.WatchedAnswer.{watched_counts, watch_troubles, first_flaw, flaws_of, is_memory_watch, lacks_beside, watch_flags_of, AnyPartFailed, PartsShow, LacksMemoryBeside, AnswersBeside, RecordsWatched};
+ghost use Rattle.record_command.specs.WatchedAnswer.{watched_counts, watch_troubles, first_flaw, flaws_of, is_memory_watch, lacks_beside, watch_flags_of, AnyPartFailed, WatchedPartsShow, LacksMemoryBeside, AnswersBeside, RecordsWatched};
 
 use crate::answering::{
     Failures, MOST_COMPLAINTS, any_holds, feed_complaints, feed_reports, has_failed, has_limit,
@@ -68,10 +68,10 @@ pub fn failed_watched_parts<'a>(
     now: &WatchedCounts,
     outcome: &'a WatchedOutcome,
 ) -> WatchedFailures<'a>
-    requires feed_cause { some_failed outcome.now.feeds_failed.items ≡ true → Rose before.now.seen.world now.now.seen.world ⊎ Rose before.now.seen.inputs now.now.seen.inputs }
+    requires feed_cause { any_failed outcome.now.feeds_failed.items ≡ true → Rose before.now.seen.world now.now.seen.world ⊎ Rose before.now.seen.inputs now.now.seen.inputs }
     requires out_cause { outcome.now.out_failed ≡ true → Rose before.now.seen.world now.now.seen.world ⊎ Rose before.now.seen.outputs now.now.seen.outputs }
-    requires watch_cause { some_failed outcome.now.watches_failed.items ≡ true → Rose before.now.seen.world now.now.seen.world ⊎ (Rose before.now.seen.outputs now.now.seen.outputs ⊎ Rose before.now.watches now.now.watches) }
-    ensures { (watches feeds : List (List ℕ)) → 1 ≤ length watches → 1 ≤ length feeds → PartsShow before.now now.now watches feeds outcome.now result }
+    requires watch_cause { any_failed outcome.now.watches_failed.items ≡ true → Rose before.now.seen.world now.now.seen.world ⊎ (Rose before.now.seen.outputs now.now.seen.outputs ⊎ Rose before.now.watches now.now.watches) }
+    ensures { (watches feeds : List (List ℕ)) → 1 ≤ length watches → 1 ≤ length feeds → WatchedPartsShow before.now now.now watches feeds outcome.now result }
 {
     let world = rose(before.seen.world, now.seen.world);
     let inputs = rose(before.seen.inputs, now.seen.inputs);
@@ -249,7 +249,7 @@ pub fn record_watched_file<R: AllocGlobal + Threads + Wait + Sync, W: World, O: 
     requires chunked { (size : ℕ) × (options.now.file.chunk ≡ Some size) }
     requires few { AreFew feed_names.now }
     requires watched { (1 ≤ length watch_names.now) × (length watch_names.now ≤ watcher_limit) }
-    requires apart { AreApart out_name.now watch_names.now }
+    requires apart { NamesDiffer out_name.now watch_names.now }
     ensures recorded { RecordsWatched (requested options.now range out_name.now watch_names.now feed_names.now)
         (scene (W.state world.old) (O.state out.old) (E.state err.old))
         (scene (W.state world.new) (O.state out.new) (E.state err.new))

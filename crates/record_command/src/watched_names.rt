@@ -5,7 +5,7 @@ ghost use Rattle.mcap_wire.specs.Layout.{content_limit};
 ghost use Rattle.mcap_wire.specs.Limits.{buffer_limit, chunk_size_limit};
 ghost use Rattle.mcap_model.specs.Places.{Each};
 ghost use Rattle.feed_lane.specs.Feeds.{ListsMessages};
-ghost use Rattle.command_words.specs.Commands.{AreApart, watcher_limit};
+ghost use Rattle.command_words.specs.Commands.{NamesDiffer, watcher_limit};
 ghost use Rattle.record_command.specs.Record.{AreFew};
 ghost use Rattle.record_command.specs.Sources.{FeedsOpened};
 ghost use Rattle.record_command.specs.Sinks.{CountsFit, OutOpened, SinksOpened};
@@ -157,7 +157,7 @@ fn record_beside<R: Threads + Wait + Sync, W: World>(
     requires profile { length options.now.file.profile ≤ content_limit }
     requires few { AreFew feeds.now }
     requires watched { (1 ≤ length watch_names.now) × (length watch_names.now ≤ watcher_limit) }
-    requires apart { AreApart out.now watch_names.now }
+    requires apart { NamesDiffer out.now watch_names.now }
     requires many { vec_len rooms.sources ≡ length feeds.now }
     requires none { rooms.feeds_failed.items ≡ [] }
     requires room { length feeds.now ≤ vec_capacity rooms.feeds_failed }
@@ -222,7 +222,7 @@ fn open_watches<R: Threads + Wait + Sync, W: World>(
     requires profile { length options.now.file.profile ≤ content_limit }
     requires few { AreFew feeds.now }
     requires watched { (1 ≤ length watch_names.now) × (length watch_names.now ≤ watcher_limit) }
-    requires apart { AreApart out.now watch_names.now }
+    requires apart { NamesDiffer out.now watch_names.now }
     requires many { vec_len rooms.sources ≡ length feeds.now }
     requires none { rooms.feeds_failed.items ≡ [] }
     requires room { length feeds.now ≤ vec_capacity rooms.feeds_failed }
@@ -293,7 +293,7 @@ fn open_output<R: Threads + Wait + Sync, W: World>(
     requires profile { length options.now.file.profile ≤ content_limit }
     requires few { AreFew feeds.now }
     requires watched { (1 ≤ length watch_names.now) × (length watch_names.now ≤ watcher_limit) }
-    requires apart { AreApart out.now watch_names.now }
+    requires apart { NamesDiffer out.now watch_names.now }
     requires many { vec_len rooms.sources ≡ length feeds.now }
     requires none { rooms.feeds_failed.items ≡ [] }
     requires room { length feeds.now ≤ vec_capacity rooms.feeds_failed }
@@ -352,7 +352,7 @@ pub(crate) fn record_watched_names<R: Threads + Wait + Sync, W: World>(
     requires profile { length options.now.file.profile ≤ content_limit }
     requires few { AreFew feeds.now }
     requires watched { (1 ≤ length watch_names.now) × (length watch_names.now ≤ watcher_limit) }
-    requires apart { AreApart out.now watch_names.now }
+    requires apart { NamesDiffer out.now watch_names.now }
     requires world_fits { (W.state world.old).faults < 2 ^ 64 }
     requires inputs_fit { (W.state world.old).input_faults < 2 ^ 64 }
     requires outputs_fit { (W.state world.old).output_faults < 2 ^ 64 }

@@ -11,7 +11,7 @@ use Rattle.mcap_model.specs.Fields.{SchemaFields, ChannelFields}
 use Rattle.mcap_model.specs.History.{schema_of, channel_of}
 use Rattle.mcap_model.proofs.Places.{at_kept, at_last, at_more}
 use Rattle.id_table.specs.Ids as tables
-use Rattle.id_table.specs.Given.{Lacks, EachOnce, Offers, OffersTo, IsFull, IsFullTo, Declares, Refuses, with_given, with_given_to}
+use Rattle.id_table.specs.Given.{Lacks, EachOnce, Offers, OffersTo, IsFull, IsFullTo, Declares, RefusesIds, with_given, with_given_to}
 use Rattle.id_table.specs.declared.given.Given.{Given}
 use Rattle.id_table.specs.declared.given.Given.TheVariants.{Known, New}
 use Rattle.id_table.specs.declared.given.GivenIds.{GivenIds}
@@ -20,7 +20,7 @@ use Rattle.id_table.specs.declared.given.IdRefused.TheVariants.{TooManySchemas, 
 use Rattle.record_core.specs.declared.answers.DeclareRefused.{DeclareRefused}
 use Rattle.record_core.specs.declared.answers.DeclareRefused.TheVariants as declaring
 use Rattle.record_core.specs.Ids.{Ids, schemas_in, channels_in, with_ids, same_schema, fields_of_schema, fields_with, fields_of_channel, schema_place, id_at, schema_id, channel_place, channel_id, new_schema_at, new_schema, new_at, new_records}
-use Rattle.record_core.specs.Tables.{content_in, ids_in, HasSchema, HasSchemas, GivesAt, GivesSchema, GivesIds, schemas_lack, ids_lack, IdsDeclared, number_of, id_of, schema_with}
+use Rattle.record_core.specs.Tables.{content_in, ids_in, SchemaHasId, HasSchemas, GivesAt, GivesSchema, GivesIds, schemas_lack, ids_lack, IdsDeclared, id_given, id_of, schema_with}
 use Rattle.record_core.proofs.Places.{map_same, found_more, found_last}
 use Rattle.record_core.proofs.Searches.{schema_own, schemas_more, channels_more}
 use Rattle.record_core.proofs.TableIds.{schema_stands, schema_missed, schema_lacking, schema_found, channel_missed, some_none}
@@ -43,30 +43,30 @@ given_schema ids None (Some g) e = absurd e
 given_schema ids (Some s) None e = absurd e
 given_schema ids (Some s) (Some g) e = given_at s (schema_place ids s) (length ids.schemas) g e
 
-next_given : (place : Option ℕ) (count : ℕ) (g : Given) → place ≡ None → GivesAt place count g → number_of g ≡ count + 1
+next_given : (place : Option ℕ) (count : ℕ) (g : Given) → place ≡ None → GivesAt place count g → id_given g ≡ count + 1
 next_given (Some k) count g none e = absurd (some_none k none)
 next_given None count (Known id) none e = absurd e
 next_given None count (New id) none e = e
 
 -- the channel's id is the one that it is to get
-pub given_id : (ids : Ids) (c : ChannelDef) (given : GivenIds) → channel_place ids c ≡ None → GivesIds ids c given → number_of given.channel ≡ channel_id ids c
+pub given_id : (ids : Ids) (c : ChannelDef) (given : GivenIds) → channel_place ids c ≡ None → GivesIds ids c given → id_given given.channel ≡ channel_id ids c
 given_id ids c given none gives =
     next_given (channel_place ids c) (length ids.channels) given.channel none gives.channel ∙ ap (λ (o : Option ℕ). id_at o (length ids.channels)) (sym none)
 
 -- the records of the ids that are new are those that the declaration adds
 pub given_records : (ids : Ids) (c : ChannelDef) (given : GivenIds) → channel_place ids c ≡ None → GivesIds ids c given
-    → schema_with c.schema given.schema ++ channel_of (number_of given.channel) (fields_with c (id_of given.schema)) ∷ [] ≡ new_records ids c
+    → schema_with c.schema given.schema ++ channel_of (id_given given.channel) (fields_with c (id_of given.schema)) ∷ [] ≡ new_records ids c
 given_records ids c given none gives =
     let schema = given_schema ids c.schema given.schema gives.schema in
-    let id : number_of given.channel ≡ length ids.channels + 1 = next_given (channel_place ids c) (length ids.channels) given.channel none gives.channel in
-    ap (λ (l : List Rec). l ++ channel_of (number_of given.channel) (fields_with c (id_of given.schema)) ∷ []) schema.records_are
+    let id : id_given given.channel ≡ length ids.channels + 1 = next_given (channel_place ids c) (length ids.channels) given.channel none gives.channel in
+    ap (λ (l : List Rec). l ++ channel_of (id_given given.channel) (fields_with c (id_of given.schema)) ∷ []) schema.records_are
     ∙ ap (λ (i : ℕ). new_schema ids c.schema ++ channel_of i (fields_with c (id_of given.schema)) ∷ []) id
     ∙ ap (λ (i : ℕ). new_schema ids c.schema ++ channel_of (length ids.channels + 1) (fields_with c i) ∷ []) schema.id_is
     ∙ ap (λ (o : Option ℕ). new_at o ids c) (sym none)
 
 -- ---- what is offered
 
-offers_at : (t : tables.Ids) (s : SchemaDef) (place : Option ℕ) (g : Given) → EachOnce t.schemas → schema_place (ids_in t) s ≡ place → Offers t.schemas s g
+offers_at : (t : tables.IdContents) (s : SchemaDef) (place : Option ℕ) (g : Given) → EachOnce t.schemas → schema_place (ids_in t) s ≡ place → Offers t.schemas s g
     → GivesAt place (length (map fields_of_schema t.schemas)) g
 offers_at t s (Some k) (Known id) once e is =
     let same = once k (id - 1) s (schema_stands t s k e) is.1 in
@@ -75,16 +75,16 @@ offers_at t s (Some k) (New id) once e is = is.0 k (schema_stands t s k e)
 offers_at t s None (Known id) once e is = schema_missed t s e (id - 1) is.1
 offers_at t s None (New id) once e is = omega (arith, is.1, length-map t.schemas fields_of_schema)
 
-offers_schema : (t : tables.Ids) (schema : Option SchemaDef) (given : Option Given) → EachOnce t.schemas → OffersTo t.schemas schema given → GivesSchema (ids_in t) schema given
+offers_schema : (t : tables.IdContents) (schema : Option SchemaDef) (given : Option Given) → EachOnce t.schemas → OffersTo t.schemas schema given → GivesSchema (ids_in t) schema given
 offers_schema t None None once is = tt
 offers_schema t None (Some g) once is = absurd is
 offers_schema t (Some s) None once is = absurd is
 offers_schema t (Some s) (Some g) once is = offers_at t s (schema_place (ids_in t) s) g once refl is
 
-abbrev contents : tables.Ids → List ChannelFields
+abbrev contents : tables.IdContents → List ChannelFields
 contents t = map (content_in (map fields_of_schema t.schemas)) t.channels
 
-offers_channel : (t : tables.Ids) (c : ChannelDef) (place : Option ℕ) (g : Given) → channel_place (ids_in t) c ≡ place → place ≡ None → Offers t.channels c g → GivesAt place (length (contents t)) g
+offers_channel : (t : tables.IdContents) (c : ChannelDef) (place : Option ℕ) (g : Given) → channel_place (ids_in t) c ≡ place → place ≡ None → Offers t.channels c g → GivesAt place (length (contents t)) g
 offers_channel t c (Some k) g e none is = absurd (some_none k none)
 offers_channel t c None (Known id) e none is = channel_missed t c e (id - 1) is.1
 offers_channel t c None (New id) e none is = omega (arith, is.1, length-map t.channels (content_in (map fields_of_schema t.schemas)))
@@ -92,14 +92,14 @@ offers_channel t c None (New id) e none is = omega (arith, is.1, length-map t.ch
 -- ---- the table with the new contents
 
 -- The Schemas with one more, if it is new: those before keep their ids, and the channel's has the id that it was to get.
-record Entered (t : tables.Ids) (schemas : List SchemaDef) (schema : Option SchemaDef) : Type 0 where
+record Entered (t : tables.IdContents) (schemas : List SchemaDef) (schema : Option SchemaDef) : Type 0 where
   pub fields : map fields_of_schema schemas ≡ map fields_of_schema t.schemas ++ schemas_in (new_schema (ids_in t) schema)
-  pub has : HasSchema schemas schema
-  pub kept : (other : Option SchemaDef) → HasSchema t.schemas other → HasSchema schemas other
-  pub ids : (other : Option SchemaDef) → HasSchema t.schemas other → schema_id (ids_in (record t { schemas = schemas })) other ≡ schema_id (ids_in t) other
+  pub has : SchemaHasId schemas schema
+  pub kept : (other : Option SchemaDef) → SchemaHasId t.schemas other → SchemaHasId schemas other
+  pub ids : (other : Option SchemaDef) → SchemaHasId t.schemas other → schema_id (ids_in (record t { schemas = schemas })) other ≡ schema_id (ids_in t) other
   pub id : schema_id (ids_in (record t { schemas = schemas })) schema ≡ schema_id (ids_in t) schema
 
-entered_same : (t : tables.Ids) (schema : Option SchemaDef) → HasSchema t.schemas schema → new_schema (ids_in t) schema ≡ [] → Entered t t.schemas schema
+entered_same : (t : tables.IdContents) (schema : Option SchemaDef) → SchemaHasId t.schemas schema → new_schema (ids_in t) schema ≡ [] → Entered t t.schemas schema
 entered_same t schema has none = record {
   fields = sym (append-nil (map fields_of_schema t.schemas)) ∙ ap (λ (l : List Rec). map fields_of_schema t.schemas ++ schemas_in l) (sym none);
   has = has;
@@ -108,21 +108,21 @@ entered_same t schema has none = record {
   id = refl;
 }
 
-module _ (t : tables.Ids) (s : SchemaDef) (lacks : Lacks t.schemas s) where
+module _ (t : tables.IdContents) (s : SchemaDef) (lacks : Lacks t.schemas s) where
   abbrev more : List SchemaDef
   more = t.schemas ++ s ∷ []
 
-  abbrev longer : tables.Ids
+  abbrev longer : tables.IdContents
   longer = record t { schemas = more }
 
   is_new : schema_place (ids_in t) s ≡ None
   is_new = schema_lacking t s (schema_place (ids_in t) s) refl lacks
 
-  kept_schema : (other : Option SchemaDef) → HasSchema t.schemas other → HasSchema more other
+  kept_schema : (other : Option SchemaDef) → SchemaHasId t.schemas other → SchemaHasId more other
   kept_schema None has = tt
   kept_schema (Some o) (n, at) = (n, at_kept t.schemas (s ∷ []) n o at)
 
-  kept_id : (other : Option SchemaDef) → HasSchema t.schemas other → schema_id (ids_in longer) other ≡ schema_id (ids_in t) other
+  kept_id : (other : Option SchemaDef) → SchemaHasId t.schemas other → schema_id (ids_in longer) other ≡ schema_id (ids_in t) other
   kept_id None has = refl
   kept_id (Some o) (n, at) =
       let p = same_schema (fields_of_schema o) in
@@ -149,12 +149,12 @@ module _ (t : tables.Ids) (s : SchemaDef) (lacks : Lacks t.schemas s) where
     id = new_id;
   }
 
-known_none : (t : tables.Ids) (s : SchemaDef) (n : ℕ) → At t.schemas n s → new_schema (ids_in t) (Some s) ≡ []
+known_none : (t : tables.IdContents) (s : SchemaDef) (n : ℕ) → At t.schemas n s → new_schema (ids_in t) (Some s) ≡ []
 known_none t s n at =
     let (k, is, there) = schema_found t s n (schema_place (ids_in t) s) refl at in
     ap (λ (place : Option ℕ). new_schema_at place (length (map fields_of_schema t.schemas)) s) is
 
-entered : (t : tables.Ids) (schema : Option SchemaDef) (given : Option Given) → OffersTo t.schemas schema given → Entered t (with_given_to t.schemas schema given) schema
+entered : (t : tables.IdContents) (schema : Option SchemaDef) (given : Option Given) → OffersTo t.schemas schema given → Entered t (with_given_to t.schemas schema given) schema
 entered t None None is = entered_same t None tt refl
 entered t None (Some g) is = absurd is
 entered t (Some s) None is = absurd is
@@ -176,7 +176,7 @@ made_same : (a b : List SchemaFields) (c d : List ChannelFields) → a ≡ b →
 made_same a b c d one other = cc
 
 -- the table's ids are those with the records that a new channel adds
-ids_after : (t after : tables.Ids) (c : ChannelDef) → HasSchemas t → channel_place (ids_in t) c ≡ None → Entered t after.schemas c.schema → after.channels ≡ t.channels ++ c ∷ []
+ids_after : (t after : tables.IdContents) (c : ChannelDef) → HasSchemas t → channel_place (ids_in t) c ≡ None → Entered t after.schemas c.schema → after.channels ≡ t.channels ++ c ∷ []
     → ids_in after ≡ with_ids (ids_in t) (new_records (ids_in t) c)
 ids_after t after c has none is channels =
     let ids = ids_in t in
@@ -195,26 +195,26 @@ ids_after t after c has none is channels =
     made_same (map fields_of_schema after.schemas) (map fields_of_schema t.schemas ++ schemas_in (new_records ids c)) (contents after) (contents t ++ channels_in (new_records ids c))
     (is.fields ∙ ap (λ (l : List SchemaFields). map fields_of_schema t.schemas ++ l) (sym schemas_added)) (all ∙ ap (λ (l : List ChannelFields). contents t ++ l) (sym channels_added))
 
-schemas_after : (t after : tables.Ids) (c : ChannelDef) → HasSchemas t → Entered t after.schemas c.schema → after.channels ≡ t.channels ++ c ∷ [] → HasSchemas after
+schemas_after : (t after : tables.IdContents) (c : ChannelDef) → HasSchemas t → Entered t after.schemas c.schema → after.channels ≡ t.channels ++ c ∷ [] → HasSchemas after
 schemas_after t after c has is channels n d at = elim (at_more t.channels c n d (subst (λ (l : List ChannelDef). At l n d) channels at)) [
   | inl before ↦ is.kept d.schema (has n d before)
-  | inr (last, same) ↦ subst (λ (x : ChannelDef). HasSchema after.schemas x.schema) (sym same) is.has
+  | inr (last, same) ↦ subst (λ (x : ChannelDef). SchemaHasId after.schemas x.schema) (sym same) is.has
 ]
 
 -- ---- when ids are lacking
 
-lacks_at : (t : tables.Ids) (s : SchemaDef) → IsFull t.schemas s → schemas_lack (ids_in t) (Some s) ≡ true
+lacks_at : (t : tables.IdContents) (s : SchemaDef) → IsFull t.schemas s → schemas_lack (ids_in t) (Some s) ≡ true
 lacks_at t s (lacks, many) =
     let is = schema_lacking t s (schema_place (ids_in t) s) refl lacks in
     let size = length (map fields_of_schema t.schemas) in
     let full : 65535 ≤ size = omega (arith, many, length-map t.schemas fields_of_schema) in
     ap (λ (place : Option ℕ). nat_lt 0 (length (new_schema_at place size s)) && nat_le 65535 size) is ∙ le-leb 65535 size full
 
-schemas_lacking : (t : tables.Ids) (schema : Option SchemaDef) → IsFullTo t.schemas schema → schemas_lack (ids_in t) schema ≡ true
+schemas_lacking : (t : tables.IdContents) (schema : Option SchemaDef) → IsFullTo t.schemas schema → schemas_lack (ids_in t) schema ≡ true
 schemas_lacking t None is = absurd is
 schemas_lacking t (Some s) is = lacks_at t s is
 
-enough_at : (t : tables.Ids) (s : SchemaDef) (place : Option ℕ) (b : Bool) → schema_place (ids_in t) s ≡ place → nat_le 65535 (length (map fields_of_schema t.schemas)) ≡ b → (IsFull t.schemas s → ⊥)
+enough_at : (t : tables.IdContents) (s : SchemaDef) (place : Option ℕ) (b : Bool) → schema_place (ids_in t) s ≡ place → nat_le 65535 (length (map fields_of_schema t.schemas)) ≡ b → (IsFull t.schemas s → ⊥)
     → (nat_lt 0 (length (new_schema_at place (length (map fields_of_schema t.schemas)) s)) && nat_le 65535 (length (map fields_of_schema t.schemas))) ≡ false
 enough_at t s (Some k) b e is enough = refl
 enough_at t s None false e is enough = is
@@ -222,14 +222,14 @@ enough_at t s None true e is enough =
     let many = leb-true 65535 (length (map fields_of_schema t.schemas)) is in
     absurd (enough (schema_missed t s e, omega (arith, many, length-map t.schemas fields_of_schema)))
 
-schemas_enough : (t : tables.Ids) (schema : Option SchemaDef) → (IsFullTo t.schemas schema → ⊥) → schemas_lack (ids_in t) schema ≡ false
+schemas_enough : (t : tables.IdContents) (schema : Option SchemaDef) → (IsFullTo t.schemas schema → ⊥) → schemas_lack (ids_in t) schema ≡ false
 schemas_enough t None enough = refl
 schemas_enough t (Some s) enough = enough_at t s (schema_place (ids_in t) s) (nat_le 65535 (length (map fields_of_schema t.schemas))) refl refl enough
 
-channels_lacking : (t : tables.Ids) (c : ChannelDef) → IsFull t.channels c → nat_le 65535 (length (contents t)) ≡ true
+channels_lacking : (t : tables.IdContents) (c : ChannelDef) → IsFull t.channels c → nat_le 65535 (length (contents t)) ≡ true
 channels_lacking t c (lacks, many) = le-leb 65535 (length (contents t)) (omega (arith, many, length-map t.channels (content_in (map fields_of_schema t.schemas))))
 
-channels_enough : (t : tables.Ids) (c : ChannelDef) (b : Bool) → nat_le 65535 (length (contents t)) ≡ b → channel_place (ids_in t) c ≡ None → (IsFull t.channels c → ⊥) → b ≡ false
+channels_enough : (t : tables.IdContents) (c : ChannelDef) (b : Bool) → nat_le 65535 (length (contents t)) ≡ b → channel_place (ids_in t) c ≡ None → (IsFull t.channels c → ⊥) → b ≡ false
 channels_enough t c false is none enough = refl
 channels_enough t c true is none enough =
     let many = leb-true 65535 (length (contents t)) is in
@@ -241,28 +241,28 @@ lack_by schemas channels = if schemas then Some declaring.TooManySchemas else (i
 lack_is : (ids : Ids) (c : ChannelDef) (a b : Bool) → schemas_lack ids c.schema ≡ a → nat_le 65535 (length ids.channels) ≡ b → ids_lack ids c ≡ lack_by a b
 lack_is ids c a b one other = ap (λ (x : Bool). lack_by x (nat_le 65535 (length ids.channels))) one ∙ ap (lack_by a) other
 
-enough_ids : (t : tables.Ids) (c : ChannelDef) → channel_place (ids_in t) c ≡ None → (IsFullTo t.schemas c.schema → ⊥) → (IsFull t.channels c → ⊥) → ids_lack (ids_in t) c ≡ None
+enough_ids : (t : tables.IdContents) (c : ChannelDef) → channel_place (ids_in t) c ≡ None → (IsFullTo t.schemas c.schema → ⊥) → (IsFull t.channels c → ⊥) → ids_lack (ids_in t) c ≡ None
 enough_ids t c none schemas channels =
     lack_is (ids_in t) c false false (schemas_enough t c.schema schemas) (channels_enough t c (nat_le 65535 (length (contents t))) refl none channels)
 
 -- ---- what the table answers
 
-few_left : (t after : tables.Ids) (schema : Option SchemaDef) (given : Option Given) → OffersTo t.schemas schema given → after.schemas ≡ with_given_to t.schemas schema given → length after.schemas ≤ 65535
+few_left : (t after : tables.IdContents) (schema : Option SchemaDef) (given : Option Given) → OffersTo t.schemas schema given → after.schemas ≡ with_given_to t.schemas schema given → length after.schemas ≤ 65535
     → IsFullTo t.schemas schema → ⊥
 few_left t after None given is same few full = full
 few_left t after (Some s) None is same few full = is
 few_left t after (Some s) (Some (Known id)) is same few full = full.0 (id - 1) is.1
 few_left t after (Some s) (Some (New id)) is same few full = omega (arith, few, full.1, ap length same, length-append t.schemas (s ∷ []))
 
-channel_new : (t after : tables.Ids) (c : ChannelDef) (g : Given) → channel_place (ids_in t) c ≡ None → Offers t.channels c g → after.channels ≡ with_given t.channels c g → after.channels ≡ t.channels ++ c ∷ []
+channel_new : (t after : tables.IdContents) (c : ChannelDef) (g : Given) → channel_place (ids_in t) c ≡ None → Offers t.channels c g → after.channels ≡ with_given t.channels c g → after.channels ≡ t.channels ++ c ∷ []
 channel_new t after c (Known id) none is same = absurd (channel_missed t c none (id - 1) is.1)
 channel_new t after c (New id) none is same = same
 
-pub record Answers (t : tables.Ids) (c : ChannelDef) (result : Result GivenIds IdRefused) (after : tables.Ids) : Type 0 where
+pub record Answers (t : tables.IdContents) (c : ChannelDef) (result : Result GivenIds IdRefused) (after : tables.IdContents) : Type 0 where
   pub declared : IdsDeclared (ids_in t) c result (ids_in after)
   pub schemas : HasSchemas after
 
-answers_given : (t after : tables.Ids) (c : ChannelDef) (given : GivenIds) → HasSchemas t → EachOnce t.schemas → channel_place (ids_in t) c ≡ None → length after.schemas ≤ 65535 → length after.channels ≤ 65535
+answers_given : (t after : tables.IdContents) (c : ChannelDef) (given : GivenIds) → HasSchemas t → EachOnce t.schemas → channel_place (ids_in t) c ≡ None → length after.schemas ≤ 65535 → length after.channels ≤ 65535
     → Declares t c given after → Answers t c (Ok given) after
 answers_given t after c given has once none few_schemas few_channels is =
     let schema = subst (λ (l : List SchemaDef). Entered t l c.schema) (sym is.schemas) (entered t c.schema given.schema is.schema) in
@@ -277,8 +277,8 @@ answers_given t after c given has once none few_schemas few_channels is =
       schemas = schemas_after t after c has schema channels;
     }
 
-pub answers_by : (t after : tables.Ids) (c : ChannelDef) (result : Result GivenIds IdRefused) → HasSchemas t → EachOnce t.schemas → channel_place (ids_in t) c ≡ None → length after.schemas ≤ 65535 → length after.channels ≤ 65535
-    → IfOk result (λ given. Declares t c given after) → IfErr result (Refuses t c) → OnErr result (after ≡ t) → Answers t c result after
+pub answers_by : (t after : tables.IdContents) (c : ChannelDef) (result : Result GivenIds IdRefused) → HasSchemas t → EachOnce t.schemas → channel_place (ids_in t) c ≡ None → length after.schemas ≤ 65535 → length after.channels ≤ 65535
+    → IfOk result (λ given. Declares t c given after) → IfErr result (RefusesIds t c) → OnErr result (after ≡ t) → Answers t c result after
 answers_by t after c (Ok given) has once none few_schemas few_channels ok why same = answers_given t after c given has once none few_schemas few_channels ok
 answers_by t after c (Err TooManySchemas) has once none few_schemas few_channels ok why same = record {
   declared = (lack_is (ids_in t) c true (nat_le 65535 (length (contents t))) (schemas_lacking t c.schema why) refl, ap ids_in same);

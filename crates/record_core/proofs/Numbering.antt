@@ -10,7 +10,7 @@ use Rattle.mcap_model.specs.Places.{At}
 use Rattle.mcap_model.specs.Fields.{SchemaFields, ChannelFields, MessageFields}
 use Rattle.mcap_model.specs.History.{schema_of, channel_of, message_of, SchemaFollows, ChannelFollows, MessageFollows, Follows, Numbered}
 use Rattle.mcap_model.proofs.Places.{at_read, each_more, at_last}
-use Rattle.record_core.specs.Ids.{Ids, schemas_in, channels_in, same_schema, same_channel, is_known, fields_of_schema, schema_place, id_at, schema_id, fields_of_channel, channel_place, new_schema_at, new_schema, new_at, new_records}
+use Rattle.record_core.specs.Ids.{Ids, schemas_in, channels_in, same_schema, same_channel, is_known_channel, fields_of_schema, schema_place, id_at, schema_id, fields_of_channel, channel_place, new_schema_at, new_schema, new_at, new_records}
 use Rattle.record_core.proofs.Searches.{found, not_found, schema_own, schema_same, channel_own, schemas_counted, channels_counted, channels_more, schema_there, channel_there, schema_content, channel_content}
 use Rattle.mcap_model.proofs.Maps.{same_is}
 
@@ -36,7 +36,7 @@ channel_at history k f numbered at =
 some_field : ChannelFields
 some_field = record { schema = 0; topic = []; encoding = []; metadata = [] }
 
-pub message_follows : (d : Ids) (history : List Rec) (channel : ℕ) → Numbered history → d.channels ≡ channels_in history → is_known d channel ≡ true → MessageFollows history channel
+pub message_follows : (d : Ids) (history : List Rec) (channel : ℕ) → Numbered history → d.channels ≡ channels_in history → is_known_channel d channel ≡ true → MessageFollows history channel
 message_follows d history channel numbered same known =
     let both = and_parts (nat_lt 0 channel) (nat_le channel (length d.channels)) known in
     let some : 0 < channel = ltb-true 0 channel both.0 in
@@ -144,5 +144,5 @@ added_by d history c None has numbered order is =
 pub declared_numbered : (d : Ids) (history : List Rec) (c : ChannelDef) → HasContents d history → Numbered history → KeysAscend c.metadata → Numbered (history ++ new_records d c)
 declared_numbered d history c has numbered order = added_by d history c (channel_place d c) has numbered order refl
 
-pub published_numbered : (d : Ids) (history : List Rec) (channel : ℕ) (m : MessageFields) → HasContents d history → Numbered history → is_known d channel ≡ true → Numbered (history ++ message_of channel m ∷ [])
+pub published_numbered : (d : Ids) (history : List Rec) (channel : ℕ) (m : MessageFields) → HasContents d history → Numbered history → is_known_channel d channel ≡ true → Numbered (history ++ message_of channel m ∷ [])
 published_numbered d history channel m has numbered known = each_more Follows history (message_of channel m) numbered (message_follows d history channel numbered has.channels known)

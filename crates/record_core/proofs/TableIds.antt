@@ -9,7 +9,7 @@ use Rattle.mcap_model.proofs.Places.{at_within, at_one}
 use Rattle.id_table.specs.Ids as tables
 use Rattle.id_table.specs.Given.{Lacks, EachOnce, Found, SharesSchema}
 use Rattle.record_core.specs.Ids.{same_schema, same_channel, fields_of_schema, fields_of_channel, schema_place, id_at, schema_id, channel_place}
-use Rattle.record_core.specs.Tables.{content_in, ids_in, HasSchema, HasSchemas, IsIdAt, IsSchemaAt, HasSchemaOf}
+use Rattle.record_core.specs.Tables.{content_in, ids_in, SchemaHasId, HasSchemas, IsIdAt, IsSchemaAt, HasSchemaOf}
 use Rattle.record_core.proofs.Places.{at_map, map_at}
 use Rattle.record_core.proofs.Searches.{found, not_found, schema_own, schema_same, channel_own, channel_same}
 
@@ -25,7 +25,7 @@ schema_back : (s t : SchemaDef) → fields_of_schema s ≡ fields_of_schema t �
 schema_back s t e = ap def_of e
 
 -- where a schema's content is found, the schema stands
-pub schema_stands : (t : tables.Ids) (s : SchemaDef) (k : ℕ) → schema_place (ids_in t) s ≡ Some k → At t.schemas k s
+pub schema_stands : (t : tables.IdContents) (s : SchemaDef) (k : ℕ) → schema_place (ids_in t) s ≡ Some k → At t.schemas k s
 schema_stands t s k e =
     let there = found (same_schema (fields_of_schema s)) (map fields_of_schema t.schemas) k e in
     let (x, at, same) = map_at fields_of_schema t.schemas k there.element there.at in
@@ -33,23 +33,23 @@ schema_stands t s k e =
     subst (At t.schemas k) (sym is) at
 
 -- and a schema that stands is found
-pub schema_missed : (t : tables.Ids) (s : SchemaDef) → schema_place (ids_in t) s ≡ None → Lacks t.schemas s
+pub schema_missed : (t : tables.IdContents) (s : SchemaDef) → schema_place (ids_in t) s ≡ None → Lacks t.schemas s
 schema_missed t s e n at = not_found (same_schema (fields_of_schema s)) (map fields_of_schema t.schemas) e n (fields_of_schema s) (at_map fields_of_schema t.schemas n s at) (schema_own (fields_of_schema s))
 
-pub schema_lacking : (t : tables.Ids) (s : SchemaDef) (place : Option ℕ) → schema_place (ids_in t) s ≡ place → Lacks t.schemas s → place ≡ None
+pub schema_lacking : (t : tables.IdContents) (s : SchemaDef) (place : Option ℕ) → schema_place (ids_in t) s ≡ place → Lacks t.schemas s → place ≡ None
 schema_lacking t s None e lacks = refl
 schema_lacking t s (Some k) e lacks = absurd (lacks k (schema_stands t s k e))
 
-pub schema_found : (t : tables.Ids) (s : SchemaDef) (n : ℕ) (place : Option ℕ) → schema_place (ids_in t) s ≡ place → At t.schemas n s → (k : ℕ) × (place ≡ Some k) × At t.schemas k s
+pub schema_found : (t : tables.IdContents) (s : SchemaDef) (n : ℕ) (place : Option ℕ) → schema_place (ids_in t) s ≡ place → At t.schemas n s → (k : ℕ) × (place ≡ Some k) × At t.schemas k s
 schema_found t s n None e at = absurd (schema_missed t s e n at)
 schema_found t s n (Some k) e at = (k, refl, schema_stands t s k e)
 
 -- ---- equal ids are equal schemas
 
-known_below : (t : tables.Ids) (s : SchemaDef) (k : ℕ) → At t.schemas k s → k < length (map fields_of_schema t.schemas)
+known_below : (t : tables.IdContents) (s : SchemaDef) (k : ℕ) → At t.schemas k s → k < length (map fields_of_schema t.schemas)
 known_below t s k at = at_within (map fields_of_schema t.schemas) k (fields_of_schema s) (at_map fields_of_schema t.schemas k s at)
 
-one_schema : (t : tables.Ids) (s other : SchemaDef) (k : ℕ) (place : Option ℕ) → At t.schemas k other → schema_place (ids_in t) s ≡ place
+one_schema : (t : tables.IdContents) (s other : SchemaDef) (k : ℕ) (place : Option ℕ) → At t.schemas k other → schema_place (ids_in t) s ≡ place
     → id_at place (length (map fields_of_schema t.schemas)) ≡ k + 1 → s ≡ other
 one_schema t s other k (Some j) at e same =
     let is : j ≡ k = omega (arith, same) in
@@ -60,7 +60,7 @@ id_some : (place : Option ℕ) (count : ℕ) → id_at place count ≡ 0 → ⊥
 id_some (Some k) count e = omega (arith, e)
 id_some None count e = omega (arith, e)
 
-same_schemas : (t : tables.Ids) (one other : Option SchemaDef) → HasSchema t.schemas other → schema_id (ids_in t) one ≡ schema_id (ids_in t) other → one ≡ other
+same_schemas : (t : tables.IdContents) (one other : Option SchemaDef) → SchemaHasId t.schemas other → schema_id (ids_in t) one ≡ schema_id (ids_in t) other → one ≡ other
 same_schemas t None None has e = refl
 same_schemas t None (Some s) has e = absurd (id_some (schema_place (ids_in t) s) (length (map fields_of_schema t.schemas)) (sym e))
 same_schemas t (Some s) None has e = absurd (id_some (schema_place (ids_in t) s) (length (map fields_of_schema t.schemas)) e)
@@ -74,15 +74,15 @@ same_schemas t (Some s) (Some other) has e =
 abbrev channel_def : ChannelFields → Option SchemaDef → ChannelDef
 channel_def f schema = record { topic = f.topic; message_encoding = f.encoding; metadata = f.metadata; schema = schema }
 
-channel_back : (t : tables.Ids) (c d : ChannelDef) → HasSchema t.schemas d.schema → fields_of_channel (ids_in t) c ≡ fields_of_channel (ids_in t) d → c ≡ d
+channel_back : (t : tables.IdContents) (c d : ChannelDef) → SchemaHasId t.schemas d.schema → fields_of_channel (ids_in t) c ≡ fields_of_channel (ids_in t) d → c ≡ d
 channel_back t c d has e =
     let schema : c.schema ≡ d.schema = same_schemas t c.schema d.schema has (ap (λ (f : ChannelFields). f.schema) e) in
     ap (λ (f : ChannelFields). channel_def f c.schema) e ∙ ap (λ (o : Option SchemaDef). channel_def (fields_of_channel (ids_in t) d) o) schema
 
-abbrev contents : tables.Ids → List ChannelFields
+abbrev contents : tables.IdContents → List ChannelFields
 contents t = map (content_in (map fields_of_schema t.schemas)) t.channels
 
-channel_stands : (t : tables.Ids) (c : ChannelDef) (k : ℕ) → HasSchemas t → channel_place (ids_in t) c ≡ Some k → At t.channels k c
+channel_stands : (t : tables.IdContents) (c : ChannelDef) (k : ℕ) → HasSchemas t → channel_place (ids_in t) c ≡ Some k → At t.channels k c
 channel_stands t c k has e =
     let f = fields_of_channel (ids_in t) c in
     let there = found (same_channel f) (contents t) k e in
@@ -90,13 +90,13 @@ channel_stands t c k has e =
     let is : c ≡ d = channel_back t c d (has k d at) (channel_same f there.element there.passes ∙ sym same) in
     subst (At t.channels k) (sym is) at
 
-pub channel_missed : (t : tables.Ids) (c : ChannelDef) → channel_place (ids_in t) c ≡ None → Lacks t.channels c
+pub channel_missed : (t : tables.IdContents) (c : ChannelDef) → channel_place (ids_in t) c ≡ None → Lacks t.channels c
 channel_missed t c e n at =
     let f = fields_of_channel (ids_in t) c in
     not_found (same_channel f) (contents t) e n f (at_map (content_in (map fields_of_schema t.schemas)) t.channels n c at) (channel_own f)
 
 -- what is found in the table
-id_by : (t : tables.Ids) (c : ChannelDef) (place id : Option ℕ) → HasSchemas t → EachOnce t.channels → channel_place (ids_in t) c ≡ place → Found t.channels c id → IsIdAt place id
+id_by : (t : tables.IdContents) (c : ChannelDef) (place id : Option ℕ) → HasSchemas t → EachOnce t.channels → channel_place (ids_in t) c ≡ place → Found t.channels c id → IsIdAt place id
 id_by t c None None has once e is = tt
 id_by t c None (Some id) has once e is = channel_missed t c e (id - 1) is.1
 id_by t c (Some k) None has once e is = is k (channel_stands t c k has e)
@@ -104,12 +104,12 @@ id_by t c (Some k) (Some id) has once e is =
     let same : k ≡ id - 1 = once k (id - 1) c (channel_stands t c k has e) is.1 in
     omega (arith, same, is.0)
 
-pub id_found : (t : tables.Ids) (c : ChannelDef) (id : Option ℕ) → HasSchemas t → EachOnce t.channels → Found t.channels c id → IsIdAt (channel_place (ids_in t) c) id
+pub id_found : (t : tables.IdContents) (c : ChannelDef) (id : Option ℕ) → HasSchemas t → EachOnce t.channels → Found t.channels c id → IsIdAt (channel_place (ids_in t) c) id
 id_found t c id has once is = id_by t c (channel_place (ids_in t) c) id has once refl is
 
 -- ---- a schema that another channel has
 
-schema_under : (t : tables.Ids) (one schema : Option SchemaDef) → HasSchema t.schemas one → IsSchemaAt (ids_in t) (schema_id (ids_in t) one) schema → one ≡ schema
+schema_under : (t : tables.IdContents) (one schema : Option SchemaDef) → SchemaHasId t.schemas one → IsSchemaAt (ids_in t) (schema_id (ids_in t) one) schema → one ≡ schema
 schema_under t None None has is = refl
 schema_under t None (Some s) has is = absurd (omega (arith, is.0))
 schema_under t (Some x) None has is = absurd (id_some (schema_place (ids_in t) x) (length (map fields_of_schema t.schemas)) is)
@@ -121,7 +121,7 @@ schema_under t (Some x) (Some s) has is =
     let one : x ≡ y = at_one t.schemas k x y at (subst (λ (n : ℕ). At t.schemas n y) here there) in
     ap {B = Option SchemaDef} Some (one ∙ schema_back y s same)
 
-pub shares : (t : tables.Ids) (schema : Option SchemaDef) (like : ℕ) → HasSchemas t → HasSchemaOf (ids_in t) schema like → SharesSchema t schema like
+pub shares : (t : tables.IdContents) (schema : Option SchemaDef) (like : ℕ) → HasSchemas t → HasSchemaOf (ids_in t) schema like → SharesSchema t schema like
 shares t schema like has it =
     let (c, at, same) = map_at (content_in (map fields_of_schema t.schemas)) t.channels (like - 1) it.content it.there in
     record {

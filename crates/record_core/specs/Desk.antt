@@ -11,7 +11,7 @@ use Rattle.mcap_model.specs.declared.ends.Stop.{Stop}
 use Rattle.mcap_model.specs.declared.ends.Stop.TheVariants.{Fault, Limit, Memory}
 use Rattle.mcap_model.specs.Fields.{MessageFields}
 use Rattle.mcap_model.specs.History.{schema_of, channel_of, message_of, history_bytes}
-use Rattle.record_core.specs.Ids.{Ids, no_ids, with_ids, is_known, fields_of_schema, fields_with, channel_place, channel_id, new_records}
+use Rattle.record_core.specs.Ids.{Ids, no_ids, with_ids, is_known_channel, fields_of_schema, fields_with, channel_place, channel_id, new_records}
 use Rattle.record_core.specs.Tables.{ids_lack}
 use Rattle.record_core.specs.declared.answers.PublishRefused.{PublishRefused}
 use Rattle.record_core.specs.declared.answers.PublishRefused.TheVariants as publishing
@@ -42,33 +42,33 @@ abbrev pub accepted : DeskView → ℕ
 accepted d = d.taken + length d.primary
 
 -- how many bytes the records in the buffer have
-abbrev pub held : DeskView → ℕ
-held d = length (history_bytes d.primary)
+abbrev pub bytes_held : DeskView → ℕ
+bytes_held d = length (history_bytes d.primary)
 
 -- with these records more
-abbrev pub added : DeskView → List Rec → DeskView
-added d records = record d { primary = d.primary ++ records; ids = with_ids d.ids records }
+abbrev pub with_more_records : DeskView → List Rec → DeskView
+with_more_records d records = record d { primary = d.primary ++ records; ids = with_ids d.ids records }
 
 -- with an empty buffer
 abbrev pub swapped : DeskView → DeskView
 swapped d = record d { taken = accepted d; primary = [] }
 
 -- with this end, unless one stands
-abbrev pub end_or : Option (End × ℕ) → End → ℕ → Option (End × ℕ)
-end_or None end at = Some (end, at)
-end_or (Some e) end at = Some e
+abbrev pub end_unless : Option (End × ℕ) → End → ℕ → Option (End × ℕ)
+end_unless None end at = Some (end, at)
+end_unless (Some e) end at = Some e
 
 abbrev pub ended : DeskView → End → DeskView
-ended d end = record d { end = end_or d.end end (accepted d) }
+ended d end = record d { end = end_unless d.end end (accepted d) }
 
 -- ---- publishing
 
 -- why a message is refused where nothing before these reasons refuses it
 abbrev pub publish_open : DeskView → ℕ → Option PublishRefused
 publish_open d channel =
-    if is_known d.ids channel
+    if is_known_channel d.ids channel
     then (if nat_le record_count_limit (accepted d) then Some (publishing.TooManyRecords (accepted d))
-    else (if nat_le d.limit (held d) then Some (publishing.Full (held d)) else None))
+    else (if nat_le d.limit (bytes_held d) then Some (publishing.Full (bytes_held d)) else None))
     else Some publishing.UnknownChannel
 
 abbrev pub publish_ended : Option (End × ℕ) → DeskView → ℕ → Option PublishRefused
@@ -93,7 +93,7 @@ declared_size c = schema_size c.schema + length (rec_bytes (channel_of 0 (fields
 abbrev pub declare_new : DeskView → ChannelDef → Option DeclareRefused
 declare_new d c =
     if nat_le record_count_limit (accepted d) then Some (declaring.TooManyRecords (accepted d))
-    else (if nat_le d.limit (held d) then Some (declaring.Full (held d)) else ids_lack d.ids c)
+    else (if nat_le d.limit (bytes_held d) then Some (declaring.Full (bytes_held d)) else ids_lack d.ids c)
 
 abbrev pub declare_at : Option ℕ → DeskView → ChannelDef → Option DeclareRefused
 declare_at (Some place) d c = None
@@ -115,14 +115,14 @@ fields_of_message m = record { sequence = m.sequence; log_time = m.log_time; pub
 
 -- A message is refused for the first reason that there is, and then nothing changes, or it is added and its place answered.
 abbrev pub Published : DeskView → ℕ → MessageFields → Result ℕ PublishRefused → DeskView → Type 0
-Published d channel m (Ok place) after = (publish_refusal d channel (length m.payload) ≡ None) × (place ≡ accepted d) × (after ≡ added d (message_of channel m ∷ []))
+Published d channel m (Ok place) after = (publish_refusal d channel (length m.payload) ≡ None) × (place ≡ accepted d) × (after ≡ with_more_records d (message_of channel m ∷ []))
 Published d channel m (Err refusal) after = (publish_refusal d channel (length m.payload) ≡ Some refusal) × (after ≡ d)
 
 -- The same of a declaration, which answers the channel's id and the places of the records that are added. Memory for the ids
 -- of a new content may lack, only where there is no other reason, and then too nothing changes.
 abbrev pub DeclaredBy : DeskView → ChannelDef → Result Declared DeclareRefused → DeskView → Type 0
 DeclaredBy d c (Ok given) after = (declare_refusal d c ≡ None) × (given.channel ≡ channel_id d.ids c) × (given.first ≡ accepted d)
-    × (given.count ≡ length (new_records d.ids c)) × (after ≡ added d (new_records d.ids c))
+    × (given.count ≡ length (new_records d.ids c)) × (after ≡ with_more_records d (new_records d.ids c))
 DeclaredBy d c (Err declaring.Memory) after = (declare_refusal d c ≡ None) × (channel_place d.ids c ≡ None) × (after ≡ d)
 DeclaredBy d c (Err refusal) after = (declare_refusal d c ≡ Some refusal) × (after ≡ d)
 
@@ -131,12 +131,12 @@ abbrev pub first_of : Option (End × ℕ) → Option End
 first_of None = None
 first_of (Some (end, at)) = Some end
 
-abbrev pub end_of : DeskView → Option End
-end_of d = first_of d.end
+abbrev pub desk_end : DeskView → Option End
+desk_end d = first_of d.end
 
 -- the end stands, and was set at that place
-abbrev pub EndsAt : DeskView → ℕ → Type 0
-EndsAt d at = (end : End) × (d.end ≡ Some (end, at))
+abbrev pub EndIsSetAt : DeskView → ℕ → Type 0
+EndIsSetAt d at = (end : End) × (d.end ≡ Some (end, at))
 
 -- where an end stands, nothing was accepted behind it
 abbrev pub EndIsLast : DeskView → Type 0
@@ -151,7 +151,7 @@ IsCause Memory = Unit {0}
 -- the buffer that is given away, or nothing where it holds nothing
 abbrev pub SwapAnswered : DeskView → Result Buffer Empty → DeskView → Type 0
 SwapAnswered d (Ok full) after = (full ≡ record { limit = d.limit; records = d.primary }) × (d.primary ≡ [] → ⊥) × (after ≡ swapped d)
-SwapAnswered d (Err empty) after = (d.primary ≡ []) × (empty.cache ≡ record { limit = d.limit; records = [] }) × (empty.end ≡ end_of d) × (empty.at ≡ accepted d) × (after ≡ d)
+SwapAnswered d (Err empty) after = (d.primary ≡ []) × (empty.cache ≡ record { limit = d.limit; records = [] }) × (empty.end ≡ desk_end d) × (empty.at ≡ accepted d) × (after ≡ d)
 
 abbrev pub found_of : DeskView → Found
-found_of d = record { taken = d.taken; count = accepted d; held = held d; schemas = length d.ids.schemas; channels = length d.ids.channels; end = end_of d }
+found_of d = record { taken = d.taken; count = accepted d; held = bytes_held d; schemas = length d.ids.schemas; channels = length d.ids.channels; end = desk_end d }

@@ -5,10 +5,10 @@ use Rattle.record_core.specs.declared.desk.Desk.TheInside.{Inside}
 use Rattle.record_core.specs.Desk.{DeskView, EndIsLast}
 use Rattle.record_core.specs.Tables.{ids_in, HasSchemas}
 
-abbrev pub view_of : Inside → DeskView
-view_of d = record { limit = d.primary.limit; taken = d.taken; primary = d.primary.records; end = d.end; ids = ids_in d.ids }
+abbrev pub desk_seen : Inside → DeskView
+desk_seen d = record { limit = d.primary.limit; taken = d.taken; primary = d.primary.records; end = d.end; ids = ids_in d.ids }
 
 pub record IsDesk (d : Inside) : Type 0 where
   pub few : d.taken + length d.primary.records ≤ record_count_limit + 1
   pub schemas : HasSchemas d.ids
-  pub last : EndIsLast (view_of d)
+  pub last : EndIsLast (desk_seen d)

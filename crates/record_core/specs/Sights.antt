@@ -8,7 +8,7 @@ use Rattle.record_core.specs.declared.desk.Sight.{Sight}
 use Rattle.record_core.specs.declared.desk.Sight.TheVariants.{Refused, Known, New}
 use Rattle.record_core.specs.Ids.{channel_place}
 use Rattle.record_core.specs.Tables.{IsIdAt, ids_lack}
-use Rattle.record_core.specs.Desk.{DeskView, held, accepted, declare_refusal, declared_size}
+use Rattle.record_core.specs.Desk.{DeskView, bytes_held, accepted, declare_refusal, declared_size}
 use Rattle.rec_data.specs.declared.owned.Rec.{Rec}
 use Rattle.record_cache.specs.declared.cache.Full.{Full}
 use Rattle.rec_data.specs.Owned.{rec_bytes, RecFits}
@@ -28,11 +28,11 @@ pub record DefFits (c : ChannelDef) : Type 0 where
   pub metadata : length (pair_texts c.metadata) < 2 ^ 32
 
 -- only ids and memory may lack
-pub record IsOpen (d : DeskView) (c : ChannelDef) : Type 0 where
+pub record OnlyIdsLack (d : DeskView) (c : ChannelDef) : Type 0 where
   pub refusal : declare_refusal d c ≡ ids_lack d.ids c
   pub is_new : channel_place d.ids c ≡ None
   pub small : declared_size c ≤ declaration_limit
-  pub room : held d < d.limit
+  pub room : bytes_held d < d.limit
   pub few : accepted d < record_count_limit
 
 -- What is seen of a declaration before ids are given: that it is refused, that its content has an id, or that the content is new and
@@ -40,7 +40,7 @@ pub record IsOpen (d : DeskView) (c : ChannelDef) : Type 0 where
 abbrev pub SightOf : DeskView → ChannelDef → Sight → Type 0
 SightOf d c (Refused refusal) = declare_refusal d c ≡ Some refusal
 SightOf d c (Known id) = (declare_refusal d c ≡ None) × IsIdAt (channel_place d.ids c) (Some id)
-SightOf d c New = IsOpen d c
+SightOf d c New = OnlyIdsLack d c
 
 -- what is counted and added to a buffer, or why nothing is
 abbrev pub CountedOffer : Buffer → List Rec → Result ℕ Full → Buffer → Type 0

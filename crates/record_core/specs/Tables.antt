@@ -24,17 +24,17 @@ abbrev pub content_in : List SchemaFields → ChannelDef → ChannelFields
 content_in schemas c = fields_of_channel (record { schemas = schemas; channels = [] }) c
 
 -- the ids that a table gives, as those of a history
-abbrev pub ids_in : tables.Ids → Ids
+abbrev pub ids_in : tables.IdContents → Ids
 ids_in t = record { schemas = map fields_of_schema t.schemas; channels = map (content_in (map fields_of_schema t.schemas)) t.channels }
 
 -- the schema has an id, if there is one
-abbrev pub HasSchema : List SchemaDef → Option SchemaDef → Type 0
-HasSchema schemas None = Unit {0}
-HasSchema schemas (Some s) = Has schemas s
+abbrev pub SchemaHasId : List SchemaDef → Option SchemaDef → Type 0
+SchemaHasId schemas None = Unit {0}
+SchemaHasId schemas (Some s) = Has schemas s
 
 -- the schema of each channel in the table has an id
-abbrev pub HasSchemas : tables.Ids → Type 0
-HasSchemas t = Each (λ c. HasSchema t.schemas c.schema) t.channels
+abbrev pub HasSchemas : tables.IdContents → Type 0
+HasSchemas t = Each (λ c. SchemaHasId t.schemas c.schema) t.channels
 
 -- ---- what it gives
 
@@ -80,7 +80,7 @@ IdsDeclared ids c (Err TooManySchemas) after = (ids_lack ids c ≡ Some declarin
 IdsDeclared ids c (Err TooManyChannels) after = (ids_lack ids c ≡ Some declaring.TooManyChannels) × (after ≡ ids)
 
 -- how many ids there are at most
-pub record IsTable (ids : Ids) : Type 0 where
+pub record HasFewIds (ids : Ids) : Type 0 where
   pub few_schemas : length ids.schemas ≤ id_limit
   pub few_channels : length ids.channels ≤ id_limit
 
@@ -105,9 +105,9 @@ MayShare ids schema (Some like) = HasSchemaOf ids schema like
 
 -- ---- parts of a declaration
 
-abbrev pub number_of : Given → ℕ
-number_of (Known id) = id
-number_of (New id) = id
+abbrev pub id_given : Given → ℕ
+id_given (Known id) = id
+id_given (New id) = id
 
 -- the id of a schema that was given, or 0
 abbrev pub id_of : Option Given → ℕ

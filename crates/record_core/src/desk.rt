@@ -2,14 +2,14 @@
 ghost use Rattle.std.specs.Prelude.{◌≡◌, ◌≤◌, ◌<◌, ◌+◌, [], ◌∷◌, length, None, true, IfOk, OnOk};
 ghost use Rattle.mcap_wire.specs.Limits.{buffer_limit, data_limit, record_count_limit};
 ghost use Rattle.mcap_model.specs.declared.ends.End.TheVariants.{Closed, Stopped};
-ghost use Rattle.record_core.specs.Ids.{is_known};
-ghost use Rattle.record_core.specs.Tables.{IsTable, MayShare};
-ghost use Rattle.record_core.specs.Desk.{new_desk, accepted, held, added, swapped, ended, fields_of_message, publish_refusal, Published, SwapAnswered, EndIsLast, EndsAt, IsCause, end_of, found_of, DeclaredBy};
+ghost use Rattle.record_core.specs.Ids.{is_known_channel};
+ghost use Rattle.record_core.specs.Tables.{HasFewIds, MayShare};
+ghost use Rattle.record_core.specs.Desk.{new_desk, accepted, bytes_held, with_more_records, swapped, ended, fields_of_message, publish_refusal, Published, SwapAnswered, EndIsLast, EndIsSetAt, IsCause, desk_end, found_of, DeclaredBy};
 ghost use Rattle.mcap_model.specs.History.{message_of};
 ghost use Rattle.record_cache.specs.Offers.{Offered};
 ghost use Rattle.record_core.specs.Machine.{start, swap, close, stop};
-ghost use Rattle.record_core.specs.Sights.{DefFits, IsOpen, SightOf};
-ghost use Rattle.record_core.specs.Stands.{DeskStandsFor, Steps, Stays, PublishSteps, DeclareSteps};
+ghost use Rattle.record_core.specs.Sights.{DefFits, OnlyIdsLack, SightOf};
+ghost use Rattle.record_core.specs.Stands.{DeskStandsFor, DeskSteps, Stays, PublishSteps, DeclareSteps};
 
 use crate::answers::{DeclareRefused, Declared, Empty, Found, NewMessage, PublishRefused};
 use crate::framing::{declared_size, offer_declared};
@@ -39,9 +39,9 @@ impl Model for Desk {
 
     ghost Value = { DeskView };
 
-    ghost use Rattle.record_core.specs.Holding.{view_of, IsDesk};
+    ghost use Rattle.record_core.specs.Holding.{desk_seen, IsDesk};
 
-    ghost view = { view_of };
+    ghost view = { desk_seen };
 
     ghost invariant = { IsDesk };
 }
@@ -89,7 +89,7 @@ impl Desk {
 
     /// How many bytes the buffer's records have.
     pub fn held(&self) -> u64
-        ensures { result ≡ held self.now }
+        ensures { result ≡ bytes_held self.now }
     {
         self.primary.held()
     }
@@ -149,7 +149,7 @@ impl Desk {
         ensures answer { Published self.old m.now.channel (fields_of_message m.now) result self.new }
         ensures steps { PublishSteps self.old m.now.channel (fields_of_message m.now) self.new }
         ensures unended { OnOk result (self.old.end ≡ None) }
-        ensures known { OnOk result (is_known self.old.ids m.now.channel ≡ true) }
+        ensures known { OnOk result (is_known_channel self.old.ids m.now.channel ≡ true) }
         ensures last { EndIsLast self.old }
     {
         self.accept(m)
@@ -191,7 +191,7 @@ impl Desk {
     fn give(&mut self, channel: &ChannelDef, like: Option<u16>) -> Result<Declared, DeclareRefused>
         requires fits { DefFits channel.now }
         requires shares { MayShare self.old.ids channel.now.schema like }
-        requires is_open { IsOpen self.old channel.now }
+        requires is_open { OnlyIdsLack self.old channel.now }
         ensures { DeclaredBy self.old channel.now result self.new }
     {
         let first = self.count();
@@ -245,7 +245,7 @@ impl Desk {
         ensures answer { DeclaredBy self.old channel.now result self.new }
         ensures steps { DeclareSteps self.old channel.now result self.new }
         ensures unended { OnOk result (self.old.end ≡ None) }
-        ensures few { IsTable self.new.ids }
+        ensures few { HasFewIds self.new.ids }
         ensures last { EndIsLast self.old }
     {
         self.declare_sharing(channel, None)
@@ -262,7 +262,7 @@ impl Desk {
         ensures answer { DeclaredBy self.old channel.now result self.new }
         ensures steps { DeclareSteps self.old channel.now result self.new }
         ensures unended { OnOk result (self.old.end ≡ None) }
-        ensures few { IsTable self.new.ids }
+        ensures few { HasFewIds self.new.ids }
         ensures last { EndIsLast self.old }
     {
         let _pairs = channel.metadata.as_slice();
@@ -276,7 +276,7 @@ impl Desk {
     pub fn swap(&mut self, empty: Cache) -> Result<Cache, Empty>
         requires { empty ≡ record { limit = self.old.limit; records = [] } }
         ensures answer { SwapAnswered self.old result self.new }
-        ensures steps { Steps self.old swap self.new }
+        ensures steps { DeskSteps self.old swap self.new }
     {
         let count = self.primary.count();
         if count == 0 {
@@ -293,7 +293,7 @@ impl Desk {
     // Sets the end where none stands, and answers its place.
     fn end_with(&mut self, end: End) -> u64
         ensures answer { self.new ≡ ended self.old end }
-        ensures at { EndsAt self.new result }
+        ensures at { EndIsSetAt self.new result }
     {
         if let Some((_, at)) = self.end {
             return at;
@@ -306,8 +306,8 @@ impl Desk {
     /// Closes the intake where no end stands, and answers the place of the end.
     pub fn close(&mut self) -> u64
         ensures answer { self.new ≡ ended self.old Closed }
-        ensures at { EndsAt self.new result }
-        ensures steps { Steps self.old close self.new }
+        ensures at { EndIsSetAt self.new result }
+        ensures steps { DeskSteps self.old close self.new }
     {
         self.end_with(End::Closed)
     }
@@ -316,15 +316,15 @@ impl Desk {
     pub fn stop(&mut self, reason: Stop) -> u64
         requires { IsCause reason }
         ensures answer { self.new ≡ ended self.old (Stopped reason) }
-        ensures at { EndsAt self.new result }
-        ensures steps { Steps self.old (stop reason) self.new }
+        ensures at { EndIsSetAt self.new result }
+        ensures steps { DeskSteps self.old (stop reason) self.new }
     {
         self.end_with(End::Stopped { stop: reason })
     }
 
     /// The end, if one stands.
     pub fn end(&self) -> Option<End>
-        ensures end { result ≡ end_of self.now }
+        ensures end { result ≡ desk_end self.now }
         ensures last { EndIsLast self.now }
     {
         match self.end {

@@ -1,8 +1,8 @@
 //! The ids of a desk: a table of contents, seen as the ids of a history.
 ghost use Rattle.std.specs.Prelude.{◌≡◌, None, IfOk, IfErr, OnErr};
-ghost use Rattle.id_table.specs.Given.{Declares, Refuses};
+ghost use Rattle.id_table.specs.Given.{Declares, RefusesIds};
 ghost use Rattle.record_core.specs.Ids.{channel_place};
-ghost use Rattle.record_core.specs.Tables.{ids_in, HasSchemas, IsIdAt, IdsDeclared, MayShare, number_of, id_of};
+ghost use Rattle.record_core.specs.Tables.{ids_in, HasSchemas, IsIdAt, IdsDeclared, MayShare, id_given, id_of};
 
 use id_table::{Given, GivenIds, IdRefused, IdTable};
 use rec_data::ChannelDef;
@@ -29,7 +29,7 @@ fn declare(
     requires shares { MayShare (ids_in table.old) channel.now.schema like }
     ensures ok { IfOk result (λ given. Declares table.old channel.now given table.new) }
     ensures err { OnErr result (table.new ≡ table.old) }
-    ensures why { IfErr result (Refuses table.old channel.now) }
+    ensures why { IfErr result (RefusesIds table.old channel.now) }
 {
     match like {
         None => return table.declare(channel),
@@ -83,7 +83,7 @@ pub fn id_of(given: &Option<Given>) -> u16
 
 /// The id.
 pub fn number_of(given: &Given) -> u16
-    ensures { result ≡ number_of given.now }
+    ensures { result ≡ id_given given.now }
 {
     match given {
         Given::Known(id) => return *id,

@@ -12,8 +12,8 @@ use Rattle.record_walk.specs.declared.heads.MessageHead.{MessageHead}
 -- ---- heads
 
 -- the id of the channel in a Message's content, at its front
-abbrev pub channel_in : List ℕ → ℕ
-channel_in content = number (take 2 content)
+abbrev pub channel_id_in : List ℕ → ℕ
+channel_id_in content = number (take 2 content)
 
 -- the log time in a Message's content, which stands behind a number of two bytes and one of four
 abbrev pub time_in : List ℕ → ℕ
@@ -24,7 +24,7 @@ abbrev pub is_headed : Top → Bool
 is_headed t = is_message_top t && nat_le 22 (length t.content)
 
 abbrev pub head_of : Placed → MessageHead
-head_of p = record { channel = channel_in p.top.content; time = time_in p.top.content; offset = p.place.inner }
+head_of p = record { channel = channel_id_in p.top.content; time = time_in p.top.content; offset = p.place.inner }
 
 -- the head of the Message that stands at a place, if one does
 abbrev pub heads_at : Placed → List MessageHead
@@ -36,7 +36,7 @@ heads_in bytes = flat_map heads_at (placed_inside 0 0 (records_in bytes))
 
 -- the head of the record at that offset, if it is a Message of its layout
 abbrev pub HeadIs : Top → ℕ → Option MessageHead → Type 0
-HeadIs t offset (Some head) = (is_headed t ≡ true) × (head ≡ record { channel = channel_in t.content; time = time_in t.content; offset = offset })
+HeadIs t offset (Some head) = (is_headed t ≡ true) × (head ≡ record { channel = channel_id_in t.content; time = time_in t.content; offset = offset })
 HeadIs t offset None = is_headed t ≡ false
 
 -- ---- where the records of a chunk lie

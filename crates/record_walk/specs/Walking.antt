@@ -10,7 +10,7 @@ use Rattle.mcap_model.specs.declared.refusals.ReadingRefused.{ReadingRefused}
 use Rattle.mcap_model.specs.Tops.{Top, Placed, records_in, placed_inside, walked}
 use Rattle.mcap_model.specs.Rules.{V6, V10}
 use Rattle.mcap_model.specs.Made.{top}
-use Rattle.mcap_scan.specs.Scanning.{Stands, content_of, tables_of, offset_of, IsGoing, Finds, Refuses, IsDone, KeptBy, HandsOut}
+use Rattle.mcap_scan.specs.Scanning.{Stands, content_of, tables_of, next_offset, IsGoing, FindsEnd, Refuses, IsDone, KeptBy, HandsOut}
 use Rattle.record_walk.specs.declared.flat_reader.FlatReader.{FlatReader}
 use Rattle.record_walk.specs.declared.flat_reader.FlatStep.{FlatStep}
 use Rattle.record_walk.specs.declared.flat_reader.FlatStep.TheVariants as steps
@@ -79,7 +79,7 @@ pub record FlatGives (flat : FlatReader) (before now : SourceState) (was : List 
 pub record FlatFinds (flat : FlatReader) (before now : SourceState) (was : List Top) (given : List Placed) (offset : ℕ) : Type 0 where
   pub tops : List Top
   pub same : tops ≡ was
-  pub finds : Finds flat.reader before now tops offset
+  pub finds : FindsEnd flat.reader before now tops offset
   pub whole : given ≡ walked tops
   pub stands : FlatStands flat before now tops given
 
@@ -98,7 +98,7 @@ FlatAdvanced flat before now was given steps.Refused = FlatRefuses flat before n
 
 -- how much a reader can still go on, so that a reading ends
 abbrev pub flat_left : FlatReader → ℕ
-flat_left flat = (file_limit - offset_of flat.reader) * 2 ^ 64 + (flat.to - flat.at)
+flat_left flat = (file_limit - next_offset flat.reader) * 2 ^ 64 + (flat.to - flat.at)
 
 -- a record that is given moves the reader on
 abbrev pub FlatMoves : ℕ → ℕ → FlatStep → Type 0

@@ -11,18 +11,18 @@ use Rattle.mcap_model.specs.declared.ends.Stop.{Stop}
 use Rattle.mcap_model.specs.Places.{At, Has}
 use Rattle.mcap_model.proofs.Places.{at_none}
 use Rattle.record_core.specs.declared.answers.Found.{Found}
-use Rattle.feed_lane.specs.Pass.{PassState, Reason, placed_from}
+use Rattle.feed_lane.specs.Pass.{PassState, Reason, with_places}
 use Rattle.feed_lane.specs.Lanes.{IsGiven}
 use Rattle.feed_lane.specs.Feeds.{reported}
 use Rattle.buffer_swap.specs.Shown.{ShownBy, ShownTo}
 use Rattle.buffer_swap.specs.Plays.{Unclosed, Met}
 use Rattle.buffer_swap.specs.Posts.{Gathered, Post}
-use Rattle.buffer_swap.specs.Calls.{reasoned, IsOver}
+use Rattle.buffer_swap.specs.Calls.{reasoned, DrainIsOver}
 use Rattle.buffer_swap.specs.Laws.{PlacesKnown, PlacesAreKnown}
 use Rattle.recorder.proofs.Collecting.{partner}
 use Rattle.recorder.specs.Assembled.{LanePart, LanePartStands, Assembled}
 use Rattle.recorder.specs.Recorded.{FeedRecorded, lane_of}
-use Rattle.recorder.specs.Lanes.{AreKnown, LanesRan}
+use Rattle.recorder.specs.Lanes.{ControlKnows, LanesRan}
 use Rattle.recorder.specs.declared.report.Report.{Report}
 use Rattle.recorder.specs.Onto.{IsReported}
 
@@ -64,7 +64,7 @@ shown_by history end last p reasons shown unclosed stops = record {
 abbrev placed : ℕ → Rec → ℕ × Rec
 placed n r = (n, r)
 
-own_at : (added : List Rec) (first place : ℕ) → first ≤ place → place < first + length added → (n : ℕ) × (r : Rec) × At (placed_from first added) n (place, r)
+own_at : (added : List Rec) (first place : ℕ) → first ≤ place → place < first + length added → (n : ℕ) × (r : Rec) × At (with_places first added) n (place, r)
 own_at [] first place le lt = absurd (omega (arith, le, lt))
 own_at (r ∷ rs) first place le lt = dite (ℕ_discrete first place)
     (λ is. (zero, r, ap (λ (n : ℕ). Some (placed n r)) is))
@@ -82,7 +82,7 @@ given_own f place (inr (d, (n, at), le, lt)) =
 -- ---- the history
 
 pub assembled : PlacesAreKnown → (limit : ℕ) (feeds : List FeedRecorded) (made : ℕ) (known : List Gathered) (closed : Bool) (halt : Option Stop) (taken : List Rec) (end last : End)
-    → AreKnown limit feeds known → Met made known closed halt taken end → ((stop : Stop) → halt ≡ Some stop → last ≡ ends.Stopped stop)
+    → ControlKnows limit feeds known → Met made known closed halt taken end → ((stop : Stop) → halt ≡ Some stop → last ≡ ends.Stopped stop)
     → Assembled limit (map lane_of feeds) taken last
 assembled places_are_known limit feeds made known closed halt taken end last are met stops =
     let places : PlacesKnown known taken = places_are_known known taken met.pairs in
@@ -118,7 +118,7 @@ assembled places_are_known limit feeds made known closed halt taken end last are
     }
 
 pub is_reported : PlacesAreKnown → (limit : ℕ) (lossless listed : Bool) (before now : List SourceState) (post : Post) (pass : PassState) (drain : Post) (r : Report) → LanesRan limit lossless listed before now r.feeds.items post
-    → (end : End) × IsOver pass drain end → ((end : End) → IsOver pass drain end → Met post.made post.known post.closed drain.stop drain.taken end)
+    → (end : End) × DrainIsOver pass drain end → ((end : End) → DrainIsOver pass drain end → Met post.made post.known post.closed drain.stop drain.taken end)
     → ((stop : Stop) → drain.stop ≡ Some stop → r.writer.end ≡ ends.Stopped stop) → IsReported limit lossless before now drain.taken r
 is_reported places_are_known limit lossless listed before now post pass drain r ran (end, over) met stops = record {
   feeds = ran.feeds;

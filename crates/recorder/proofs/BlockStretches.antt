@@ -26,7 +26,7 @@ use Rattle.mcap_laws.proofs.BlockIndexes.{indexes_are}
 use Rattle.mcap_laws.proofs.StatisticsRight.{count_messages}
 use Rattle.live_entry.specs.declared.entry.Entry.{Entry}
 use Rattle.live_entry.specs.Entries.{IsEntry}
-use Rattle.live_entry.specs.Following.{Stretch, HasMessage, HasIndex, IsStretch, HasNumbers}
+use Rattle.live_entry.specs.Following.{Stretch, HasMessageOn, HasMessageIndex, IsStretch, HasNumbers}
 
 abbrev pub stretch_of : List Rec → Stretch
 stretch_of records = record { chunk = chunk_top records; indexes = map (index_top records) (logged_channels records) }
@@ -50,7 +50,7 @@ module _ (records : List Rec) (can : MakeBlock records) where
   own_shown : (k channel : ℕ) → At (logged_channels records) k channel → IsMessageIndex (index_top records channel) channel (entries_for records channel)
   own_shown k channel at = let sound = can.sound in index_shown records channel can.back (k, at) (sound.1 k channel at) sound.0
 
-  has_index : (channel : ℕ) → HasMessage (inner_tops (chunk_top records)) channel → HasIndex (stretch_of records).indexes channel
+  has_index : (channel : ℕ) → HasMessageOn (inner_tops (chunk_top records)) channel → HasMessageIndex (stretch_of records).indexes channel
   has_index channel has =
       let (r, there, same) = at_map rec_top records has.place has.top (subst (λ (l : List Top). At l has.place has.top) opened_there has.at) in
       let shown : IsMessage (rec_top r) channel has.message = subst (λ (t : Top). IsMessage t channel has.message) same has.is in
@@ -64,7 +64,7 @@ module _ (records : List Rec) (can : MakeBlock records) where
         is = own_shown k channel at;
       }
 
-  has_message : (channel : ℕ) → HasIndex (stretch_of records).indexes channel → HasMessage (inner_tops (chunk_top records)) channel
+  has_message : (channel : ℕ) → HasMessageIndex (stretch_of records).indexes channel → HasMessageOn (inner_tops (chunk_top records)) channel
   has_message channel has =
       let (id, there, same) = at_map (index_top records) (logged_channels records) has.place has.top has.at in
       let shown : IsMessageIndex (index_top records id) channel has.entries = subst (λ (t : Top). IsMessageIndex t channel has.entries) same has.is in

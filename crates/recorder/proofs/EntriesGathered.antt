@@ -8,15 +8,15 @@ use Rattle.mcap_model.specs.File.{front, blocks_from, written_of}
 use Rattle.mcap_model.proofs.OneMore.{zip_push}
 use Rattle.mcap_model.proofs.ShownMessages.{zip_joined}
 use Rattle.live_entry.specs.declared.entry.Entry.{Entry}
-use Rattle.live_entry.specs.Entries.{SeenExtents, IsEntryOf}
+use Rattle.live_entry.specs.Entries.{SeenExtents, HasBlockExtent}
 use Rattle.chunk_writer.specs.Scribes.{sure_blocks}
 use Rattle.chunk_writer.proofs.Noting.{blocks_append}
 use Rattle.recorder.specs.Entries.{IsEntryThere, seen_at, EntriesAreGathered}
 
-there : {X : Type 0} (seen : SeenExtents X) (b : ℕ × List Rec) (e : Entry X) → IsEntryOf seen e b.0 b.1 → IsEntryThere seen.tells b e
+there : {X : Type 0} (seen : SeenExtents X) (b : ℕ × List Rec) (e : Entry X) → HasBlockExtent seen e b.0 b.1 → IsEntryThere seen.tells b e
 there seen b e is = record { numbers = is.numbers; only = (let told = is.told in told.only) }
 
-all_there : {X : Type 0} (seen : SeenExtents X) (blocks : List (ℕ × List Rec)) (entries : List (Entry X)) → AllZip (λ (b : ℕ × List Rec) (e : Entry X). IsEntryOf seen e b.0 b.1) blocks entries → AllZip (IsEntryThere seen.tells) blocks entries
+all_there : {X : Type 0} (seen : SeenExtents X) (blocks : List (ℕ × List Rec)) (entries : List (Entry X)) → AllZip (λ (b : ℕ × List Rec) (e : Entry X). HasBlockExtent seen e b.0 b.1) blocks entries → AllZip (IsEntryThere seen.tells) blocks entries
 all_there seen [] [] zip = tt
 all_there seen [] (e ∷ es) zip = absurd zip
 all_there seen (b ∷ bs) [] zip = absurd zip

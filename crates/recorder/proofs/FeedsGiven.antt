@@ -16,7 +16,7 @@ use Rattle.mcap_model.specs.declared.refusals.ReadingRefused.TheVariants as refu
 use Rattle.feed_lane.specs.declared.report.FeedReport.{FeedReport}
 use Rattle.feed_lane.specs.declared.report.FeedEnd.{FeedEnd}
 use Rattle.feed_lane.specs.declared.report.FeedEnd.TheVariants as feed_ends
-use Rattle.feed_lane.specs.Lanes.{Lists, IsGiven}
+use Rattle.feed_lane.specs.Lanes.{ReportLists, IsGiven}
 use Rattle.feed_lane.specs.Feeds.{FeedEnds, reported}
 use Rattle.feed_lane.proofs.Growing.{schema_more, on_more, message_more}
 use Rattle.recorder.specs.Assembled.{LanePart, LanePartStands}
@@ -27,7 +27,7 @@ use Rattle.recorder.proofs.OneHistory.{Says, DeclaredOnce, lane_says, given_both
 
 -- ---- what was said of some records is so with more behind them
 
-says_more : (records more : List Top) (lists : Lists) (history : List Rec) → Says records lists history → Says (records ++ more) lists history
+says_more : (records more : List Top) (lists : ReportLists) (history : List Rec) → Says records lists history → Says (records ++ more) lists history
 says_more records more lists history says = record {
   accepts = λ k a at. let was = says.accepts k a at in record {
     source = was.source;
@@ -114,7 +114,7 @@ fronts bytes tops others one other = by one.begins other.begins
       | inr follows ↦ inr (follows.more, follows.longer)
     ]
 
-says_front : (tops others : List Top) (lists : Lists) (history : List Rec) → IsFront tops others → Says (flat tops) lists history → Says (flat others) lists history
+says_front : (tops others : List Top) (lists : ReportLists) (history : List Rec) → IsFront tops others → Says (flat tops) lists history → Says (flat others) lists history
 says_front tops others lists history (more, longer) says =
     subst (λ (l : List Top). Says l lists history) (sym (ap flat longer ∙ flat_map-append flattened tops more)) (says_more (flat tops) (flat more) lists history says)
 
@@ -163,9 +163,9 @@ feed_both one other k place f h at at_h same front given =
     let other_stands : LanePartStands other.options.limit its.history other.report.writer.end (lane_of h) = its.assembled.stand k (lane_of h) (map_at lane_of its.feeds k h at_h) in
     let says : Says (flat f.reports.tops) (reported f.feed) it.history = lane_says one.options.limit it.history one.report.writer.end (lane_of f) stands in
     let other_says : Says (flat h.reports.tops) (reported f.feed) its.history =
-    subst (λ (l : Lists). Says (flat h.reports.tops) l its.history) lists (lane_says other.options.limit its.history other.report.writer.end (lane_of h) other_stands) in
+    subst (λ (l : ReportLists). Says (flat h.reports.tops) l its.history) lists (lane_says other.options.limit its.history other.report.writer.end (lane_of h) other_stands) in
     let once : DeclaredOnce (flat f.reports.tops) (reported f.feed).declared = stands.fits.once in
-    let other_once : DeclaredOnce (flat h.reports.tops) (reported f.feed).declared = subst (λ (l : Lists). DeclaredOnce (flat h.reports.tops) l.declared) lists other_stands.fits.once in
+    let other_once : DeclaredOnce (flat h.reports.tops) (reported f.feed).declared = subst (λ (l : ReportLists). DeclaredOnce (flat h.reports.tops) l.declared) lists other_stands.fits.once in
     elim (fronts same.bytes f.reports.tops h.reports.tops read other_read) [
       | inl longer ↦ given_both (flat h.reports.tops) (reported f.feed) (good_lists_agree reading_limits h.reports.tops other_read.good).1 other_once
           it.history its.history place it.assembled.numbered its.assembled.numbered front (says_front f.reports.tops h.reports.tops (reported f.feed) it.history longer says) other_says given

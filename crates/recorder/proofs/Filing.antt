@@ -11,16 +11,16 @@ use Rattle.chunk_writer.specs.declared.phase.Phase.{Phase}
 use Rattle.chunk_writer.specs.declared.phase.Phase.TheVariants as phases
 use Rattle.chunk_writer.specs.declared.scribe.Scribe.{Scribe}
 use Rattle.chunk_writer.specs.Stops.{numbers, StopsAt, StopCause, Cause}
-use Rattle.chunk_writer.specs.Scribes.{Writes, store_of, phase_of, blocks_of, bytes_of}
+use Rattle.chunk_writer.specs.Scribes.{WritesHistory, store_of, phase_of, blocks_of, planned_bytes}
 use Rattle.chunk_writer.specs.Tapes.{KeepsCause, seen_store, TakesOn, EndsOn, MeetsLimit}
 use Rattle.feed_lane.specs.declared.report.FeedReport.{FeedReport}
 use Rattle.feed_lane.specs.Feeds.{ListsMessages}
 use Rattle.recorder.specs.declared.options.RecordOptions.{RecordOptions}
 use Rattle.recorder.specs.declared.report.Report.{Report}
 use Rattle.recorder.specs.declared.report.WriterReport.{WriterReport}
-use Rattle.recorder.specs.Recorded.{answer_of, Sides, sides, WriterRecorded, Recorded}
+use Rattle.recorder.specs.Recorded.{end_answer, Sides, sides, WriterRecorded, Recorded}
 use Rattle.recorder.specs.Writing.{SeenTape, seen_tape}
-use Rattle.recorder.specs.Onto.{IsWritten, IsAll, IsReported, tape_sides, RecordedOnto}
+use Rattle.recorder.specs.Onto.{TapeIsWritten, IsAll, IsReported, tape_sides, RecordedOnto}
 
 pub same_report : {a b : Report} → Some a ≡ Some b → a ≡ b
 same_report e = cc
@@ -82,9 +82,9 @@ scribe_cause state mid last first phases.Ended end is before goes kept = absurd 
 module _ {L X : Type 0} (state : L → LiveState) (tells : X → Option (List ℕ)) (size : X → ℕ) (options : RecordOptions) (sources now : List SourceState) where
   -- onto a scribe
   pub onto_scribe : (live : LiveState) (first last : Scribe L) (store : L) (history : List Rec) (report r : Report) → Some report ≡ Some r → store ≡ store_of last
-      → Writes state options.file [] live [] first → phase_of first ≡ phases.Going → (state (store_of first)).faults ≡ live.faults → IsReported options.limit options.lossless sources now history report
-      → IsWritten (seen_tape (λ before after records entries. TakesOn (seen_store state tells size) before after records entries) (λ before after closing written end. EndsOn (seen_store state tells size) before after closing written end)
-      (λ s blocks bytes. MeetsLimit state s blocks bytes) (λ s. phase_of s) (λ s. record { blocks = blocks_of s; bytes = bytes_of s }) (λ s. (state (store_of s)).faults)) first last history report.writer
+      → WritesHistory state options.file [] live [] first → phase_of first ≡ phases.Going → (state (store_of first)).faults ≡ live.faults → IsReported options.limit options.lossless sources now history report
+      → TapeIsWritten (seen_tape (λ before after records entries. TakesOn (seen_store state tells size) before after records entries) (λ before after closing written end. EndsOn (seen_store state tells size) before after closing written end)
+      (λ s blocks bytes. MeetsLimit state s blocks bytes) (λ s. phase_of s) (λ s. record { blocks = blocks_of s; bytes = planned_bytes s }) (λ s. (state (store_of s)).faults)) first last history report.writer
       → IsAll history report.writer → Recorded options (sides sources live) (sides now (state store)) r
   onto_scribe live first last store history report r is stored stands going still reported written all =
       let before = sides sources live in
@@ -92,7 +92,7 @@ module _ {L X : Type 0} (state : L → LiveState) (tells : X → Option (List �
       let grown = written.grown in
       let closed = written.ended in
       let ended = closed.file options.file [] live history (grown.grown options.file [] live [] stands) in
-      let cause = scribe_cause state written.mid last (state (store_of first)).faults (phase_of written.mid) (answer_of w.end) refl (grown.cause going) closed.cause
+      let cause = scribe_cause state written.mid last (state (store_of first)).faults (phase_of written.mid) (end_answer w.end) refl (grown.cause going) closed.cause
       (λ stop stopped. let all = closed.kept stop stopped in (all.0, all.2)) in
       let writer : WriterRecorded options.file live (state (store_of last)) history w = record {
         records = all.records;
@@ -100,7 +100,7 @@ module _ {L X : Type 0} (state : L → LiveState) (tells : X → Option (List �
         within = closed.within;
         begun = inl ended.1;
         through = ended.2;
-        cause = subst (λ (n : ℕ). Cause {X = Unit {0}} n (state (store_of last)).faults (answer_of w.end)) still cause;
+        cause = subst (λ (n : ℕ). Cause {X = Unit {0}} n (state (store_of last)).faults (end_answer w.end)) still cause;
       } in
       subst (Recorded options before (sides now (state store))) (same_report is)
       (subst (λ (l : L). Recorded options before (sides now (state l)) report) (sym stored)

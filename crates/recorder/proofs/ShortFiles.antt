@@ -12,7 +12,7 @@ use Rattle.mcap_model.specs.declared.options.FileOptions.{FileOptions}
 use Rattle.mcap_model.specs.Places.{At, Each}
 use Rattle.mcap_model.specs.Tops.{Top, top_bytes, spelled, offset_behind}
 use Rattle.mcap_model.specs.Blocks.{block, logged_channels, chunk_bytes, pieces_of}
-use Rattle.mcap_model.specs.Summary.{Noted, Group, group_bytes, groups_of, group_fields, offset_contents, footer_fields, messages_on, schemas_of, channels_of, written_statistics, statistics_content, written_index, chunk_index_content}
+use Rattle.mcap_model.specs.Summary.{Noted, Group, group_bytes, groups_of, group_fields, offset_contents, footer_of_offsets, messages_on, schemas_of, channels_of, written_statistics, statistics_content, written_index, chunk_index_content}
 use Rattle.mcap_model.specs.File.{front, file_of, noted}
 use Rattle.mcap_model.specs.Kept.{reading_limits, is_beyond}
 use Rattle.mcap_model.specs.Whole.{offset_of, IsWhole}
@@ -88,8 +88,8 @@ module _ (options : FileOptions) (history : List Rec) (written : CanBeWritten op
       (offsets_short at (groups_of n))
 
   foot_short : (chunk : Option ℕ) (at : ℕ) → IsShort (summary_foot chunk n at)
-  foot_short None at = omega (arith, length-footer_text (footer_fields 0 0 0))
-  foot_short (Some size) at = omega (arith, length-footer_text (footer_fields at (at + length (flat_map group_bytes (groups_of n))) (summary_crc n at)))
+  foot_short None at = omega (arith, length-footer_text (footer_of_offsets 0 0 0))
+  foot_short (Some size) at = omega (arith, length-footer_text (footer_of_offsets at (at + length (flat_map group_bytes (groups_of n))) (summary_crc n at)))
 
   tail_short : (chunk : Option ℕ) (at : ℕ) → Each IsShort (summary_tops chunk n at ++ summary_foot chunk n at ∷ [])
   tail_short None at = each_cons IsShort (summary_foot None n at) [] (foot_short None at) (λ k t there. absurd (at_none k t there))

@@ -27,20 +27,20 @@ pub record LaneRan (limit : ℕ) (lossless listed : Bool) (before now : SourceSt
   pub lists : ListsMessages feed listed
 
 -- a control that made so many publishers, knows none, and hasn't closed
-pub record IsFresh (post : Post) (many : ℕ) : Type 0 where
+pub record IsFreshControl (post : Post) (many : ℕ) : Type 0 where
   pub made : post.made ≡ many
   pub known : post.known ≡ []
   pub unclosed : post.closed ≡ false
 
 -- a control, a drain and a second buffer, as they are before there are lanes
 pub record AreReady (control drain : View) (spare : Buffer) : Type 0 where
-  pub fresh : IsFresh control.post 0
+  pub fresh : IsFreshControl control.post 0
   pub spare_is : spare ≡ empty_buffer drain.pass.limit
   pub none : drain.post.taken ≡ []
   pub unstopped : drain.post.stop ≡ None
 
 -- what a control knows of these feeds: their passes in the same order, none of which found a close
-pub record AreKnown (limit : ℕ) (feeds : List FeedRecorded) (known : List Gathered) : Type 0 where
+pub record ControlKnows (limit : ℕ) (feeds : List FeedRecorded) (known : List Gathered) : Type 0 where
   pub alike : InStep (λ f g. f.pass ≡ reasoned g.pass f.pass.reasons) feeds known
   pub unclosed : Each (λ g. Unclosed g.pass) known
   pub limits : Each (λ f. f.pass.limit ≡ limit) feeds
@@ -49,7 +49,7 @@ pub record AreKnown (limit : ℕ) (feeds : List FeedRecorded) (known : List Gath
 pub record LanesRan (limit : ℕ) (lossless listed : Bool) (before now : List SourceState) (reports : List FeedReport) (post : Post) : Type 0 where
   pub feeds : List FeedRecorded
   pub are : AreFeeds feeds before now reports
-  pub known : AreKnown limit feeds post.known
+  pub known : ControlKnows limit feeds post.known
   pub all : length post.known ≡ post.made
   pub unfull : lossless ≡ true → Each (λ f. f.pass.fulls ≡ []) feeds
   pub lists : Each (λ f. ListsMessages f listed) reports

@@ -57,7 +57,7 @@ abbrev pub IsWithinLimits : List ℕ → Type 0
 IsWithinLimits file = (tops : List Top) (n : ℕ) (t : Top) → IsWhole file tops → At tops n t → is_beyond reading_limits (offset_of tops n) (length t.content) ≡ false
 
 -- a file is valid, fully indexed where chunks were asked for, and within the limits of reading
-pub record IsSound (options : FileOptions) (file : List ℕ) : Type 0 where
+pub record IsSoundFile (options : FileOptions) (file : List ℕ) : Type 0 where
   pub valid : IsValid file
   pub within : IsWithinLimits file
   pub indexed : (size : ℕ) → options.chunk ≡ Some size → IsFullyIndexed file
@@ -68,8 +68,8 @@ abbrev pub RecordingsAreValid : Type 0
 RecordingsAreValid = (options : RecordOptions) (before now : Sides) (r : Report) → AreReadable options.file
     → (it : Recorded options before now r) → r.writer.end ≡ ends.Closed
     → CanBeWritten options.file [] it.history
-    × IsSound options.file (file_of options.file [] it.history)
-    × ((bytes : List ℕ) → before.live.held ≡ Some [] → now.live.held ≡ Some bytes → IsSound options.file bytes)
+    × IsSoundFile options.file (file_of options.file [] it.history)
+    × ((bytes : List ℕ) → before.live.held ≡ Some [] → now.live.held ≡ Some bytes → IsSoundFile options.file bytes)
 
 -- ---- histories are given
 

@@ -14,7 +14,7 @@ use Rattle.chunk_writer.specs.Tapes.{EndsFor}
 use Rattle.recorder.specs.declared.report.Report.{Report}
 use Rattle.recorder.specs.declared.report.WriterReport.{WriterReport}
 use Rattle.recorder.specs.Assembled.{Assembled}
-use Rattle.recorder.specs.Recorded.{FeedRecorded, lane_of, AreFeeds, answer_of}
+use Rattle.recorder.specs.Recorded.{FeedRecorded, lane_of, AreFeeds, end_answer}
 use Rattle.recorder.specs.Writing.{SeenTape}
 
 -- how far a tape has come where a writer ended so
@@ -23,20 +23,20 @@ phase_at ends.Closed = phases.Ended
 phase_at (ends.Stopped stop) = phases.Stopped stop
 
 -- so many blocks and bytes are told
-abbrev pub numbers_of : WriterReport → Written
-numbers_of w = record { blocks = w.blocks; bytes = w.bytes }
+abbrev pub written_numbers : WriterReport → Written
+written_numbers w = record { blocks = w.blocks; bytes = w.bytes }
 
 -- The tape grew by the history, with the entries of the blocks that were appended, and came to the end that is told, with the
 -- numbers that are told: where the writer closed the tape has ended, else it keeps the refusal.
-pub record IsWritten {T X : Type 0} (seen : SeenTape T X) (first last : T) (history : List Rec) (w : WriterReport) : Type 0 where
+pub record TapeIsWritten {T X : Type 0} (seen : SeenTape T X) (first last : T) (history : List Rec) (w : WriterReport) : Type 0 where
   pub mid : T
   pub entries : List (Entry X)
   pub closing : Option (Entry X)
   pub grown : seen.grows first mid history entries
-  pub ended : seen.ends mid last closing (numbers_of w) (answer_of w.end)
+  pub ended : seen.ends mid last closing (written_numbers w) (end_answer w.end)
   pub phase_is : seen.phase last ≡ phase_at w.end
-  pub numbers_are : seen.numbers last ≡ numbers_of w
-  pub cause : EndsFor (seen.failures first) (seen.failures last) (seen.limit_met last) (answer_of w.end)
+  pub numbers_are : seen.numbers last ≡ written_numbers w
+  pub cause : EndsFor (seen.failures first) (seen.failures last) (seen.limit_met last) (end_answer w.end)
 
 -- as many records are told as the history has, and each can be framed and is read back
 pub record IsAll (history : List Rec) (w : WriterReport) : Type 0 where
@@ -63,5 +63,5 @@ tape_sides sources tape = record { sources = sources; tape = tape }
 pub record RecordedOnto {T X : Type 0} (seen : SeenTape T X) (limit : ℕ) (lossless : Bool) (before now : TapeSides T) (r : Report) : Type 0 where
   pub history : List Rec
   pub reported : IsReported limit lossless before.sources now.sources history r
-  pub written : IsWritten seen before.tape now.tape history r.writer
+  pub written : TapeIsWritten seen before.tape now.tape history r.writer
   pub all : IsAll history r.writer

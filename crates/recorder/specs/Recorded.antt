@@ -45,24 +45,24 @@ pub record AreFeeds (feeds : List FeedRecorded) (before now : List SourceState) 
 -- ---- the writer
 
 -- the end as an answer
-abbrev pub answer_of : End → Result Unit Stop
-answer_of ends.Closed = Ok tt
-answer_of (ends.Stopped stop) = Err stop
+abbrev pub end_answer : End → Result Unit Stop
+end_answer ends.Closed = Ok tt
+end_answer (ends.Stopped stop) = Err stop
 
 -- the store took the front of a file whole; or nothing whole, and then nothing was accepted
-abbrev pub IsBegun : FileOptions → List Rec → ℕ → Type 0
-IsBegun options history bytes = (length (front options.profile) ≤ bytes) ⊎ ((bytes ≡ 0) × (history ≡ []))
+abbrev pub TookFront : FileOptions → List Rec → ℕ → Type 0
+TookFront options history bytes = (length (front options.profile) ≤ bytes) ⊎ ((bytes ≡ 0) × (history ≡ []))
 
 -- What the writer's report says of its store. Where it closed, the file of the history stands behind what the store held, and
 -- all of it is with the system; else the writer stopped at a piece of that file.
 pub record WriterRecorded (options : FileOptions) (before now : LiveState) (history : List Rec) (w : WriterReport) : Type 0 where
   pub records : w.records ≡ length history
-  pub wrote : Ends options [] before.held now.held history (numbers w.blocks w.bytes) (answer_of w.end)
+  pub wrote : Ends options [] before.held now.held history (numbers w.blocks w.bytes) (end_answer w.end)
   pub within : Holds w.blocks w.bytes
-  pub begun : IsBegun options history w.bytes
-  pub through : OnOk (answer_of w.end) (now.waiting ≡ 0)
+  pub begun : TookFront options history w.bytes
+  pub through : OnOk (end_answer w.end) (now.waiting ≡ 0)
   -- the store's count rises by one where the writer stopped at a fault, which carries it, and stands still otherwise
-  pub cause : Cause before.faults now.faults (answer_of w.end)
+  pub cause : Cause before.faults now.faults (end_answer w.end)
 
 -- ---- the recording
 

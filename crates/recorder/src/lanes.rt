@@ -5,7 +5,7 @@ ghost use Rattle.mcap_model.specs.Places.{Each};
 ghost use Rattle.feed_lane.specs.Pass.{no_calls};
 ghost use Rattle.feed_lane.specs.Lanes.{InStep};
 ghost use Rattle.buffer_swap.specs.Plays.{hires, gathered, Unclosed};
-ghost use Rattle.recorder.specs.Lanes.{LaneRan, IsFresh, LanesRan};
+ghost use Rattle.recorder.specs.Lanes.{LaneRan, IsFreshControl, LanesRan};
 
 use crate::rousing::publish_roused;
 use buffer_swap::{Control, LanePass};
@@ -81,7 +81,7 @@ impl<'t, R: Wait, S: Source + Drop> Lanes<'t, R, S> {
     /// Adds a lane for each of these feeds, in their order.
     pub(crate) fn add_all(&mut self, rt: &'t R, sources: Vec<S>)
         requires none { self.old.lanes.items ≡ [] }
-        requires fresh { IsFresh self.old.control.seat.me.0.post 0 }
+        requires fresh { IsFreshControl self.old.control.seat.me.0.post 0 }
         requires few { vec_len sources ≤ 64 }
         requires room { vec_len sources ≤ vec_capacity self.old.lanes }
         ensures turn { self.new.control.seat.table_id ≡ self.old.control.seat.table_id }
@@ -89,7 +89,7 @@ impl<'t, R: Wait, S: Source + Drop> Lanes<'t, R, S> {
         ensures passes { Each (λ lane. lane.pass.publisher.seat.me.0.pass ≡ no_calls self.new.control.seat.me.0.pass.limit) self.new.lanes.items }
         ensures waits { Each (λ lane. lane.pass.lossless ≡ self.new.lossless) self.new.lanes.items }
         ensures sources { map (λ lane. lane.source) self.new.lanes.items ≡ sources.items }
-        ensures fresh { IsFresh self.new.control.seat.me.0.post (vec_len self.new.lanes) }
+        ensures fresh { IsFreshControl self.new.control.seat.me.0.post (vec_len self.new.lanes) }
         ensures limit { self.new.control.seat.me.0.pass.limit ≡ self.old.control.seat.me.0.pass.limit }
         ensures same { (self.new.lossless ≡ self.old.lossless) × (self.new.feeds ≡ self.old.feeds) × (self.new.reports ≡ self.old.reports) }
     {
@@ -185,7 +185,7 @@ impl<R: Threads + Wait + Sync, S: Source + Drop + Send> Lanes<'_, R, S> {
         requires turn { Each (λ lane. lane.pass.publisher.seat.table_id ≡ self.control.seat.table_id) self.lanes.items }
         requires new { Each (λ lane. lane.pass.publisher.seat.me.0.pass ≡ no_calls self.control.seat.me.0.pass.limit) self.lanes.items }
         requires waits { Each (λ lane. lane.pass.lossless ≡ self.lossless) self.lanes.items }
-        requires fresh { IsFresh self.control.seat.me.0.post (vec_len self.lanes) }
+        requires fresh { IsFreshControl self.control.seat.me.0.post (vec_len self.lanes) }
         requires feeds { (self.feeds.items ≡ []) × (vec_len self.lanes ≤ vec_capacity self.feeds) }
         requires reports { (self.reports.items ≡ []) × (vec_len self.lanes ≤ vec_capacity self.reports) }
         ensures turn { result.control.seat.table_id ≡ self.entry.control.seat.table_id }

@@ -12,10 +12,10 @@ ghost use Rattle.chunk_writer.specs.declared.phase.Phase.TheVariants as phases;
 ghost use Rattle.record_core.specs.Desk.{IsCause};
 ghost use Rattle.feed_lane.specs.Pass.{no_calls};
 ghost use Rattle.feed_lane.specs.Feeds.{ListsMessages};
-ghost use Rattle.buffer_swap.specs.Calls.{first_limit, IsNewTurn, IsOver};
+ghost use Rattle.buffer_swap.specs.Calls.{first_limit, IsNewTurn, DrainIsOver};
 ghost use Rattle.recorder.specs.Writing.{empty_buffer, seen_tape};
-ghost use Rattle.recorder.specs.Lanes.{IsFresh, AreReady, LanesRan};
-ghost use Rattle.recorder.specs.Onto.{IsWritten, IsAll, IsReported, tape_sides, RecordedOnto};
+ghost use Rattle.recorder.specs.Lanes.{IsFreshControl, AreReady, LanesRan};
+ghost use Rattle.recorder.specs.Onto.{TapeIsWritten, IsAll, IsReported, tape_sides, RecordedOnto};
 ghost use Rattle.recorder.specs.Recorded.{sides, Recorded};
 
 use crate::lanes::{Lane, Lanes};
@@ -231,7 +231,7 @@ fn run_beside<R: Threads + Wait + Sync, S: Source + Drop + Send, T: Tape<X: Send
     requires turns { Each (λ lane. lane.pass.publisher.seat.table_id ≡ lanes.control.seat.table_id) lanes.lanes.items }
     requires new { Each (λ lane. lane.pass.publisher.seat.me.0.pass ≡ no_calls lanes.control.seat.me.0.pass.limit) lanes.lanes.items }
     requires waits { Each (λ lane. lane.pass.lossless ≡ lanes.lossless) lanes.lanes.items }
-    requires fresh { IsFresh lanes.control.seat.me.0.post (vec_len lanes.lanes) }
+    requires fresh { IsFreshControl lanes.control.seat.me.0.post (vec_len lanes.lanes) }
     requires feeds { (lanes.feeds.items ≡ []) × (vec_len lanes.lanes ≤ vec_capacity lanes.feeds) }
     requires reports { (lanes.reports.items ≡ []) × (vec_len lanes.lanes ≤ vec_capacity lanes.reports) }
     requires spare { spare ≡ empty_buffer writer.drain.seat.me.0.pass.limit }
@@ -253,8 +253,8 @@ fn run_beside<R: Threads + Wait + Sync, S: Source + Drop + Send, T: Tape<X: Send
             requires going { T.phase writer.tape ≡ phases.Going }
             requires unused { T.is_new writer.tape }
             ensures turn { result.drain.seat.table_id ≡ writer.entry.drain.seat.table_id }
-            ensures over { (end : Last) × IsOver result.drain.seat.me.0.pass result.drain.seat.me.0.post end }
-            ensures written { IsWritten (seen_tape T.grows T.ends T.limit_met T.phase T.numbers T.failures) writer.entry.tape result.tape result.drain.seat.me.0.post.taken result.report }
+            ensures over { (end : Last) × DrainIsOver result.drain.seat.me.0.pass result.drain.seat.me.0.post end }
+            ensures written { TapeIsWritten (seen_tape T.grows T.ends T.limit_met T.phase T.numbers T.failures) writer.entry.tape result.tape result.drain.seat.me.0.post.taken result.report }
             ensures all { IsAll result.drain.seat.me.0.post.taken result.report }
             ensures stops { (stop : Why) → result.drain.seat.me.0.post.stop ≡ Some stop → result.report.end ≡ Stopped stop }
         { writer.run(rt, spare) },
@@ -262,7 +262,7 @@ fn run_beside<R: Threads + Wait + Sync, S: Source + Drop + Send, T: Tape<X: Send
             requires turn { Each (λ lane. lane.pass.publisher.seat.table_id ≡ lanes.control.seat.table_id) lanes.lanes.items }
             requires new { Each (λ lane. lane.pass.publisher.seat.me.0.pass ≡ no_calls lanes.control.seat.me.0.pass.limit) lanes.lanes.items }
             requires waits { Each (λ lane. lane.pass.lossless ≡ lanes.lossless) lanes.lanes.items }
-            requires fresh { IsFresh lanes.control.seat.me.0.post (vec_len lanes.lanes) }
+            requires fresh { IsFreshControl lanes.control.seat.me.0.post (vec_len lanes.lanes) }
             requires feeds { (lanes.feeds.items ≡ []) × (vec_len lanes.lanes ≤ vec_capacity lanes.feeds) }
             requires reports { (lanes.reports.items ≡ []) × (vec_len lanes.lanes ≤ vec_capacity lanes.reports) }
             ensures turn { result.control.seat.table_id ≡ lanes.entry.control.seat.table_id }

@@ -8,9 +8,9 @@ ghost use Rattle.mcap_model.specs.Places.{Each};
 ghost use Rattle.record_core.specs.Desk.{IsCause};
 ghost use Rattle.feed_lane.specs.Pass.{no_calls};
 ghost use Rattle.feed_lane.specs.Feeds.{ListsMessages};
-ghost use Rattle.buffer_swap.specs.Calls.{IsOver};
+ghost use Rattle.buffer_swap.specs.Calls.{DrainIsOver};
 ghost use Rattle.recorder.specs.Writing.{empty_buffer};
-ghost use Rattle.recorder.specs.Lanes.{IsFresh};
+ghost use Rattle.recorder.specs.Lanes.{IsFreshControl};
 ghost use Rattle.recorder.specs.Onto.{IsReported};
 
 use crate::lanes::Lanes;
@@ -37,7 +37,7 @@ fn stop<R: Wait>(rt: &R, drain: &mut Drain<'_>, spare: Cache, why: Stop)
     requires cause { IsCause why }
     requires unstopped { drain.old.seat.me.0.post.stop ≡ None }
     ensures turn { drain.new.seat.table_id ≡ drain.old.seat.table_id }
-    ensures over { (end : Last) × IsOver drain.new.seat.me.0.pass drain.new.seat.me.0.post end }
+    ensures over { (end : Last) × DrainIsOver drain.new.seat.me.0.pass drain.new.seat.me.0.post end }
     ensures stops { (other : Why) → drain.new.seat.me.0.post.stop ≡ Some other → other ≡ why }
 {
     drain.stop(rt, why);
@@ -68,15 +68,15 @@ pub(crate) fn stop_unread<R: Wait>(
     why: Stop,
 )
     requires same_turn { drain.old.seat.table_id ≡ control.old.seat.table_id }
-    requires fresh { IsFresh control.old.seat.me.0.post 0 }
+    requires fresh { IsFreshControl control.old.seat.me.0.post 0 }
     requires spare { spare ≡ empty_buffer drain.old.seat.me.0.pass.limit }
     requires cause { IsCause why }
     requires unstopped { drain.old.seat.me.0.post.stop ≡ None }
     ensures turn { (control.new.seat.table_id ≡ control.old.seat.table_id) × (drain.new.seat.table_id ≡ drain.old.seat.table_id) }
     ensures limit { control.new.seat.me.0.pass ≡ control.old.seat.me.0.pass }
-    ensures fresh { IsFresh control.new.seat.me.0.post 0 }
+    ensures fresh { IsFreshControl control.new.seat.me.0.post 0 }
     ensures none { drain.new.seat.me.0.post.taken ≡ [] }
-    ensures over { (end : Last) × IsOver drain.new.seat.me.0.pass drain.new.seat.me.0.post end }
+    ensures over { (end : Last) × DrainIsOver drain.new.seat.me.0.pass drain.new.seat.me.0.post end }
     ensures stops { (other : Why) → drain.new.seat.me.0.post.stop ≡ Some other → other ≡ why }
 {
     stop(rt, drain, spare, why);
@@ -97,11 +97,11 @@ pub(crate) fn run_unwritten<R: Threads + Wait + Sync, S: Source + Drop + Send>(
     requires turns { Each (λ lane. lane.pass.publisher.seat.table_id ≡ lanes.control.seat.table_id) lanes.lanes.items }
     requires new { Each (λ lane. lane.pass.publisher.seat.me.0.pass ≡ no_calls lanes.control.seat.me.0.pass.limit) lanes.lanes.items }
     requires waits { Each (λ lane. lane.pass.lossless ≡ lanes.lossless) lanes.lanes.items }
-    requires fresh { IsFresh lanes.control.seat.me.0.post (vec_len lanes.lanes) }
+    requires fresh { IsFreshControl lanes.control.seat.me.0.post (vec_len lanes.lanes) }
     requires feeds { (lanes.feeds.items ≡ []) × (vec_len lanes.lanes ≤ vec_capacity lanes.feeds) }
     requires reports { (lanes.reports.items ≡ []) × (vec_len lanes.lanes ≤ vec_capacity lanes.reports) }
     requires none { drain.seat.me.0.post.taken ≡ [] }
-    requires over { (end : Last) × IsOver drain.seat.me.0.pass drain.seat.me.0.post end }
+    requires over { (end : Last) × DrainIsOver drain.seat.me.0.pass drain.seat.me.0.post end }
     requires stops { (other : Why) → drain.seat.me.0.post.stop ≡ Some other → other ≡ why }
     ensures reported { IsReported lanes.entry.control.seat.me.0.pass.limit lanes.entry.lossless (map (λ lane. S.state lane.source) lanes.entry.lanes.items) (map S.state result.feeds.items) [] result.report }
     ensures writer { result.report.writer ≡ record { records = 0; blocks = 0; bytes = 0; end = End.Stopped why } }

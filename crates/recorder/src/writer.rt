@@ -5,10 +5,10 @@ ghost use Rattle.mcap_model.specs.declared.ends.End.{End as Last};
 ghost use Rattle.mcap_model.specs.declared.ends.End.TheVariants.{Stopped};
 ghost use Rattle.chunk_writer.specs.declared.phase.Phase.TheVariants as phases;
 ghost use Rattle.chunk_writer.specs.Tapes.{HasTaken};
-ghost use Rattle.buffer_swap.specs.Calls.{IsOver};
-ghost use Rattle.recorder.specs.Recorded.{answer_of};
+ghost use Rattle.buffer_swap.specs.Calls.{DrainIsOver};
+ghost use Rattle.recorder.specs.Recorded.{end_answer};
 ghost use Rattle.recorder.specs.Writing.{empty_buffer, MayWrite, StopsWith, StopsIntake, seen_tape, WritesOn};
-ghost use Rattle.recorder.specs.Onto.{IsWritten, IsAll};
+ghost use Rattle.recorder.specs.Onto.{TapeIsWritten, IsAll};
 
 use crate::report::WriterReport;
 use buffer_swap::Drain;
@@ -43,7 +43,7 @@ struct Step {
 
 // The end that a tape's answer is.
 fn end_by(answer: Result<(), Stop>) -> End
-    ensures { answer_of result ≡ answer }
+    ensures { end_answer result ≡ answer }
 {
     match answer {
         Ok(()) => return End::Closed,
@@ -76,7 +76,7 @@ fn write_once<R: Wait, T: Tape>(rt: &R, drain: &mut Drain<'_>, tape: &mut T, spa
     ensures has { HasTaken T.is_new T.grows tape.new drain.new.seat.me.0.post.taken }
     // Where the tape stopped, so has the intake.
     ensures halts { StopsIntake drain.new.seat.me.0.pass drain.new.seat.me.0.post (T.phase tape.new) }
-    ensures over { IfSome result.over (λ at. (at ≡ length drain.new.seat.me.0.post.taken) × (end : Last) × IsOver drain.new.seat.me.0.pass drain.new.seat.me.0.post end) }
+    ensures over { IfSome result.over (λ at. (at ≡ length drain.new.seat.me.0.post.taken) × (end : Last) × DrainIsOver drain.new.seat.me.0.pass drain.new.seat.me.0.post end) }
 {
     let full = match drain.swap(rt, spare) {
         Ok(full) => full,
@@ -119,7 +119,7 @@ fn write_all<R: Wait, T: Tape>(rt: &R, drain: &mut Drain<'_>, tape: &mut T, spar
     ensures writes { WritesOn (seen_tape T.grows T.ends T.limit_met T.phase T.numbers T.failures) tape.old tape.new drain.old.seat.me.0.post.taken drain.new.seat.me.0.post }
     ensures has { HasTaken T.is_new T.grows tape.new drain.new.seat.me.0.post.taken }
     ensures count { result ≡ length drain.new.seat.me.0.post.taken }
-    ensures over { (end : Last) × IsOver drain.new.seat.me.0.pass drain.new.seat.me.0.post end }
+    ensures over { (end : Last) × DrainIsOver drain.new.seat.me.0.pass drain.new.seat.me.0.post end }
 {
     let mut spare = spare;
     'steps: for _ in rt.forever() {
@@ -142,8 +142,8 @@ impl<'t, T: Tape + Drop> Writer<'t, T> {
         requires going { T.phase self.tape ≡ phases.Going }
         requires unused { T.is_new self.tape }
         ensures turn { result.drain.seat.table_id ≡ self.entry.drain.seat.table_id }
-        ensures over { (end : Last) × IsOver result.drain.seat.me.0.pass result.drain.seat.me.0.post end }
-        ensures written { IsWritten (seen_tape T.grows T.ends T.limit_met T.phase T.numbers T.failures) self.entry.tape result.tape result.drain.seat.me.0.post.taken result.report }
+        ensures over { (end : Last) × DrainIsOver result.drain.seat.me.0.pass result.drain.seat.me.0.post end }
+        ensures written { TapeIsWritten (seen_tape T.grows T.ends T.limit_met T.phase T.numbers T.failures) self.entry.tape result.tape result.drain.seat.me.0.post.taken result.report }
         ensures all { IsAll result.drain.seat.me.0.post.taken result.report }
         ensures stops { (stop : Why) → result.drain.seat.me.0.post.stop ≡ Some stop → result.report.end ≡ Stopped stop }
     {

@@ -64,9 +64,9 @@ impl Pass for Lacking {
     ghost use Rattle.std.specs.Prelude.{◌≡◌, [], ◌∷◌, ◌++◌, List, false};
     ghost use Rattle.std.proofs.Common.{ap};
     ghost use Rattle.feed_lane.specs.Pass.{Reason, PassState, for_size};
-    ghost use Rattle.feed_lane.specs.Tapes.{found_when, shown};
+    ghost use Rattle.feed_lane.specs.Tapes.{found_when, tape_pass};
 
-    ghost since = { λ begun t now. (reasons : List Reason) × (now ≡ shown [] [] reasons (found_when t.asked 0 0 false)) };
+    ghost since = { λ begun t now. (reasons : List Reason) × (now ≡ tape_pass [] [] reasons (found_when t.asked 0 0 false)) };
 
     ghost knows = { λ t schema. Unit {0} };
 

@@ -12,10 +12,10 @@ use Rattle.mcap_model.specs.Plain.{cut_top}
 use Rattle.mcap_model.proofs.Front.{IsTail, tail_not}
 use Rattle.mcap_model.proofs.Lists.{each_cons, each_joined, each_taken}
 use Rattle.mcap_model.proofs.Places.{at_none, at_within}
-use Rattle.summary_read.specs.Parts.{tops_of}
+use Rattle.summary_read.specs.Parts.{cut_tops}
 use Rattle.summary_read.specs.Steps.{Judged}
-use Rattle.summary_check.specs.Body.{known, InOrder}
-use Rattle.summary_check.specs.Files.{file_of}
+use Rattle.summary_check.specs.Body.{known, KnownInPlace}
+use Rattle.summary_check.specs.Files.{spelled_file}
 use Rattle.summary_check.specs.Filed.{records_of, Filed}
 use Rattle.summary_check.specs.Told.{BreaksIndexing}
 use Rattle.summary_check.proofs.Laying.{body_there, before_body, body_within, behind_body}
@@ -28,13 +28,13 @@ judged_plain t judged name names =
 
 module _ (tops : List Top) (bytes : List ℕ) (cuts : List Cut) (foot : Cut) (start : ℕ) (filed : Filed tops bytes cuts foot start) where
   abbrev body : List Top
-  body = tops_of bytes cuts
+  body = cut_tops bytes cuts
 
   abbrev all : List Top
   all = records_of tops bytes cuts foot
 
   abbrev file : List ℕ
-  file = file_of tops bytes
+  file = spelled_file tops bytes
 
   fails_in : (R : List Top → ℕ → Top → Type 0) (k : ℕ) (t : Top) → At body k t → (R all (length tops + k) t → ⊥) → FailsIn R file (offset_of all (length tops + k))
   fails_in R k t at breaks = record {
@@ -90,7 +90,7 @@ module _ (tops : List Top) (bytes : List ℕ) (cuts : List Cut) (foot : Cut) (st
       bad (subst (λ (l : List Top). V7 l t) (before_body tops body (cut_top bytes foot) k (omega (arith, within))) (keeps (each_taken IsPlain all (suc (length tops + k)) (all_plain judged))))
       ))
 
-  pub order_flaw : (k : ℕ) (t : Top) → At body k t → (InOrder body k t → ⊥) → Flaw file 11 (offset_of all (length tops + k))
+  pub order_flaw : (k : ℕ) (t : Top) → At body k t → (KnownInPlace body k t → ⊥) → Flaw file 11 (offset_of all (length tops + k))
   order_flaw k t at bad =
       let laid = filed.laid in
       let within = at_within body k t at in

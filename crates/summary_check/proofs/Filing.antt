@@ -20,13 +20,13 @@ use Rattle.mcap_model.proofs.Places.{at_none, at_within, at_kept, at_last, last_
 use Rattle.mcap_model.proofs.Readings.{short_there}
 use Rattle.mcap_model.proofs.TakenRecords.{ended_more}
 use Rattle.index_check.specs.declared.section.Section.{Section}
-use Rattle.summary_read.specs.Parts.{tops_of, AreInside}
+use Rattle.summary_read.specs.Parts.{cut_tops, AreInside}
 use Rattle.summary_read.proofs.FileEnds.{footer_size}
 use Rattle.summary_check.specs.Closing.{IsOfFooter, NoFooter}
-use Rattle.summary_check.specs.Cutting.{ArePlaced, AreCut}
-use Rattle.summary_check.specs.Files.{file_of}
+use Rattle.summary_check.specs.Cutting.{ArePlaced, AreCutBehind}
+use Rattle.summary_check.specs.Files.{spelled_file}
 use Rattle.summary_check.specs.Filed.{records_of, Filed}
-use Rattle.summary_check.specs.Laid.{EndsWithDataEnd, IsFront}
+use Rattle.summary_check.specs.Laid.{EndsWithDataEnd, IsFrontRecord}
 use Rattle.summary_check.specs.Sectioned.{IsSectioned}
 use Rattle.summary_check.proofs.Cuts.{size_of}
 use Rattle.summary_check.proofs.Onward.{length-tops}
@@ -59,12 +59,12 @@ pub section_is : (tops : List Top) (s : Section) (is : IsSectioned tops s) → (
 unfolding sectioned_ended
 section_is tops s is = refl
 
-pub sectioned_kinds : (tops : List Top) (s : Section) → IsSectioned tops s → Each IsFront tops
+pub sectioned_kinds : (tops : List Top) (s : Section) → IsSectioned tops s → Each IsFrontRecord tops
 sectioned_kinds tops s is n t at =
     let fits = is.good n t at in
     by (take n tops) fits.v3 fits.v5 fits.unended
   where
-    by : (before : List Top) → V3 before t → V5 before t → (HasDataEnd before → ⊥) → IsFront t
+    by : (before : List Top) → V3 before t → V5 before t → (HasDataEnd before → ⊥) → IsFrontRecord t
     by [] v3 v5 unended = inl v3.kind
     by (x ∷ xs) v3 v5 unended = elim v5.1 [
       | inl has ↦ absurd (unended has)
@@ -79,17 +79,17 @@ sectioned_short tops s is n t at = let fits = is.good n t at in short_there (off
 
 -- ---- the whole file
 
-module _ (tops : List Top) (bytes : List ℕ) (cuts : List Cut) (foot : Cut) (are : AreCut bytes (cuts ++ foot ∷ [])) where
-  pub tops_are : tops_of bytes (cuts ++ foot ∷ []) ≡ tops_of bytes cuts ++ cut_top bytes foot ∷ []
+module _ (tops : List Top) (bytes : List ℕ) (cuts : List Cut) (foot : Cut) (are : AreCutBehind bytes (cuts ++ foot ∷ [])) where
+  pub tops_are : cut_tops bytes (cuts ++ foot ∷ []) ≡ cut_tops bytes cuts ++ cut_top bytes foot ∷ []
   tops_are = map-append (cut_top bytes) cuts (foot ∷ [])
 
-  pub whole_of : AreShort tops → IsWhole (file_of tops bytes) (records_of tops bytes cuts foot)
+  pub whole_of : AreShort tops → IsWhole (spelled_file tops bytes) (records_of tops bytes cuts foot)
   whole_of short = record {
     split =
         let text : spelled (records_of tops bytes cuts foot) ≡ spelled tops ++ bytes =
-        flat_map-append top_bytes tops (tops_of bytes cuts ++ cut_top bytes foot ∷ []) ∙ ap (λ (l : List ℕ). spelled tops ++ l) (ap spelled (sym tops_are) ∙ sym are.split) in
+        flat_map-append top_bytes tops (cut_tops bytes cuts ++ cut_top bytes foot ∷ []) ∙ ap (λ (l : List ℕ). spelled tops ++ l) (ap spelled (sym tops_are) ∙ sym are.split) in
         ap (λ (l : List ℕ). magic ++ l) (sym (append_assoc (spelled tops) bytes magic) ∙ ap (λ (l : List ℕ). l ++ magic) (sym text));
-    short = each_joined (λ (t : Top). length t.content < 2 ^ 64) tops (tops_of bytes cuts ++ cut_top bytes foot ∷ []) short (λ n t at.
+    short = each_joined (λ (t : Top). length t.content < 2 ^ 64) tops (cut_tops bytes cuts ++ cut_top bytes foot ∷ []) short (λ n t at.
         let read = are.read n t (subst (λ (l : List Top). At l n t) (sym tops_are) at) in
         let few = read.short in
         omega (arith, few));
@@ -98,12 +98,12 @@ module _ (tops : List Top) (bytes : List ℕ) (cuts : List Cut) (foot : Cut) (ar
   pub foot_inside : (foot.from ≤ foot.to) × (foot.to ≤ length bytes)
   foot_inside = are.inside (length cuts) foot (at_last cuts foot [])
 
-  foot_placed : foot.from ≡ length (spelled (tops_of bytes cuts)) + 9
+  foot_placed : foot.from ≡ length (spelled (cut_tops bytes cuts)) + 9
   foot_placed =
       let placed = are.placed (length cuts) foot (at_last cuts foot []) in
-      let count : length cuts ≡ length (tops_of bytes cuts) = sym (length-tops bytes cuts) in
-      let front : take (length cuts) (tops_of bytes (cuts ++ foot ∷ [])) ≡ tops_of bytes cuts =
-      ap (take (length cuts)) tops_are ∙ ap (λ (n : ℕ). take n (tops_of bytes cuts ++ cut_top bytes foot ∷ [])) count ∙ take-append_seam (tops_of bytes cuts) (cut_top bytes foot ∷ []) in
+      let count : length cuts ≡ length (cut_tops bytes cuts) = sym (length-tops bytes cuts) in
+      let front : take (length cuts) (cut_tops bytes (cuts ++ foot ∷ [])) ≡ cut_tops bytes cuts =
+      ap (take (length cuts)) tops_are ∙ ap (λ (n : ℕ). take n (cut_tops bytes cuts ++ cut_top bytes foot ∷ [])) count ∙ take-append_seam (cut_tops bytes cuts) (cut_top bytes foot ∷ []) in
       placed ∙ ap (λ (l : List Top). length (spelled l) + 9) front
 
   pub body_inside : AreInside bytes cuts
@@ -112,8 +112,8 @@ module _ (tops : List Top) (bytes : List ℕ) (cuts : List Cut) (foot : Cut) (ar
   body_placed : ArePlaced bytes cuts
   body_placed k c at =
       let within = at_within cuts k c at in
-      let front : take k (tops_of bytes (cuts ++ foot ∷ [])) ≡ take k (tops_of bytes cuts) =
-      ap (take k) tops_are ∙ take-append-le k (tops_of bytes cuts) (cut_top bytes foot ∷ []) (omega (arith, within, length-tops bytes cuts)) in
+      let front : take k (cut_tops bytes (cuts ++ foot ∷ [])) ≡ take k (cut_tops bytes cuts) =
+      ap (take k) tops_are ∙ take-append-le k (cut_tops bytes cuts) (cut_top bytes foot ∷ []) (omega (arith, within, length-tops bytes cuts)) in
       are.placed k c (at_kept cuts (foot ∷ []) k c at) ∙ ap (λ (l : List Top). length (spelled l) + 9) front
 
   pub filed_of : (s : Section) (f : Footer) → IsSectioned tops s → IsOfFooter bytes foot f → s.behind + length bytes < 2 ^ 64 → Filed tops bytes cuts foot s.behind
@@ -151,19 +151,19 @@ no_end : (tops before : List Top) (last : Top) → tops ≡ before ++ last ∷ [
 no_end tops before last joined none (front, t, same, (summary, offsets, crc, footer), _) =
     none summary offsets crc (subst (λ (x : Top). IsFooter x summary offsets crc) (last_same front before t last (sym same ∙ joined)) footer)
 
-end_flaw : (tops all : List Top) (rest : List ℕ) (offset : ℕ) → IsWhole (file_of tops rest) all → (V17 all → ⊥) → offset ≡ offset_behind tops + (length rest + 8) - 37 → Flaw (file_of tops rest) 17 offset
+end_flaw : (tops all : List Top) (rest : List ℕ) (offset : ℕ) → IsWhole (spelled_file tops rest) all → (V17 all → ⊥) → offset ≡ offset_behind tops + (length rest + 8) - 37 → Flaw (spelled_file tops rest) 17 offset
 end_flaw tops all rest offset whole bad there =
-    let same : length (file_of tops rest) - 37 ≡ offset = omega (arith, size_of tops rest, there) in
-    subst (Flaw (file_of tops rest) 17) same (flaw_17 (inr (all, whole, bad)))
+    let same : length (spelled_file tops rest) - 37 ≡ offset = omega (arith, size_of tops rest, there) in
+    subst (Flaw (spelled_file tops rest) 17) same (flaw_17 (inr (all, whole, bad)))
 
 -- nothing stands behind the Data End
-pub nothing_flaw : (tops : List Top) (bytes : List ℕ) (offset : ℕ) → EndsWithDataEnd tops → AreShort tops → AreCut bytes [] → offset ≡ offset_behind tops + (length bytes + 8) - 37 → Flaw (file_of tops bytes) 17 offset
+pub nothing_flaw : (tops : List Top) (bytes : List ℕ) (offset : ℕ) → EndsWithDataEnd tops → AreShort tops → AreCutBehind bytes [] → offset ≡ offset_behind tops + (length bytes + 8) - 37 → Flaw (spelled_file tops bytes) 17 offset
 nothing_flaw tops bytes offset ended short are there =
     end_flaw tops tops bytes offset (record { split = ap (λ (l : List ℕ). magic ++ (spelled tops ++ (l ++ magic))) are.split; short = short })
     (no_end tops ended.section ended.end ended.joined (λ summary offsets crc footer. omega (arith, ended.kind, footer.kind))) there
 
 -- the last record is no Footer
-pub footless_flaw : (tops : List Top) (bytes : List ℕ) (cuts : List Cut) (foot : Cut) (offset : ℕ) → AreShort tops → AreCut bytes (cuts ++ foot ∷ []) → NoFooter bytes foot → offset ≡ offset_behind tops + (length bytes + 8) - 37 → Flaw (file_of tops bytes) 17 offset
+pub footless_flaw : (tops : List Top) (bytes : List ℕ) (cuts : List Cut) (foot : Cut) (offset : ℕ) → AreShort tops → AreCutBehind bytes (cuts ++ foot ∷ []) → NoFooter bytes foot → offset ≡ offset_behind tops + (length bytes + 8) - 37 → Flaw (spelled_file tops bytes) 17 offset
 footless_flaw tops bytes cuts foot offset short are none there =
     end_flaw tops (records_of tops bytes cuts foot) bytes offset (whole_of tops bytes cuts foot are short)
-    (no_end (records_of tops bytes cuts foot) (tops ++ tops_of bytes cuts) (cut_top bytes foot) (sym (append_assoc tops (tops_of bytes cuts) (cut_top bytes foot ∷ []))) none) there
+    (no_end (records_of tops bytes cuts foot) (tops ++ cut_tops bytes cuts) (cut_top bytes foot) (sym (append_assoc tops (cut_tops bytes cuts) (cut_top bytes foot ∷ []))) none) there

@@ -18,9 +18,9 @@ use Rattle.mcap_model.proofs.ReadBack.{at_map}
 use Rattle.index_check.specs.declared.summary_places.SummaryPlaces.{SummaryPlaces}
 use Rattle.index_check.proofs.Ends.{named_start}
 use Rattle.index_check.specs.SummaryPlaces.{FirstStands, PlacesOf}
-use Rattle.summary_read.specs.Parts.{tops_of}
+use Rattle.summary_read.specs.Parts.{cut_tops}
 use Rattle.summary_check.specs.Closing.{IsOfFooter}
-use Rattle.summary_check.specs.Files.{file_of}
+use Rattle.summary_check.specs.Files.{spelled_file}
 use Rattle.summary_check.specs.Filed.{records_of, Filed}
 use Rattle.summary_check.specs.Laid.{all_of, Laid}
 use Rattle.summary_check.specs.Offsets.{Spans, SpanIs}
@@ -31,7 +31,7 @@ use Rattle.summary_check.proofs.Onward.{length-tops}
 
 module _ (tops : List Top) (bytes : List ℕ) (cuts : List Cut) (start : ℕ) (foot : Top) (laid : Laid tops bytes cuts start) where
   abbrev body : List Top
-  body = tops_of bytes cuts
+  body = cut_tops bytes cuts
 
   pub first_stands : (from to : ℕ) → Spans cuts 14 from to → (offset : ℕ) → offset ≡ start + (from - 9) → FirstStands (all_of tops body foot) (Some offset)
   first_stands from to s offset is =
@@ -68,7 +68,7 @@ module _ (tops : List Top) (bytes : List ℕ) (cuts : List Cut) (start : ℕ) (f
 
 module _ (tops : List Top) (bytes : List ℕ) (cuts : List Cut) (foot : Cut) (start : ℕ) (filed : Filed tops bytes cuts foot start) where
   abbrev records : List Top
-  records = tops_of bytes cuts
+  records = cut_tops bytes cuts
 
   abbrev all : List Top
   all = records_of tops bytes cuts foot
@@ -121,7 +121,7 @@ module _ (tops : List Top) (bytes : List ℕ) (cuts : List Cut) (foot : Cut) (st
     is_end : is_last all last
     is_end = length-all tops records (cut_top bytes foot)
 
-    fails_last : (R : List Top → ℕ → Top → Type 0) (offset : ℕ) → offset ≡ start + (foot.from - 9) → (R all last (cut_top bytes foot) → ⊥) → FailsIn R (file_of tops bytes) offset
+    fails_last : (R : List Top → ℕ → Top → Type 0) (offset : ℕ) → offset ≡ start + (foot.from - 9) → (R all last (cut_top bytes foot) → ⊥) → FailsIn R (spelled_file tops bytes) offset
     fails_last R offset there breaks = record {
       tops = all;
       whole = filed.whole;
@@ -132,25 +132,25 @@ module _ (tops : List Top) (bytes : List ℕ) (cuts : List Cut) (foot : Cut) (st
       breaks = breaks;
     }
 
-    pub places_flaw : (offset : ℕ) → offset ≡ start + (foot.from - 9) → (NamesSummary all last f.summary_start f.summary_offset_start → ⊥) → Flaw (file_of tops bytes) 11 offset
+    pub places_flaw : (offset : ℕ) → offset ≡ start + (foot.from - 9) → (NamesSummary all last f.summary_start f.summary_offset_start → ⊥) → Flaw (spelled_file tops bytes) 11 offset
     places_flaw offset there bad = flaw_11 offset (fails_last V11 offset there (λ v. bad (v.0 f.summary_start f.summary_offset_start f.summary_crc is_end is)))
 
-    pub crc_unasked : f.summary_start ≡ 0 → V16 (file_of tops bytes) all last (cut_top bytes foot)
+    pub crc_unasked : f.summary_start ≡ 0 → V16 (spelled_file tops bytes) all last (cut_top bytes foot)
     crc_unasked none = λ summary offsets crc end other some asked.
         let same = footer_once (cut_top bytes foot).content f.summary_start f.summary_offset_start f.summary_crc summary offsets crc is.layout other.layout in
         absurd (some (sym same.0 ∙ none))
 
-    pub crc_flaw : (offset : ℕ) → offset ≡ start + (foot.from - 9) → (V16 (file_of tops bytes) all last (cut_top bytes foot) → ⊥) → Flaw (file_of tops bytes) 16 offset
-    crc_flaw offset there bad = flaw_16 offset (fails_last (V16 (file_of tops bytes)) offset there bad)
+    pub crc_flaw : (offset : ℕ) → offset ≡ start + (foot.from - 9) → (V16 (spelled_file tops bytes) all last (cut_top bytes foot) → ⊥) → Flaw (spelled_file tops bytes) 16 offset
+    crc_flaw offset there bad = flaw_16 offset (fails_last (V16 (spelled_file tops bytes)) offset there bad)
 
     -- the bytes that the CRC covers
     pub covered : (places : SummaryPlaces) → PlacesOf all last places → places.behind ≡ start → foot.from + 16 ≤ length bytes → NamesSummary all last f.summary_start f.summary_offset_start → f.summary_start ≢ 0
-        → take (foot.from + 16) bytes ≡ part f.summary_start (offset_of all last + 25) (file_of tops bytes)
+        → take (foot.from + 16) bytes ≡ part f.summary_start (offset_of all last + 25) (spelled_file tops bytes)
     covered places are behind room names some =
         let laid = filed.laid in
         let front : f.summary_start ≡ length (magic ++ spelled tops) = starts ∙ laid.there ∙ sym (length-append magic (spelled tops)) in
-        let split : file_of tops bytes ≡ (magic ++ spelled tops) ++ (bytes ++ magic) = sym (append_assoc magic (spelled tops) (bytes ++ magic)) in
-        let rest : drop f.summary_start (file_of tops bytes) ≡ bytes ++ magic = ap (drop f.summary_start) split ∙ drop_at (magic ++ spelled tops) (bytes ++ magic) f.summary_start (sym front) in
+        let split : spelled_file tops bytes ≡ (magic ++ spelled tops) ++ (bytes ++ magic) = sym (append_assoc magic (spelled tops) (bytes ++ magic)) in
+        let rest : drop f.summary_start (spelled_file tops bytes) ≡ bytes ++ magic = ap (drop f.summary_start) split ∙ drop_at (magic ++ spelled tops) (bytes ++ magic) f.summary_start (sym front) in
         let count : (offset_of all last + 25) - f.summary_start ≡ foot.from + 16 = omega (arith, footer_offset, starts, filed.placed) in
         sym (ap (λ (l : List ℕ). take ((offset_of all last + 25) - f.summary_start) l) rest ∙ ap (λ (n : ℕ). take n (bytes ++ magic)) count ∙ take-append-le (foot.from + 16) bytes magic room)
       where

@@ -19,12 +19,12 @@ use Rattle.index_check.specs.Chunks.{HasMessage, ChunksOf, ChunksNamed}
 use Rattle.index_check.proofs.Spotted.{one_place, note_there}
 use Rattle.mcap_wire.specs.declared.faults.Cut.{Cut}
 use Rattle.mcap_model.proofs.Once.{chunk_index_once}
-use Rattle.summary_read.specs.Parts.{tops_of}
+use Rattle.summary_read.specs.Parts.{cut_tops}
 use Rattle.summary_read.specs.Steps.{Judged}
 use Rattle.summary_check.specs.Offsets.{Spans}
 use Rattle.summary_check.proofs.Onward.{op_there, tops_within}
-use Rattle.summary_check.specs.Laid.{all_of, EndsWithDataEnd, IsFront}
-use Rattle.summary_check.specs.FullIndex.{EmptyIsRight, EmptyRight, HasStatistics, IsFull}
+use Rattle.summary_check.specs.Laid.{all_of, EndsWithDataEnd, IsFrontRecord}
+use Rattle.summary_check.specs.FullIndex.{EmptyIsRight, EmptyRight, HasStatistics, MakesFullyIndexed}
 use Rattle.summary_check.proofs.Laying.{length-all, body_there, foot_there, body_back, body_within, within_body, front_not}
 
 -- ---- lists
@@ -79,7 +79,7 @@ seven t is = eqb-true t.op 7 is
 
 -- ---- the file
 
-module _ (file : List ℕ) (tops body : List Top) (foot : Top) (valid : Valid file (all_of tops body foot)) (ended : EndsWithDataEnd tops) (kinds : Each IsFront tops) (judged : Each (λ t. Judged t None) body) (foot_is : foot.op ≡ 2) where
+module _ (file : List ℕ) (tops body : List Top) (foot : Top) (valid : Valid file (all_of tops body foot)) (ended : EndsWithDataEnd tops) (kinds : Each IsFrontRecord tops) (judged : Each (λ t. Judged t None) body) (foot_is : foot.op ≡ 2) where
   abbrev all : List Top
   all = all_of tops body foot
 
@@ -213,7 +213,7 @@ module _ (file : List ℕ) (tops body : List Top) (foot : Top) (valid : Valid fi
           names = names_all n t f at six (subst (λ (p : ℕ). NamesIndexes all p f) place right.names) (empties kb u at_b f n t right.shown is_f here);
         }
 
-    pub full_is : IsFull all body chunks.spots has → FullyIndexed file all
+    pub full_is : MakesFullyIndexed all body chunks.spots has → FullyIndexed file all
     full_is full =
         let (k, t, at, op) = full.statistics in record {
           valid = valid;
@@ -307,7 +307,7 @@ module _ (file : List ℕ) (tops body : List Top) (foot : Top) (valid : Valid fi
             let (offset, entries, named, has) = index.names j channel v m at_j is_m in
             at_none has.0 (channel, offset) (subst (λ (l : List (ℕ × ℕ)). At l has.0 (channel, offset)) (ap (λ (x : ChunkIndexFields). x.indexes) same ∙ empty) has.1)
 
-    pub is_full : FullyIndexed file all → IsFull all body chunks.spots has
+    pub is_full : FullyIndexed file all → MakesFullyIndexed all body chunks.spots has
     is_full full = record {
       no_message = unheard full;
       statistics = statistics full.statistics;
@@ -333,14 +333,14 @@ right_by all n t f b rule is iff =
       λ each. (iff right.k right.chunk right.shown right.is).1 (each f right.k right.chunk right.shown is right.is),
     )
 
-pub some_statistics : (bytes : List ℕ) (cuts : List Cut) (from to : ℕ) → Spans cuts 11 from to → HasStatistics (tops_of bytes cuts)
+pub some_statistics : (bytes : List ℕ) (cuts : List Cut) (from to : ℕ) → Spans cuts 11 from to → HasStatistics (cut_tops bytes cuts)
 some_statistics bytes cuts from to spans =
     let (t, at, op) = op_there bytes cuts spans.first spans.first_cut spans.at_first in
     (spans.first, t, at, op ∙ spans.first_is)
 
-pub no_statistics : (bytes : List ℕ) (cuts : List Cut) → Each (λ c. c.op ≢ 11) cuts → HasStatistics (tops_of bytes cuts) → ⊥
+pub no_statistics : (bytes : List ℕ) (cuts : List Cut) → Each (λ c. c.op ≢ 11) cuts → HasStatistics (cut_tops bytes cuts) → ⊥
 no_statistics bytes cuts none (k, t, at, op) =
     let (cut, at_cut) = note_there cuts k (tops_within bytes cuts k t at) in
     let (u, at_u, kind) = op_there bytes cuts k cut at_cut in
-    let same = at_one (tops_of bytes cuts) k u t at_u at in
+    let same = at_one (cut_tops bytes cuts) k u t at_u at in
     none k cut at_cut (sym kind ∙ ap (λ (x : Top). x.op) same ∙ op)

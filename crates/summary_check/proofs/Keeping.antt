@@ -20,7 +20,7 @@ use Rattle.mcap_model.proofs.Places.{at_none, at_within}
 use Rattle.std.proofs.lemmas.Option.{same_Some}
 use Rattle.summary_read.specs.Steps.{Judged}
 use Rattle.summary_check.specs.Body.{known, OrderJudged}
-use Rattle.summary_check.specs.Laid.{all_of, EndsWithDataEnd, IsFront}
+use Rattle.summary_check.specs.Laid.{all_of, EndsWithDataEnd, IsFrontRecord}
 use Rattle.summary_check.proofs.Failing.{judged_plain}
 use Rattle.mcap_model.proofs.TakenRecords.{ended_front}
 use Rattle.summary_check.proofs.Laying.{has_end, unended_front, front_not, length-all, behind_body}
@@ -34,7 +34,7 @@ one_at foot (suc n) t at = absurd (at_none n t at)
 pub record AllJudged (file : List ℕ) (tops body : List Top) (foot : Top) : Type 0 where
   pub whole : IsWhole file (all_of tops body foot)
   pub ended : EndsWithDataEnd tops
-  pub kinds : Each IsFront tops
+  pub kinds : Each IsFrontRecord tops
   pub good : Good reading_limits tops
   pub v9 : Keeps V9 tops
   pub judged : Each (λ t. Judged t None) body

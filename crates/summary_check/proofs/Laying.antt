@@ -16,8 +16,8 @@ use Rattle.mcap_model.proofs.Lists.{at_either, at_second, take_second}
 use Rattle.mcap_model.proofs.Readings.{length-top}
 use Rattle.mcap_model.proofs.TakenRecords.{ended_front, ended_more, spelled_more}
 use Rattle.mcap_model.proofs.OneMore.{taken_more}
-use Rattle.summary_read.specs.Parts.{tops_of}
-use Rattle.summary_check.specs.Laid.{all_of, EndsWithDataEnd, IsFront, Laid}
+use Rattle.summary_read.specs.Parts.{cut_tops}
+use Rattle.summary_check.specs.Laid.{all_of, EndsWithDataEnd, IsFrontRecord, Laid}
 use Rattle.summary_check.proofs.Onward.{length-tops}
 
 -- ---- Data Ends
@@ -51,7 +51,7 @@ unended_front tops more n e less has =
     let unended = e.unended in
     unended (end_taken e.section n (subst HasDataEnd front has))
 
-pub front_not : (t : Top) (k : ℕ) → IsFront t → (k ≡ 1 → ⊥) → stands_in_section k ≡ false → t.op ≡ k → ⊥
+pub front_not : (t : Top) (k : ℕ) → IsFrontRecord t → (k ≡ 1 → ⊥) → stands_in_section k ≡ false → t.op ≡ k → ⊥
 front_not t k (inl header) other none same = other (sym same ∙ header)
 front_not t k (inr stands) other none same = both_ways (stands_in_section k) none (ap stands_in_section (sym same) ∙ stands)
 
@@ -100,22 +100,22 @@ module _ (tops body : List Top) (foot : Top) where
 -- ---- offsets
 
 module _ (tops : List Top) (bytes : List ℕ) (cuts : List Cut) (start : ℕ) (foot : Top) (laid : Laid tops bytes cuts start) where
-  pub offset_before : (k : ℕ) → k ≤ length cuts → offset_of (all_of tops (tops_of bytes cuts) foot) (length tops + k) ≡ start + length (spelled (take k (tops_of bytes cuts)))
+  pub offset_before : (k : ℕ) → k ≤ length cuts → offset_of (all_of tops (cut_tops bytes cuts) foot) (length tops + k) ≡ start + length (spelled (take k (cut_tops bytes cuts)))
   offset_before k few =
-      let body = tops_of bytes cuts in
+      let body = cut_tops bytes cuts in
       let front = ap offset_behind (before_body tops body foot k (omega (arith, few, length-tops bytes cuts))) in
       let parts = ap length (flat_map-append top_bytes tops (take k body)) in
       omega (arith, front, parts, length-append (spelled tops) (spelled (take k body)), laid.there)
 
-  pub offset_cut : (k : ℕ) (c : Cut) → At cuts k c → offset_of (all_of tops (tops_of bytes cuts) foot) (length tops + k) ≡ start + (c.from - 9)
+  pub offset_cut : (k : ℕ) (c : Cut) → At cuts k c → offset_of (all_of tops (cut_tops bytes cuts) foot) (length tops + k) ≡ start + (c.from - 9)
   offset_cut k c at =
       let within = at_within cuts k c at in
       let placed = laid.placed k c at in
       omega (arith, offset_before k (omega (arith, within)), placed)
 
-  pub offset_behind_cut : (k : ℕ) (c : Cut) → At cuts k c → offset_of (all_of tops (tops_of bytes cuts) foot) (suc (length tops + k)) ≡ start + c.to
+  pub offset_behind_cut : (k : ℕ) (c : Cut) → At cuts k c → offset_of (all_of tops (cut_tops bytes cuts) foot) (suc (length tops + k)) ≡ start + c.to
   offset_behind_cut k c at =
-      let body = tops_of bytes cuts in
+      let body = cut_tops bytes cuts in
       let t = cut_top bytes c in
       let within = at_within cuts k c at in
       let placed = laid.placed k c at in

@@ -13,9 +13,9 @@ use Rattle.mcap_model.proofs.ReadBack.{at_map}
 use Rattle.mcap_model.proofs.Places.{at_none, at_within, at_kept, at_last, at_more, at_one, has_kept, has_last}
 use Rattle.mcap_model.proofs.Lists.{at_either}
 use Rattle.mcap_model.proofs.Once.{summary_offset_once}
-use Rattle.summary_read.specs.Parts.{tops_of}
-use Rattle.summary_check.specs.Laid.{all_of, IsFront, Laid}
-use Rattle.summary_check.specs.Offsets.{Spans, SpanIs, AreNamed, OffsetTaken}
+use Rattle.summary_read.specs.Parts.{cut_tops}
+use Rattle.summary_check.specs.Laid.{all_of, IsFrontRecord, Laid}
+use Rattle.summary_check.specs.Offsets.{Spans, SpanIs, AreNamedOpcodes, OffsetTaken}
 use Rattle.summary_check.proofs.Laying.{front_not, body_there, offset_cut, offset_behind_cut}
 use Rattle.summary_check.proofs.Grouping.{group_first, group_there, group_offset, group_end}
 use Rattle.index_check.proofs.Spotted.{offsets_rise}
@@ -90,7 +90,7 @@ span_kept front c op (Some span) was other = span_other front c op span.0 span.1
 
 module _ (tops : List Top) (bytes : List ℕ) (cuts : List Cut) (start : ℕ) (foot : Top) (laid : Laid tops bytes cuts start) where
   module _ (op from to : ℕ) (s : Spans cuts op from to) where
-    between : (k : ℕ) (x : Top) → At (tops_of bytes cuts) k x → x.op ≡ op → (s.first ≤ k) × (k ≤ s.last)
+    between : (k : ℕ) (x : Top) → At (cut_tops bytes cuts) k x → x.op ≡ op → (s.first ≤ k) × (k ≤ s.last)
     between k x at same =
         let there = at_map (cut_top bytes) cuts k x at in
         s.between k there.0 there.1 (ap (λ (t : Top). t.op) (sym there.2) ∙ same)
@@ -98,27 +98,27 @@ module _ (tops : List Top) (bytes : List ℕ) (cuts : List Cut) (start : ℕ) (f
     pub front_fits : start + (from - 9) < 2 ^ 64
     front_fits = let inside = laid.inside s.first s.first_cut s.at_first in omega (arith, laid.fits, inside.0, inside.1, s.from_is)
 
-    pub span_group : (offset size : ℕ) → offset ≡ start + (from - 9) → size ≡ to - (from - 9) → IsGroup (all_of tops (tops_of bytes cuts) foot) op offset size
+    pub span_group : (offset size : ℕ) → offset ≡ start + (from - 9) → size ≡ to - (from - 9) → IsGroup (all_of tops (cut_tops bytes cuts) foot) op offset size
     span_group offset size first last =
         let c = s.first_cut in
         let d = s.last_cut in
         let placed = laid.placed s.first c s.at_first in
-        group_there tops (tops_of bytes cuts) foot laid.ended op s.first s.last (cut_top bytes c) (cut_top bytes d)
+        group_there tops (cut_tops bytes cuts) foot laid.ended op s.first s.last (cut_top bytes c) (cut_top bytes d)
         (at_mapped (cut_top bytes) cuts s.first c s.at_first) s.first_is (at_mapped (cut_top bytes) cuts s.last d s.at_last) s.last_is between offset size
         (omega (arith, first, s.from_is, offset_cut tops bytes cuts start foot laid s.first c s.at_first))
         (omega (arith, first, last, rises, s.from_is, s.to_is, offset_behind_cut tops bytes cuts start foot laid s.last d s.at_last))
       where
-        same_or_up : offset_of (all_of tops (tops_of bytes cuts) foot) (length tops + s.first) ≤ offset_of (all_of tops (tops_of bytes cuts) foot) (length tops + s.last)
+        same_or_up : offset_of (all_of tops (cut_tops bytes cuts) foot) (length tops + s.first) ≤ offset_of (all_of tops (cut_tops bytes cuts) foot) (length tops + s.last)
         same_or_up = elim (cases_lt s.first s.last) [
           | inl less ↦
-              let up = offsets_rise (all_of tops (tops_of bytes cuts) foot) (length tops + s.first) (length tops + s.last) (cut_top bytes s.first_cut) (cut_top bytes s.last_cut)
-              (body_there tops (tops_of bytes cuts) foot s.first (cut_top bytes s.first_cut) (at_mapped (cut_top bytes) cuts s.first s.first_cut s.at_first))
-              (body_there tops (tops_of bytes cuts) foot s.last (cut_top bytes s.last_cut) (at_mapped (cut_top bytes) cuts s.last s.last_cut s.at_last)) (omega (arith, less)) in
+              let up = offsets_rise (all_of tops (cut_tops bytes cuts) foot) (length tops + s.first) (length tops + s.last) (cut_top bytes s.first_cut) (cut_top bytes s.last_cut)
+              (body_there tops (cut_tops bytes cuts) foot s.first (cut_top bytes s.first_cut) (at_mapped (cut_top bytes) cuts s.first s.first_cut s.at_first))
+              (body_there tops (cut_tops bytes cuts) foot s.last (cut_top bytes s.last_cut) (at_mapped (cut_top bytes) cuts s.last s.last_cut s.at_last)) (omega (arith, less)) in
               omega (arith, up)
           | inr over ↦
               let few = (s.between s.first s.first_cut s.at_first s.first_is).1 in
               let same : s.first ≡ s.last = omega (arith, over, few) in
-              let equal = ap (λ (m : ℕ). offset_of (all_of tops (tops_of bytes cuts) foot) (length tops + m)) same in
+              let equal = ap (λ (m : ℕ). offset_of (all_of tops (cut_tops bytes cuts) foot) (length tops + m)) same in
               omega (arith, equal)
         ]
 
@@ -141,20 +141,20 @@ module _ (tops : List Top) (bytes : List ℕ) (cuts : List Cut) (start : ℕ) (f
               s.to_is,
             )
 
-    pub group_span : (offset size : ℕ) → IsGroup (all_of tops (tops_of bytes cuts) foot) op offset size → (offset ≡ start + (from - 9)) × (size ≡ to - (from - 9))
+    pub group_span : (offset size : ℕ) → IsGroup (all_of tops (cut_tops bytes cuts) foot) op offset size → (offset ≡ start + (from - 9)) × (size ≡ to - (from - 9))
     group_span offset size g =
         let c = s.first_cut in
         let d = s.last_cut in
         let at_c = at_mapped (cut_top bytes) cuts s.first c s.at_first in
         let at_d = at_mapped (cut_top bytes) cuts s.last d s.at_last in
-        let one = group_offset tops (tops_of bytes cuts) foot laid.ended op s.first s.last (cut_top bytes c) (cut_top bytes d) at_c s.first_is at_d s.last_is between offset size g in
-        let two = group_end tops (tops_of bytes cuts) foot laid.ended op s.first s.last (cut_top bytes c) (cut_top bytes d) at_c s.first_is at_d s.last_is between offset size g in
+        let one = group_offset tops (cut_tops bytes cuts) foot laid.ended op s.first s.last (cut_top bytes c) (cut_top bytes d) at_c s.first_is at_d s.last_is between offset size g in
+        let two = group_end tops (cut_tops bytes cuts) foot laid.ended op s.first s.last (cut_top bytes c) (cut_top bytes d) at_c s.first_is at_d s.last_is between offset size g in
         let first : offset ≡ start + (from - 9) = omega (arith, one, s.from_is, offset_cut tops bytes cuts start foot laid s.first c s.at_first) in
         (first, omega (arith, first, two, s.to_is, offset_behind_cut tops bytes cuts start foot laid s.last d s.at_last))
 
-  pub none_named : (op offset size : ℕ) → SpanIs cuts op None → IsGroup (all_of tops (tops_of bytes cuts) foot) op offset size → ⊥
+  pub none_named : (op offset size : ℕ) → SpanIs cuts op None → IsGroup (all_of tops (cut_tops bytes cuts) foot) op offset size → ⊥
   none_named op offset size none g =
-      let (k, x, _, _, at, kind) = group_first tops (tops_of bytes cuts) foot laid.ended op offset size g in
+      let (k, x, _, _, at, kind) = group_first tops (cut_tops bytes cuts) foot laid.ended op offset size g in
       let there = at_map (cut_top bytes) cuts k x at in
       none k there.0 there.1 (ap (λ (t : Top). t.op) (sym there.2) ∙ kind)
 
@@ -170,7 +170,7 @@ named_back all n op t at none (i, offset, size, u, less, at_u, is) = elim (cases
 ]
 
 -- a record that is no Summary Offset
-pub other_named : (all : List Top) (n : ℕ) (t : Top) (names : List ℕ) → AreNamed all n names → At all n t → ((op offset size : ℕ) → IsSummaryOffset t op offset size → ⊥) → OffsetTaken all n t names true
+pub other_named : (all : List Top) (n : ℕ) (t : Top) (names : List ℕ) → AreNamedOpcodes all n names → At all n t → ((op offset size : ℕ) → IsSummaryOffset t op offset size → ⊥) → OffsetTaken all n t names true
 other_named all n t names was at none = (
   λ op offset size is. absurd (none op offset size is),
   λ op. (
@@ -180,7 +180,7 @@ other_named all n t names was at none = (
 )
 
 -- one that names a group first
-pub group_named : (all : List Top) (n op offset size : ℕ) (t : Top) (names : List ℕ) → AreNamed all n names → At all n t → IsSummaryOffset t op offset size → (Has names op → ⊥) → IsGroup all op offset size → OffsetTaken all n t (names ++ op ∷ []) true
+pub group_named : (all : List Top) (n op offset size : ℕ) (t : Top) (names : List ℕ) → AreNamedOpcodes all n names → At all n t → IsSummaryOffset t op offset size → (Has names op → ⊥) → IsGroup all op offset size → OffsetTaken all n t (names ++ op ∷ []) true
 group_named all n op offset size t names was at is fresh group = (
   λ o a s other.
       let same = summary_offset_once t op offset size o a s is other in
@@ -207,13 +207,13 @@ group_named all n op offset size t names was at is fresh group = (
           subst (Has (names ++ op ∷ [])) op_is (has_last names op [])
     ]
 
-pub again_named : (all : List Top) (n op offset size : ℕ) (t : Top) (names : List ℕ) → AreNamed all n names → IsSummaryOffset t op offset size → Has names op → V15 all n t → ⊥
+pub again_named : (all : List Top) (n op offset size : ℕ) (t : Top) (names : List ℕ) → AreNamedOpcodes all n names → IsSummaryOffset t op offset size → Has names op → V15 all n t → ⊥
 again_named all n op offset size t names was is has right =
     let (i, a, s, u, less, at_u, shows) = (was op).0 has in
     (right op offset size is).only i a s u less at_u shows
 
 -- in front of the summary stands no Summary Offset
-pub none_yet : (tops body : List Top) (foot : Top) → Each IsFront tops → AreNamed (all_of tops body foot) (length tops + 0) []
+pub none_yet : (tops body : List Top) (foot : Top) → Each IsFrontRecord tops → AreNamedOpcodes (all_of tops body foot) (length tops + 0) []
 none_yet tops body foot kinds op = (
   λ has. absurd (at_none has.0 op has.1),
   λ some. absurd (by some),

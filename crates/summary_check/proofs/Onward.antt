@@ -7,21 +7,21 @@ use Rattle.mcap_model.specs.Tops.{Top}
 use Rattle.mcap_model.specs.Plain.{cut_top}
 use Rattle.mcap_model.proofs.Flat.{at_mapped}
 use Rattle.mcap_model.proofs.Places.{at_within, at_one}
-use Rattle.summary_read.specs.Parts.{tops_of}
+use Rattle.summary_read.specs.Parts.{cut_tops}
 
-pub length-tops : (bytes : List ℕ) (cuts : List Cut) → length (tops_of bytes cuts) ≡ length cuts
+pub length-tops : (bytes : List ℕ) (cuts : List Cut) → length (cut_tops bytes cuts) ≡ length cuts
 length-tops bytes [] = refl
 length-tops bytes (c ∷ cs) = ap suc (length-tops bytes cs)
 
 -- a place among the records is one among the cuts
-pub tops_within : (bytes : List ℕ) (cuts : List Cut) (k : ℕ) (t : Top) → At (tops_of bytes cuts) k t → k < length cuts
-tops_within bytes cuts k t at = let within = at_within (tops_of bytes cuts) k t at in omega (arith, within, length-tops bytes cuts)
+pub tops_within : (bytes : List ℕ) (cuts : List Cut) (k : ℕ) (t : Top) → At (cut_tops bytes cuts) k t → k < length cuts
+tops_within bytes cuts k t at = let within = at_within (cut_tops bytes cuts) k t at in omega (arith, within, length-tops bytes cuts)
 
 -- so many are all
-pub tops_end : (bytes : List ℕ) (cuts : List Cut) (i : ℕ) → length cuts ≤ i → i ≤ length cuts → i ≡ length (tops_of bytes cuts)
+pub tops_end : (bytes : List ℕ) (cuts : List Cut) (i : ℕ) → length cuts ≤ i → i ≤ length cuts → i ≡ length (cut_tops bytes cuts)
 tops_end bytes cuts i past within = omega (arith, past, within, length-tops bytes cuts)
 
-pub op_there : (bytes : List ℕ) (cuts : List Cut) (i : ℕ) (c : Cut) → At cuts i c → (t : Top) × At (tops_of bytes cuts) i t × (t.op ≡ c.op)
+pub op_there : (bytes : List ℕ) (cuts : List Cut) (i : ℕ) (c : Cut) → At cuts i c → (t : Top) × At (cut_tops bytes cuts) i t × (t.op ≡ c.op)
 op_there bytes cuts i c at = (cut_top bytes c, at_mapped (cut_top bytes) cuts i c at, refl)
 
 -- what holds of the elements in front of a place, and of the one there

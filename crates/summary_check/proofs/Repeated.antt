@@ -18,7 +18,7 @@ use Rattle.mcap_model.proofs.NamedTopics.{zip_front, zip_back}
 use Rattle.index_check.specs.declared.tally.Tally.{Tally}
 use Rattle.index_check.specs.Tally.{TallyOf}
 use Rattle.summary_read.specs.Steps.{Judged}
-use Rattle.summary_check.specs.Declaring.{AreDeclared}
+use Rattle.summary_check.specs.Declaring.{AreChannelIds}
 use Rattle.summary_check.specs.Laid.{all_of, EndsWithDataEnd}
 use Rattle.summary_check.specs.Repeating.{AreRepeated}
 use Rattle.summary_check.proofs.Laying.{body_there, body_back, body_within, within_body}
@@ -82,7 +82,7 @@ module _ (tops body : List Top) (foot : Top) (ended : EndsWithDataEnd tops) (jud
   abbrev OnChannel : Top → ℕ → Type 0
   OnChannel t channel = (m : MessageFields) × IsMessage t channel m
 
-  module _ (tally : Tally) (ids : List ℕ) (are : TallyOf all ended.section tally) (declared : AreDeclared body ids) where
+  module _ (tally : Tally) (ids : List ℕ) (are : TallyOf all ended.section tally) (declared : AreChannelIds body ids) where
     pub repeated : Each (λ entry. Has ids entry.0) tally.counts.items → AreRepeated all
     repeated each n channel t m at is = elim (at_either (flat ended.section) (flat rest) n t (subst (λ (l : List Top). At l n t) flat_split at)) [
       | inl first ↦

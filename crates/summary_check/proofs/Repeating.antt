@@ -7,9 +7,9 @@ use Rattle.mcap_model.proofs.Maps.{shows_once}
 use Rattle.mcap_model.proofs.Places.{at_none, at_last, at_more, has_kept, has_last}
 use Rattle.mcap_model.proofs.OneMore.{channel_kept, channel_either}
 use Rattle.index_check.specs.Ids.{AddsOnce}
-use Rattle.summary_check.specs.Declaring.{AreDeclared}
+use Rattle.summary_check.specs.Declaring.{AreChannelIds}
 
-pub declared_other : (before : List Top) (t : Top) (ids : List ℕ) → AreDeclared before ids → ((id : ℕ) (f : ChannelFields) → IsChannel t id f → ⊥) → AreDeclared (before ++ t ∷ []) ids
+pub declared_other : (before : List Top) (t : Top) (ids : List ℕ) → AreChannelIds before ids → ((id : ℕ) (f : ChannelFields) → IsChannel t id f → ⊥) → AreChannelIds (before ++ t ∷ []) ids
 declared_other before t ids was other id = (
   λ has. channel_kept before t id ((was id).0 has),
   λ has. elim (channel_either before t id has) [
@@ -18,7 +18,7 @@ declared_other before t ids was other id = (
   ],
 )
 
-pub declared_once : (before : List Top) (t : Top) (own : ℕ) (f : ChannelFields) (old new : List ℕ) → AreDeclared before old → IsChannel t own f → AddsOnce old own new → AreDeclared (before ++ t ∷ []) new
+pub declared_once : (before : List Top) (t : Top) (own : ℕ) (f : ChannelFields) (old new : List ℕ) → AreChannelIds before old → IsChannel t own f → AddsOnce old own new → AreChannelIds (before ++ t ∷ []) new
 declared_once before t own f old new was is adds id = (
   λ has. elim (was_there has) [
     | inl there ↦ channel_kept before t id ((was id).0 there)
@@ -53,5 +53,5 @@ declared_once before t own f old new was is adds id = (
       | inr (fresh, more) ↦ subst (λ (l : List ℕ). Has l own) (sym more) (has_last old own [])
     ]
 
-pub declared_none : AreDeclared [] []
+pub declared_none : AreChannelIds [] []
 declared_none id = (λ has. absurd (at_none has.0 id has.1), λ has. absurd (at_none has.place has.top has.at))

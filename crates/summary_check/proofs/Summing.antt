@@ -16,10 +16,10 @@ use Rattle.mcap_model.proofs.Places.{at_none}
 use Rattle.index_check.specs.declared.section.Section.{Section}
 use Rattle.index_check.specs.Chunks.{IndexesChunk}
 use Rattle.index_check.specs.Extras.{IndexesAttachment, IndexesMetadata}
-use Rattle.summary_read.specs.Parts.{tops_of}
+use Rattle.summary_read.specs.Parts.{cut_tops}
 use Rattle.summary_read.specs.Steps.{Judged}
 use Rattle.summary_check.specs.Body.{OrderJudged}
-use Rattle.summary_check.specs.Files.{file_of}
+use Rattle.summary_check.specs.Files.{spelled_file}
 use Rattle.summary_check.specs.Filed.{records_of, Filed}
 use Rattle.summary_check.specs.Sectioned.{IsSectioned}
 use Rattle.summary_check.specs.Told.{ToldOf}
@@ -29,7 +29,7 @@ use Rattle.summary_check.proofs.Staying.{named_stay, chunks_stay, attachments_st
 
 module _ (tops : List Top) (bytes : List ℕ) (cuts : List Cut) (foot : Cut) (s : Section) (is : IsSectioned tops s) (filed : Filed tops bytes cuts foot s.behind) where
   abbrev body : List Top
-  body = tops_of bytes cuts
+  body = cut_tops bytes cuts
 
   abbrev end : Top
   end = cut_top bytes foot
@@ -82,11 +82,11 @@ module _ (tops : List Top) (bytes : List ℕ) (cuts : List Cut) (foot : Cut) (s 
       → ((k : ℕ) (t : Top) → At body k t → V12 all (length tops + k) t × V13 all (length tops + k) t)
       → ((k : ℕ) (t : Top) → At body k t → V14 all (length tops + k) t)
       → ((k : ℕ) (t : Top) → At body k t → V15 all (length tops + k) t)
-      → V11 all (length tops + length body) end × V16 (file_of tops bytes) all (length tops + length body) end → Valid (file_of tops bytes) all
+      → V11 all (length tops + length body) end × V16 (spelled_file tops bytes) all (length tops + length body) end → Valid (spelled_file tops bytes) all
   judged_valid judged v7 order indexes statistics named last =
       let laid = filed.laid in
       let (summary, offsets, crc, footer) = filed.footer in
-      let j : AllJudged (file_of tops bytes) tops body end = record {
+      let j : AllJudged (spelled_file tops bytes) tops body end = record {
         whole = filed.whole;
         ended = laid.ended;
         kinds = laid.kinds;
@@ -105,4 +105,4 @@ module _ (tops : List Top) (bytes : List ℕ) (cuts : List Cut) (foot : Cut) (s 
         places = last.0;
         v16 = last.1;
       } in
-      all_valid (file_of tops bytes) tops body end j foot_silent
+      all_valid (spelled_file tops bytes) tops body end j foot_silent

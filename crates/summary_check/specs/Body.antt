@@ -36,8 +36,8 @@ abbrev pub known : List Top → List Top
 known records = filter (λ t. is_known t.op) records
 
 -- a known record is in its place behind the known ones in front of it
-abbrev pub InOrder : List Top → ℕ → Top → Type 0
-InOrder body k t = is_known t.op ≡ true → IsInPlace (known (take k body)) t
+abbrev pub KnownInPlace : List Top → ℕ → Top → Type 0
+KnownInPlace body k t = is_known t.op ≡ true → IsInPlace (known (take k body)) t
 
 -- a record was put behind those whose order is kept, or it isn't in its place behind them
 abbrev pub OpTaken : List Top → Top → Order → Bool → Type 0
@@ -45,5 +45,5 @@ OpTaken before t order true = (is_known t.op ≡ true → IsInPlace (known befor
 OpTaken before t order false = (is_known t.op ≡ true → IsInPlace (known before) t) → ⊥
 
 abbrev pub OrderJudged : List Top → Option ℕ → Type 0
-OrderJudged body None = (k : ℕ) (t : Top) → At body k t → InOrder body k t
-OrderJudged body (Some k) = (t : Top) × At body k t × (InOrder body k t → ⊥)
+OrderJudged body None = (k : ℕ) (t : Top) → At body k t → KnownInPlace body k t
+OrderJudged body (Some k) = (t : Top) × At body k t × (KnownInPlace body k t → ⊥)

@@ -6,18 +6,18 @@ use Rattle.mcap_wire.specs.Reading.{IsCut}
 use Rattle.mcap_model.specs.Places.{At, Each}
 use Rattle.mcap_model.specs.Tops.{Top, spelled, offset_behind}
 use Rattle.mcap_model.specs.Whole.{AreShort}
-use Rattle.summary_read.specs.Parts.{tops_of, AreInside}
+use Rattle.summary_read.specs.Parts.{cut_tops, AreInside}
 use Rattle.mcap_model.specs.declared.refusals.ReadingRefused.{ReadingRefused}
-use Rattle.summary_check.specs.Files.{file_of, IsRefused}
+use Rattle.summary_check.specs.Files.{spelled_file, FailsThere}
 
 -- a record was cut, or a file that has these bytes behind its first records is refused
 abbrev pub CutJudged : List ℕ → ℕ → ℕ → Result Cut ReadingRefused → Type 0
 CutJudged bytes at start (Ok c) = IsCut bytes at c
-CutJudged bytes at start (Err why) = (tops : List Top) → AreShort tops → start + at ≡ offset_behind tops → IsRefused (file_of tops (drop at bytes)) why
+CutJudged bytes at start (Err why) = (tops : List Top) → AreShort tops → start + at ≡ offset_behind tops → FailsThere (spelled_file tops (drop at bytes)) why
 
 -- each content stands behind the records in front of it and the head of its own
 abbrev pub ArePlaced : List ℕ → List Cut → Type 0
-ArePlaced bytes cuts = (k : ℕ) (c : Cut) → At cuts k c → c.from ≡ length (spelled (take k (tops_of bytes cuts))) + 9
+ArePlaced bytes cuts = (k : ℕ) (c : Cut) → At cuts k c → c.from ≡ length (spelled (take k (cut_tops bytes cuts))) + 9
 
 -- a record with a valid opcode, and a content within the limit
 pub record IsRead (t : Top) : Type 0 where
@@ -25,21 +25,21 @@ pub record IsRead (t : Top) : Type 0 where
   pub short : length t.content ≤ content_limit
 
 -- so far these records were cut
-pub record CutsTo (bytes : List ℕ) (at : ℕ) (cuts : List Cut) : Type 0 where
+pub record CutsBehindTo (bytes : List ℕ) (at : ℕ) (cuts : List Cut) : Type 0 where
   pub within : at ≤ length bytes
-  pub split : bytes ≡ spelled (tops_of bytes cuts) ++ drop at bytes
-  pub there : at ≡ length (spelled (tops_of bytes cuts))
+  pub split : bytes ≡ spelled (cut_tops bytes cuts) ++ drop at bytes
+  pub there : at ≡ length (spelled (cut_tops bytes cuts))
   pub inside : AreInside bytes cuts
   pub placed : ArePlaced bytes cuts
-  pub read : Each IsRead (tops_of bytes cuts)
+  pub read : Each IsRead (cut_tops bytes cuts)
 
 -- the bytes are just the records that were cut
-pub record AreCut (bytes : List ℕ) (cuts : List Cut) : Type 0 where
-  pub split : bytes ≡ spelled (tops_of bytes cuts)
+pub record AreCutBehind (bytes : List ℕ) (cuts : List Cut) : Type 0 where
+  pub split : bytes ≡ spelled (cut_tops bytes cuts)
   pub inside : AreInside bytes cuts
   pub placed : ArePlaced bytes cuts
-  pub read : Each IsRead (tops_of bytes cuts)
+  pub read : Each IsRead (cut_tops bytes cuts)
 
 abbrev pub RecordsCut : {Y : Type 0} → List ℕ → ℕ → Result (Vec Cut Y) ReadingRefused → Type 0
-RecordsCut bytes start (Ok cuts) = AreCut bytes cuts.items
-RecordsCut bytes start (Err why) = (tops : List Top) → AreShort tops → start ≡ offset_behind tops → IsRefused (file_of tops bytes) why
+RecordsCut bytes start (Ok cuts) = AreCutBehind bytes cuts.items
+RecordsCut bytes start (Err why) = (tops : List Top) → AreShort tops → start ≡ offset_behind tops → FailsThere (spelled_file tops bytes) why

@@ -16,5 +16,5 @@ DeclarationsTaken tops body tables None = ((k : ℕ) (t : Top) → At body k t �
 DeclarationsTaken tops body tables (Some k) = (t : Top) × At body k t × (V7 (tops ++ take k body) t → ⊥)
 
 -- just the ids of the Channels among these records
-abbrev pub AreDeclared : List Top → List ℕ → Type 0
-AreDeclared records ids = (id : ℕ) → Has ids id ↔ HasChannel records id
+abbrev pub AreChannelIds : List Top → List ℕ → Type 0
+AreChannelIds records ids = (id : ℕ) → Has ids id ↔ HasChannel records id

@@ -8,8 +8,8 @@ use Rattle.mcap_model.specs.declared.refusals.ReadingRefused.{ReadingRefused}
 use Rattle.mcap_model.specs.declared.refusals.ReadingRefused.TheVariants as refusals
 
 -- the file of these records, of the bytes behind them, and of the last magic
-abbrev pub file_of : List Top → List ℕ → List ℕ
-file_of tops rest = magic ++ (spelled tops ++ (rest ++ magic))
+abbrev pub spelled_file : List Top → List ℕ → List ℕ
+spelled_file tops rest = magic ++ (spelled tops ++ (rest ++ magic))
 
 -- Behind whole records and in front of the last magic, the head of a record of a valid opcode begins at that offset, which
 -- declares a content longer than the limit.
@@ -24,12 +24,12 @@ pub record PassesLimit (file : List ℕ) (offset : ℕ) : Type 0 where
   pub past : content_limit < declared_length rest
 
 -- a rule fails there, or a limit is passed there
-abbrev pub IsRefused : List ℕ → ReadingRefused → Type 0
-IsRefused file (refusals.Fault faults) = ⊥
-IsRefused file (refusals.Grammar offset rule) = Flaw file rule offset
-IsRefused file (refusals.Compressed offset name) = ⊥
-IsRefused file (refusals.Limit offset) = PassesLimit file offset
-IsRefused file refusals.Memory = Unit {0}
+abbrev pub FailsThere : List ℕ → ReadingRefused → Type 0
+FailsThere file (refusals.Fault faults) = ⊥
+FailsThere file (refusals.Grammar offset rule) = Flaw file rule offset
+FailsThere file (refusals.Compressed offset name) = ⊥
+FailsThere file (refusals.Limit offset) = PassesLimit file offset
+FailsThere file refusals.Memory = Unit {0}
 
 -- No store is read and no chunk is looked into, so that neither a fault comes nor a compression.
 abbrev pub IsOfSummary : ReadingRefused → Type 0

@@ -21,7 +21,7 @@ HasStatistics body = (k : ℕ) × (t : Top) × At body k t × (t.op ≡ 11)
 
 -- what makes a valid file fully indexed: no Message stands at top level, there are Statistics, each chunk has an index, which
 -- names Message Indexes where the chunk holds Messages, and the Channels of all messages are repeated
-pub record IsFull (all body : List Top) (spots : List Spot) (has : Bool) : Type 0 where
+pub record MakesFullyIndexed (all body : List Top) (spots : List Spot) (has : Bool) : Type 0 where
   pub no_message : has ≡ false
   pub statistics : HasStatistics body
   pub named : Each (λ s. s.named ≡ true) spots

@@ -7,21 +7,21 @@ use Rattle.mcap_model.specs.Tops.{Top, spelled}
 use Rattle.mcap_model.specs.Valid.{Valid, FullyIndexed}
 use Rattle.index_check.specs.Chunks.{HasMessage}
 use Rattle.index_check.specs.Tally.{TallyOf}
-use Rattle.summary_read.specs.Parts.{tops_of}
+use Rattle.summary_read.specs.Parts.{cut_tops}
 use Rattle.summary_read.specs.Steps.{Judged}
-use Rattle.summary_check.specs.Laid.{EndsWithDataEnd, IsFront}
+use Rattle.summary_check.specs.Laid.{EndsWithDataEnd, IsFrontRecord}
 use Rattle.index_check.specs.declared.section.Section.{Section}
-use Rattle.summary_check.specs.Files.{file_of}
+use Rattle.summary_check.specs.Files.{spelled_file}
 use Rattle.summary_check.specs.Filed.{records_of}
 use Rattle.summary_check.specs.Told.{ToldOf}
 
 -- the file of this data section and of these records is valid, and this is known of it
 pub record KnownOf (tops : List Top) (bytes : List ℕ) (cuts : List Cut) (foot : Cut) (known : Section) : Type 0 where
-  pub valid : Valid (file_of tops bytes) (records_of tops bytes cuts foot)
-  pub told : ToldOf (records_of tops bytes cuts foot) (length tops + length (tops_of bytes cuts)) known.chunks known.attachments known.metadata
+  pub valid : Valid (spelled_file tops bytes) (records_of tops bytes cuts foot)
+  pub told : ToldOf (records_of tops bytes cuts foot) (length tops + length (cut_tops bytes cuts)) known.chunks known.attachments known.metadata
   pub ended : EndsWithDataEnd tops
-  pub kinds : Each IsFront tops
-  pub judged : Each (λ t. Judged t None) (tops_of bytes cuts)
+  pub kinds : Each IsFrontRecord tops
+  pub judged : Each (λ t. Judged t None) (cut_tops bytes cuts)
   pub foot_is : (cut_top bytes foot).op ≡ 2
   pub tally : TallyOf (records_of tops bytes cuts foot) ended.section known.tally
   pub at_top : (known.has_messages ≡ true) ↔ HasMessage tops
@@ -30,5 +30,5 @@ pub record KnownOf (tops : List Top) (bytes : List ℕ) (cuts : List Cut) (foot 
 pub record IsJudged (tops : List Top) (bytes : List ℕ) (indexed : Bool) : Type 0 where
   pub behind : List Top
   pub split : bytes ≡ spelled behind
-  pub valid : Valid (file_of tops bytes) (tops ++ behind)
-  pub full : (indexed ≡ true) ↔ FullyIndexed (file_of tops bytes) (tops ++ behind)
+  pub valid : Valid (spelled_file tops bytes) (tops ++ behind)
+  pub full : (indexed ≡ true) ↔ FullyIndexed (spelled_file tops bytes) (tops ++ behind)

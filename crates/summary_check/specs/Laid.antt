@@ -19,13 +19,13 @@ pub record EndsWithDataEnd (tops : List Top) : Type 0 where
   pub unended : HasDataEnd section → ⊥
 
 -- a Header, or a record that may stand behind it in a data section
-abbrev pub IsFront : Top → Type 0
-IsFront t = (t.op ≡ 1) ⊎ (stands_in_section t.op ≡ true)
+abbrev pub IsFrontRecord : Top → Type 0
+IsFrontRecord t = (t.op ≡ 1) ⊎ (stands_in_section t.op ≡ true)
 
 -- these bytes, in which these records were cut, stand behind a data section from that offset on
 pub record Laid (tops : List Top) (bytes : List ℕ) (cuts : List Cut) (start : ℕ) : Type 0 where
   pub ended : EndsWithDataEnd tops
-  pub kinds : Each IsFront tops
+  pub kinds : Each IsFrontRecord tops
   pub there : start ≡ offset_behind tops
   pub inside : AreInside bytes cuts
   pub placed : ArePlaced bytes cuts

@@ -25,10 +25,10 @@ SpanIs cuts op None = Each (λ c. c.op ≢ op) cuts
 SpanIs cuts op (Some span) = Spans cuts op span.0 span.1
 
 -- just the opcodes that the Summary Offsets in front of that place name
-abbrev pub AreNamed : List Top → ℕ → List ℕ → Type 0
-AreNamed all n names = (op : ℕ) → Has names op ↔ ((i offset size : ℕ) × (u : Top) × (i < n) × At all i u × IsSummaryOffset u op offset size)
+abbrev pub AreNamedOpcodes : List Top → ℕ → List ℕ → Type 0
+AreNamedOpcodes all n names = (op : ℕ) → Has names op ↔ ((i offset size : ℕ) × (u : Top) × (i < n) × At all i u × IsSummaryOffset u op offset size)
 
 -- a record keeps the rule, and these are the opcodes that are named with it; or it breaks it
 abbrev pub OffsetTaken : List Top → ℕ → Top → List ℕ → Bool → Type 0
-OffsetTaken all n t names true = V15 all n t × AreNamed all (suc n) names
+OffsetTaken all n t names true = V15 all n t × AreNamedOpcodes all (suc n) names
 OffsetTaken all n t names false = V15 all n t → ⊥

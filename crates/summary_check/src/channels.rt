@@ -2,8 +2,8 @@
 ghost use Rattle.std.specs.Prelude.{◌∷◌, ◌++◌, [], List, IfOk, OnOk};
 ghost use Rattle.mcap_model.specs.Tops.{Top};
 ghost use Rattle.mcap_model.specs.Made.{top};
-ghost use Rattle.summary_read.specs.Parts.{tops_of, AreInside};
-ghost use Rattle.summary_check.specs.Declaring.{AreDeclared};
+ghost use Rattle.summary_read.specs.Parts.{cut_tops, AreInside};
+ghost use Rattle.summary_check.specs.Declaring.{AreChannelIds};
 
 use crate::records::record_at;
 use index_check::Ids;
@@ -13,7 +13,7 @@ use std::alloc::Global;
 
 // Adds the id of a record that is a Channel.
 fn add_channel(ids: &mut Ids, op: u8, content: &[u8]) -> Result<(), Memory>
-    ensures { OnOk result ((before : List Top) → AreDeclared before ids.old → AreDeclared (before ++ top op content.now ∷ []) ids.new) }
+    ensures { OnOk result ((before : List Top) → AreChannelIds before ids.old → AreChannelIds (before ++ top op content.now ∷ []) ids.new) }
 {
     if op != CHANNEL {
         return Ok(());
@@ -31,7 +31,7 @@ fn add_channel(ids: &mut Ids, op: u8, content: &[u8]) -> Result<(), Memory>
 /// The ids of the Channels among these records.
 pub(crate) fn channels_of(alloc: Global, bytes: &[u8], cuts: &[Cut]) -> Result<Ids, Memory>
     requires { AreInside bytes.now cuts.now }
-    ensures { IfOk result (λ ids. AreDeclared (tops_of bytes.now cuts.now) ids) }
+    ensures { IfOk result (λ ids. AreChannelIds (cut_tops bytes.now cuts.now) ids) }
 {
     let mut ids = Ids::new(alloc);
     'records: for i in 0..cuts.len() {

@@ -4,7 +4,7 @@ ghost use Rattle.mcap_model.specs.Places.{Each};
 ghost use Rattle.mcap_model.specs.Tops.{Top, flat};
 ghost use Rattle.mcap_model.specs.Declarations.{TablesOf};
 ghost use Rattle.mcap_model.specs.Made.{top};
-ghost use Rattle.summary_read.specs.Parts.{tops_of, AreInside};
+ghost use Rattle.summary_read.specs.Parts.{cut_tops, AreInside};
 ghost use Rattle.summary_read.specs.Steps.{Judged};
 ghost use Rattle.summary_check.specs.Declaring.{DeclarationTaken, DeclarationsTaken};
 
@@ -48,8 +48,8 @@ pub(crate) fn find_disagreeing(
     cuts: &[Cut],
 ) -> Result<Option<usize>, Memory>
     requires { AreInside bytes.now cuts.now }
-    ensures { IfOk result (λ found. (tops : List Top) → TablesOf (flat tops) tables.old → Each (λ t. Judged t None) (tops_of bytes.now cuts.now)
-        → DeclarationsTaken tops (tops_of bytes.now cuts.now) tables.new found) }
+    ensures { IfOk result (λ found. (tops : List Top) → TablesOf (flat tops) tables.old → Each (λ t. Judged t None) (cut_tops bytes.now cuts.now)
+        → DeclarationsTaken tops (cut_tops bytes.now cuts.now) tables.new found) }
 {
     'records: for i in 0..cuts.len() {
         let record = record_at(bytes, cuts, i);

@@ -8,9 +8,9 @@ ghost use Rattle.mcap_model.specs.Whole.{IsIndexOf, V12};
 ghost use Rattle.mcap_model.specs.Made.{top};
 ghost use Rattle.mcap_wire.specs.declared.faults.Cut.{Cut as OneCut};
 ghost use Rattle.index_check.specs.Chunks.{ChunksOf};
-ghost use Rattle.summary_read.specs.Parts.{tops_of, AreInside};
+ghost use Rattle.summary_read.specs.Parts.{cut_tops, AreInside};
 ghost use Rattle.summary_check.specs.Filed.{records_of};
-ghost use Rattle.summary_check.specs.FullIndex.{EmptyIsRight, EmptyRight, HasStatistics, IsFull};
+ghost use Rattle.summary_check.specs.FullIndex.{EmptyIsRight, EmptyRight, HasStatistics, MakesFullyIndexed};
 ghost use Rattle.summary_check.specs.Judging.{KnownOf};
 
 use crate::channels::channels_of;
@@ -51,7 +51,7 @@ fn is_right(chunks: &Chunks, op: u8, content: &[u8]) -> bool
 // The same of each of these records.
 fn are_right(chunks: &Chunks, bytes: &[u8], cuts: &[Cut]) -> bool
     requires { AreInside bytes.now cuts.now }
-    ensures { (all : List Top) → ChunksOf all chunks.now → ((k : ℕ) (t : Top) → At (tops_of bytes.now cuts.now) k t → (n : ℕ) × V12 all n t) → IsTrue result ↔ Each (EmptyRight all) (tops_of bytes.now cuts.now) }
+    ensures { (all : List Top) → ChunksOf all chunks.now → ((k : ℕ) (t : Top) → At (cut_tops bytes.now cuts.now) k t → (n : ℕ) × V12 all n t) → IsTrue result ↔ Each (EmptyRight all) (cut_tops bytes.now cuts.now) }
 {
     'records: for i in 0..cuts.len() {
         let record = record_at(bytes, cuts, i);
@@ -64,7 +64,7 @@ fn are_right(chunks: &Chunks, bytes: &[u8], cuts: &[Cut]) -> bool
 
 // Whether one of these records is Statistics.
 fn has_statistics(cuts: &[Cut]) -> bool
-    ensures { (bytes : List ℕ) → IsTrue result ↔ HasStatistics (tops_of bytes cuts.now) }
+    ensures { (bytes : List ℕ) → IsTrue result ↔ HasStatistics (cut_tops bytes cuts.now) }
 {
     match span_of(cuts, STATISTICS) {
         Some(_) => true,
@@ -81,7 +81,7 @@ pub(crate) fn is_indexed(
 ) -> Result<bool, Memory>
     requires { AreInside bytes.now cuts.now }
     ensures { IfOk result (λ indexed. (tops : List Top) (foot : OneCut) → KnownOf tops bytes.now cuts.now foot section.now
-        → IsTrue indexed ↔ IsFull (records_of tops bytes.now cuts.now foot) (tops_of bytes.now cuts.now) section.now.chunks.spots section.now.has_messages) }
+        → IsTrue indexed ↔ MakesFullyIndexed (records_of tops bytes.now cuts.now foot) (cut_tops bytes.now cuts.now) section.now.chunks.spots section.now.has_messages) }
 {
     if section.has_messages {
         return Ok(false);

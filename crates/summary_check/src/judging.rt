@@ -2,8 +2,8 @@
 ghost use Rattle.std.specs.Prelude.{◌≤◌, ◌<◌, ◌+◌, ◌^◌, ◌++◌, ◌∷◌, [], List, length as size, IfOk, IfErr, OnOk};
 ghost use Rattle.mcap_model.specs.Tops.{Top};
 ghost use Rattle.summary_check.specs.Closing.{IsOfFooter};
-ghost use Rattle.summary_check.specs.Cutting.{AreCut};
-ghost use Rattle.summary_check.specs.Files.{file_of, IsRefused, IsOfSummary};
+ghost use Rattle.summary_check.specs.Cutting.{AreCutBehind};
+ghost use Rattle.summary_check.specs.Files.{spelled_file, FailsThere, IsOfSummary};
 ghost use Rattle.summary_check.specs.Judging.{KnownOf, IsJudged};
 ghost use Rattle.summary_check.specs.Sectioned.{IsSectioned};
 
@@ -30,12 +30,12 @@ fn judge_cuts(
     foot: &Cut,
     footer: &Footer,
 ) -> Result<(), ReadingRefused>
-    requires are { AreCut rest.now (cuts.now ++ foot.now ∷ []) }
+    requires are { AreCutBehind rest.now (cuts.now ++ foot.now ∷ []) }
     requires footer { IsOfFooter rest.now foot.now footer.now }
     requires room { foot.now.from + 16 ≤ size rest.now }
     requires fits { section.now.behind + size rest.now < 2 ^ 64 }
     ensures ok { OnOk result ((tops : List Top) → IsSectioned tops section.old → KnownOf tops rest.now cuts.now foot.now section.new) }
-    ensures err { IfErr result (λ why. (tops : List Top) → IsSectioned tops section.old → IsRefused (file_of tops rest.now) why) }
+    ensures err { IfErr result (λ why. (tops : List Top) → IsSectioned tops section.old → FailsThere (spelled_file tops rest.now) why) }
     ensures kind { IfErr result IsOfSummary }
 {
     let behind = section.behind;
@@ -82,7 +82,7 @@ fn judge_cuts(
 fn judge_rest(alloc: Global, section: &mut Section, rest: &[u8]) -> Result<bool, ReadingRefused>
     requires { section.now.behind + size rest.now + 8 < 2 ^ 64 }
     ensures ok { IfOk result (λ indexed. (tops : List Top) → IsSectioned tops section.old → IsJudged tops rest.now indexed) }
-    ensures err { IfErr result (λ why. (tops : List Top) → IsSectioned tops section.old → IsRefused (file_of tops rest.now) why) }
+    ensures err { IfErr result (λ why. (tops : List Top) → IsSectioned tops section.old → FailsThere (spelled_file tops rest.now) why) }
     ensures kind { IfErr result IsOfSummary }
 {
     let Summary { cuts, foot, footer } = match cut_summary(alloc, rest, section.behind) {
@@ -104,7 +104,7 @@ fn judge_rest(alloc: Global, section: &mut Section, rest: &[u8]) -> Result<bool,
 pub fn judge_summary(alloc: Global, section: Section, rest: &[u8]) -> Result<bool, ReadingRefused>
     requires { section.behind + size rest.now + 8 < 2 ^ 64 }
     ensures ok { IfOk result (λ indexed. (tops : List Top) → IsSectioned tops section → IsJudged tops rest.now indexed) }
-    ensures err { IfErr result (λ why. (tops : List Top) → IsSectioned tops section → IsRefused (file_of tops rest.now) why) }
+    ensures err { IfErr result (λ why. (tops : List Top) → IsSectioned tops section → FailsThere (spelled_file tops rest.now) why) }
     ensures kind { IfErr result IsOfSummary }
 {
     let mut kept = section;

@@ -1,5 +1,5 @@
 //! Which records may stand behind a Data End, and their layouts.
-ghost use Rattle.summary_read.specs.Parts.{tops_of, AreInside};
+ghost use Rattle.summary_read.specs.Parts.{cut_tops, AreInside};
 ghost use Rattle.summary_check.specs.Body.{BrokenFound};
 
 use crate::records::record_at;
@@ -9,7 +9,7 @@ use summary_read::breaks;
 /// The first record that may not stand in front of a Footer or whose content can't be read, and the rule that it breaks.
 pub(crate) fn find_broken(bytes: &[u8], cuts: &[Cut]) -> Option<(usize, u8)>
     requires { AreInside bytes.now cuts.now }
-    ensures { BrokenFound (tops_of bytes.now cuts.now) result }
+    ensures { BrokenFound (cut_tops bytes.now cuts.now) result }
 {
     'records: for i in 0..cuts.len() {
         let record = record_at(bytes, cuts, i);

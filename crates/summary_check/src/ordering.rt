@@ -2,7 +2,7 @@
 ghost use Rattle.std.specs.Prelude.{◌≡◌, List, ℕ, IfOk};
 ghost use Rattle.mcap_model.specs.Tops.{Top};
 ghost use Rattle.index_check.specs.Order.{OrderOf};
-ghost use Rattle.summary_read.specs.Parts.{tops_of};
+ghost use Rattle.summary_read.specs.Parts.{cut_tops};
 ghost use Rattle.summary_check.specs.Body.{known, OpTaken, OrderJudged};
 
 use crate::records::op_at;
@@ -31,7 +31,7 @@ fn take_op(order: &mut Order, op: u8) -> Result<bool, Memory>
 
 /// The first record that doesn't stand where the order of a summary has it.
 pub(crate) fn find_misplaced(alloc: Global, cuts: &[Cut]) -> Result<Option<usize>, Memory>
-    ensures { IfOk result (λ found. (bytes : List ℕ) → OrderJudged (tops_of bytes cuts.now) found) }
+    ensures { IfOk result (λ found. (bytes : List ℕ) → OrderJudged (cut_tops bytes cuts.now) found) }
 {
     let mut order = Order::new(alloc);
     'records: for i in 0..cuts.len() {

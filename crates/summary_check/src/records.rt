@@ -3,7 +3,7 @@ ghost use Rattle.std.specs.Prelude.{◌≡◌, ◌<◌, ℕ, List, length};
 ghost use Rattle.mcap_model.specs.Places.{At};
 ghost use Rattle.mcap_model.specs.Tops.{Top};
 ghost use Rattle.mcap_model.specs.Made.{top};
-ghost use Rattle.summary_read.specs.Parts.{tops_of, AreInside};
+ghost use Rattle.summary_read.specs.Parts.{cut_tops, AreInside};
 ghost use Rattle.mcap_wire.specs.declared.faults.Cut.{Cut as OneCut};
 
 use mcap_wire::Cut;
@@ -19,7 +19,7 @@ pub(crate) struct Record<'a> {
 pub(crate) fn record_at<'a>(bytes: &'a [u8], cuts: &[Cut], i: usize) -> Record<'a>
     requires inside { AreInside bytes.now cuts.now }
     requires within { i < length cuts.now }
-    ensures { At (tops_of bytes.now cuts.now) i (top result.op result.content.now) }
+    ensures { At (cut_tops bytes.now cuts.now) i (top result.op result.content.now) }
 {
     let Cut { op, from, to } = cuts[i];
     Record {
@@ -31,7 +31,7 @@ pub(crate) fn record_at<'a>(bytes: &'a [u8], cuts: &[Cut], i: usize) -> Record<'
 /// The opcode of the record that was cut at that place.
 pub(crate) fn op_at(cuts: &[Cut], i: usize) -> u8
     requires { i < length cuts.now }
-    ensures { (bytes : List ℕ) → (t : Top) × At (tops_of bytes cuts.now) i t × (t.op ≡ result) }
+    ensures { (bytes : List ℕ) → (t : Top) × At (cut_tops bytes cuts.now) i t × (t.op ≡ result) }
 {
     cuts[i].op
 }

@@ -4,7 +4,7 @@ ghost use Rattle.mcap_model.specs.Places.{Has, Each};
 ghost use Rattle.mcap_model.specs.Tops.{Top};
 ghost use Rattle.index_check.specs.Tally.{TallyOf};
 ghost use Rattle.summary_read.specs.Steps.{Judged};
-ghost use Rattle.summary_check.specs.Declaring.{AreDeclared};
+ghost use Rattle.summary_check.specs.Declaring.{AreChannelIds};
 ghost use Rattle.summary_check.specs.Laid.{all_of, EndsWithDataEnd};
 ghost use Rattle.summary_check.specs.Repeating.{AreRepeated};
 
@@ -32,7 +32,7 @@ fn have_entries(ids: &Ids, counts: &[(u16, u64)]) -> bool
 /// Whether each channel with a Message, for which there is a number, is one of these, which are those of the Channels
 /// between the Data End and the Footer.
 pub fn are_repeated(tally: &Tally, ids: &Ids) -> bool
-    ensures { (tops body : List Top) (foot : Top) (ended : EndsWithDataEnd tops) → Each (λ t. Judged t None) body → foot.op ≡ 2 → TallyOf (all_of tops body foot) ended.section tally.now → AreDeclared body ids.now
+    ensures { (tops body : List Top) (foot : Top) (ended : EndsWithDataEnd tops) → Each (λ t. Judged t None) body → foot.op ≡ 2 → TallyOf (all_of tops body foot) ended.section tally.now → AreChannelIds body ids.now
         → IsTrue result ↔ AreRepeated (all_of tops body foot) }
 {
     have_entries(ids, &tally.counts)

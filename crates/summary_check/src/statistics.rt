@@ -4,7 +4,7 @@ ghost use Rattle.mcap_model.specs.Tops.{Top};
 ghost use Rattle.mcap_model.specs.Whole.{V14};
 ghost use Rattle.mcap_model.specs.Made.{top};
 ghost use Rattle.index_check.specs.Tally.{TallyOf};
-ghost use Rattle.summary_read.specs.Parts.{tops_of, AreInside};
+ghost use Rattle.summary_read.specs.Parts.{cut_tops, AreInside};
 ghost use Rattle.summary_check.specs.Body.{RuleJudged};
 
 use crate::records::record_at;
@@ -28,7 +28,7 @@ fn counts_right(tally: &Tally, op: u8, content: &[u8]) -> bool
 /// The first Statistics among these records that doesn't count the data section right.
 pub(crate) fn find_miscounted(tally: &Tally, bytes: &[u8], cuts: &[Cut]) -> Option<usize>
     requires { AreInside bytes.now cuts.now }
-    ensures { (all section : List Top) (base : ℕ) → TallyOf all section tally.now → RuleJudged V14 all base (tops_of bytes.now cuts.now) result }
+    ensures { (all section : List Top) (base : ℕ) → TallyOf all section tally.now → RuleJudged V14 all base (cut_tops bytes.now cuts.now) result }
 {
     'records: for i in 0..cuts.len() {
         let record = record_at(bytes, cuts, i);

@@ -3,9 +3,9 @@ ghost use Rattle.std.specs.Prelude.{◌≡◌, ◌≤◌, ◌<◌, ◌+◌, ◌^
 ghost use Rattle.mcap_model.specs.Tops.{Top, offset_behind};
 ghost use Rattle.mcap_model.specs.Whole.{AreShort};
 ghost use Rattle.summary_check.specs.Closing.{IsOfFooter, NoFooter};
-ghost use Rattle.summary_check.specs.Files.{file_of, IsRefused, IsOfSummary};
+ghost use Rattle.summary_check.specs.Files.{spelled_file, FailsThere, IsOfSummary};
 ghost use Rattle.summary_check.specs.Laid.{EndsWithDataEnd};
-ghost use Rattle.summary_check.specs.Closing.{SummaryCut};
+ghost use Rattle.summary_check.specs.Closing.{CutWithFooter};
 
 use crate::cutting::cut_records;
 use mcap_model::ReadingRefused;
@@ -50,8 +50,8 @@ pub(crate) fn cut_summary(
     start: u64,
 ) -> Result<Summary, ReadingRefused>
     requires { start + length bytes.now + 8 < 2 ^ 64 }
-    ensures ok { IfOk result (λ s. SummaryCut bytes.now s) }
-    ensures err { IfErr result (λ why. (tops : List Top) → EndsWithDataEnd tops → AreShort tops → start ≡ offset_behind tops → IsRefused (file_of tops bytes.now) why) }
+    ensures ok { IfOk result (λ s. CutWithFooter bytes.now s) }
+    ensures err { IfErr result (λ why. (tops : List Top) → EndsWithDataEnd tops → AreShort tops → start ≡ offset_behind tops → FailsThere (spelled_file tops bytes.now) why) }
     ensures kind { IfErr result IsOfSummary }
 {
     let mut cuts = match cut_records(alloc, bytes, start) {

@@ -3,7 +3,7 @@ ghost use Rattle.std.specs.Prelude.{List, ℕ};
 ghost use Rattle.mcap_model.specs.Places.{At};
 ghost use Rattle.mcap_model.specs.Tops.{Top};
 ghost use Rattle.mcap_model.specs.Made.{top};
-ghost use Rattle.summary_read.specs.Parts.{tops_of, AreInside};
+ghost use Rattle.summary_read.specs.Parts.{cut_tops, AreInside};
 ghost use Rattle.summary_check.specs.Body.{StandFrom};
 ghost use Rattle.summary_check.specs.Told.{ToldOf, IndexTaken, IndexesTaken};
 
@@ -66,7 +66,7 @@ pub(crate) fn take_indexes(
     cuts: &[Cut],
 ) -> Option<(usize, u8)>
     requires { AreInside bytes.now cuts.now }
-    ensures { (all : List Top) (base : ℕ) → StandFrom all base (tops_of bytes.now cuts.now) → ToldOf all base chunks.old attachments.old metadata.old → IndexesTaken all base (tops_of bytes.now cuts.now) chunks.new attachments.new metadata.new result }
+    ensures { (all : List Top) (base : ℕ) → StandFrom all base (cut_tops bytes.now cuts.now) → ToldOf all base chunks.old attachments.old metadata.old → IndexesTaken all base (cut_tops bytes.now cuts.now) chunks.new attachments.new metadata.new result }
 {
     'records: for i in 0..cuts.len() {
         let record = record_at(bytes, cuts, i);

@@ -9,12 +9,12 @@ use Rattle.mcap_model.specs.Made.{top}
 use Rattle.mcap_model.specs.Rules.{V1}
 use Rattle.mcap_model.specs.declared.refusals.ReadingRefused.{ReadingRefused}
 use Rattle.mcap_model.specs.declared.refusals.ReadingRefused.TheVariants as refusals
-use Rattle.summary_read.specs.Reached.{EndsIn, StartsAt, summary_part, inside, record_passes, FailsInside, PassesInside}
-use Rattle.summary_read.specs.Parts.{Parts, IsLoaded, IsListed, offsets_of_kind, tops_of}
+use Rattle.summary_read.specs.Reached.{EndsIn, SummaryStartsAt, summary_part, inside, record_passes, FailsInside, PassesInside}
+use Rattle.summary_read.specs.Parts.{Parts, IsLoaded, ListsParts, offsets_of_kind, cut_tops}
 use Rattle.summary_read.specs.Loading.{IsUnloaded, AskedFor}
 use Rattle.summary_read.specs.Steps.{NamesPart, HasHeader, AreCut, SummaryCut}
 
-pub starts : (file : List ℕ) (f : Footer) → NamesPart file f → StartsAt file f.summary_start
+pub starts : (file : List ℕ) (f : Footer) → NamesPart file f → SummaryStartsAt file f.summary_start
 starts file f names = record { footer = f; ends = names.ends; named = refl; behind = names.behind; before = names.before }
 
 -- the bytes that were read are the summary
@@ -30,22 +30,22 @@ refused_inside Y file bytes f (refusals.Limit offset) v1 names is cut =
     (record_passes f.summary_start offset (starts file f names) (subst (λ (l : List ℕ). PassesInside l f.summary_start offset) is cut), names.some)
 refused_inside Y file bytes f refusals.Memory v1 names is cut = tt
 
-pub loaded : (file header bytes : List ℕ) (f : Footer) (cuts : List Cut) (p : Parts) → NamesPart file f → HasHeader file header → IsHeader (top 1 header) → bytes ≡ summary_part file f.summary_start → AreCut bytes cuts → IsListed header f bytes cuts p → IsLoaded file p
+pub loaded : (file header bytes : List ℕ) (f : Footer) (cuts : List Cut) (p : Parts) → NamesPart file f → HasHeader file header → IsHeader (top 1 header) → bytes ≡ summary_part file f.summary_start → AreCut bytes cuts → ListsParts header f bytes cuts p → IsLoaded file p
 loaded file header bytes f cuts p names has is part cut listed =
     let footer = sym listed.footer_is in
-    let split : summary_part file f.summary_start ≡ spelled (tops_of bytes cuts) = sym part ∙ cut.split in
+    let split : summary_part file f.summary_start ≡ spelled (cut_tops bytes cuts) = sym part ∙ cut.split in
     record {
       v1 = has.v1;
       v2 = names.v2;
       header_stands = subst (StandsIn file 8) (sym listed.header_is) has.stands;
       header_is = subst IsHeader (sym listed.header_is) is;
       ends = subst (EndsIn file) footer names.ends;
-      starts = subst (λ (g : Footer). StartsAt file g.summary_start) footer (starts file f names);
-      tops = tops_of bytes cuts;
-      split = subst (λ (g : Footer). summary_part file g.summary_start ≡ spelled (tops_of bytes cuts)) footer split;
+      starts = subst (λ (g : Footer). SummaryStartsAt file g.summary_start) footer (starts file f names);
+      tops = cut_tops bytes cuts;
+      split = subst (λ (g : Footer). summary_part file g.summary_start ≡ spelled (cut_tops bytes cuts)) footer split;
       sound = cut.sound;
       listed = listed.listed;
-      placed = subst (λ (g : Footer). p.chunk_index_offsets ≡ offsets_of_kind 8 g.summary_start (tops_of bytes cuts)) footer listed.placed;
+      placed = subst (λ (g : Footer). p.chunk_index_offsets ≡ offsets_of_kind 8 g.summary_start (cut_tops bytes cuts)) footer listed.placed;
       file_fits = names.file_fits;
       summary_fits = omega (arith, ap length split, length-take (length file - 37 - f.summary_start) (drop f.summary_start file), names.summary_fits);
     }

@@ -7,20 +7,20 @@ use Rattle.mcap_model.specs.Rules.{V6}
 use Rattle.mcap_model.specs.Made.{top}
 use Rattle.mcap_model.specs.Plain.{cut_top}
 use Rattle.mcap_model.proofs.Flat.{at_mapped}
-use Rattle.summary_read.specs.Parts.{IsHeld, AreHeld, AreInside, IsContentAt, tops_of}
+use Rattle.summary_read.specs.Parts.{IsSummaryCut, AreHeld, AreInside, IsContentAt, cut_tops}
 
 -- the record at that place, by its content
 pub record FoundAt (summary : List ℕ) (op : ℕ) (cuts : List Cut) (i : ℕ) (content : List ℕ) : Type 0 where
-  pub at : At (tops_of summary cuts) i (top op content)
+  pub at : At (cut_tops summary cuts) i (top op content)
   pub layout : V6 (top op content)
 
 pub found_at : (summary : List ℕ) (op : ℕ) (cuts : List Cut) (i : ℕ) (content : List ℕ) → AreHeld summary op cuts → IsContentAt summary cuts i content → FoundAt summary op cuts i content
 found_at summary op cuts i content held here =
     let c = here.0 in
-    let is : IsHeld summary op c = held i c here.1 in
+    let is : IsSummaryCut summary op c = held i c here.1 in
     let same : cut_top summary c ≡ top op content = ap (λ (o : ℕ). top o (part c.from c.to summary)) is.kind ∙ ap (top op) (sym here.2) in
     record {
-      at = subst (At (tops_of summary cuts) i) same (at_mapped (cut_top summary) cuts i c here.1);
+      at = subst (At (cut_tops summary cuts) i) same (at_mapped (cut_top summary) cuts i c here.1);
       layout = subst V6 same is.layout;
     }
 

@@ -12,7 +12,7 @@ use Rattle.mcap_model.proofs.Flat.{at_mapped}
 use Rattle.mcap_model.proofs.Lists.{filter_passed}
 use Rattle.mcap_model.proofs.Places.{at_none}
 use Rattle.mcap_model.proofs.Readings.{length-top}
-use Rattle.summary_read.specs.Parts.{AreHeld, AreInside, of_kind, offsets_of, offsets_of_kind, tops_of}
+use Rattle.summary_read.specs.Parts.{AreHeld, AreInside, of_kind, offsets_of, offsets_of_kind, cut_tops}
 use Rattle.summary_read.specs.Steps.{InRow, AreCut}
 
 row_head : (at end : ℕ) (cuts : List Cut) (n : ℕ) (c : Cut) → InRow at cuts end → At cuts n c → 9 ≤ c.from
@@ -34,7 +34,7 @@ held_of summary cuts items op cut is n c at =
       layout = (cut.sound place (cut_top summary c) (at_mapped (cut_top summary) cuts place c there)).layout;
     }
 
-map_filter : (summary : List ℕ) (op : ℕ) (cuts : List Cut) → tops_of summary (filter (λ c. c.op == op) cuts) ≡ of_kind op (tops_of summary cuts)
+map_filter : (summary : List ℕ) (op : ℕ) (cuts : List Cut) → cut_tops summary (filter (λ c. c.op == op) cuts) ≡ of_kind op (cut_tops summary cuts)
 map_filter summary op [] = refl
 map_filter summary op (c ∷ cs) = by (c.op == op) (map_filter summary op cs)
   where
@@ -42,23 +42,23 @@ map_filter summary op (c ∷ cs) = by (c.op == op) (map_filter summary op cs)
     rest = filter (λ d. d.op == op) cs
 
     others : List Top
-    others = of_kind op (tops_of summary cs)
+    others = of_kind op (cut_tops summary cs)
 
-    by : (b : Bool) → tops_of summary rest ≡ others → tops_of summary (cond b (c ∷ rest) rest) ≡ cond b (cut_top summary c ∷ others) others
+    by : (b : Bool) → cut_tops summary rest ≡ others → cut_tops summary (cond b (c ∷ rest) rest) ≡ cond b (cut_top summary c ∷ others) others
     by true same = ap (λ (l : List Top). cut_top summary c ∷ l) same
     by false same = same
 
-pub listed_of : (summary : List ℕ) (cuts items : List Cut) (op : ℕ) → items ≡ filter (λ c. c.op == op) cuts → tops_of summary items ≡ of_kind op (tops_of summary cuts)
-listed_of summary cuts items op is = ap (tops_of summary) is ∙ map_filter summary op cuts
+pub listed_of : (summary : List ℕ) (cuts items : List Cut) (op : ℕ) → items ≡ filter (λ c. c.op == op) cuts → cut_tops summary items ≡ of_kind op (cut_tops summary cuts)
+listed_of summary cuts items op is = ap (cut_tops summary) is ∙ map_filter summary op cuts
 
 -- ---- their offsets
 
-offsets_listed : (summary : List ℕ) (op start at end : ℕ) (cuts : List Cut) → InRow at cuts end → AreInside summary cuts → offsets_of start (filter (λ c. c.op == op) cuts) ≡ offsets_of_kind op (start + at) (tops_of summary cuts)
+offsets_listed : (summary : List ℕ) (op start at end : ℕ) (cuts : List Cut) → InRow at cuts end → AreInside summary cuts → offsets_of start (filter (λ c. c.op == op) cuts) ≡ offsets_of_kind op (start + at) (cut_tops summary cuts)
 offsets_listed summary op start at end [] row inside = refl
 offsets_listed summary op start at end (c ∷ cs) row inside =
     by (c.op == op) (
     offsets_listed summary op start c.to end cs row.1 (λ n d there. inside (suc n) d there)
-    ∙ ap (λ (n : ℕ). offsets_of_kind op n (tops_of summary cs)) (omega (arith, size, row.0, within.0))
+    ∙ ap (λ (n : ℕ). offsets_of_kind op n (cut_tops summary cs)) (omega (arith, size, row.0, within.0))
     )
   where
     within : (c.from ≤ c.to) × (c.to ≤ length summary)
@@ -74,17 +74,17 @@ offsets_listed summary op start at end (c ∷ cs) row inside =
     rest = filter (λ d. d.op == op) cs
 
     others : List ℕ
-    others = offsets_of_kind op (start + at + length (top_bytes (cut_top summary c))) (tops_of summary cs)
+    others = offsets_of_kind op (start + at + length (top_bytes (cut_top summary c))) (cut_tops summary cs)
 
     by : (b : Bool) → offsets_of start rest ≡ others → offsets_of start (cond b (c ∷ rest) rest) ≡ cond b ((start + at) ∷ others) others
     by true same = ap (λ (n : ℕ). n ∷ offsets_of start rest) first ∙ ap (λ (l : List ℕ). (start + at) ∷ l) same
     by false same = same
 
-pub placed_of : (summary : List ℕ) (cuts items : List Cut) (op start : ℕ) → AreCut summary cuts → items ≡ filter (λ c. c.op == op) cuts → offsets_of start items ≡ offsets_of_kind op start (tops_of summary cuts)
+pub placed_of : (summary : List ℕ) (cuts items : List Cut) (op start : ℕ) → AreCut summary cuts → items ≡ filter (λ c. c.op == op) cuts → offsets_of start items ≡ offsets_of_kind op start (cut_tops summary cuts)
 placed_of summary cuts items op start cut is =
     ap (offsets_of start) is
     ∙ offsets_listed summary op start 0 (length summary) cuts cut.row cut.inside
-    ∙ ap (λ (n : ℕ). offsets_of_kind op n (tops_of summary cuts)) (omega arith)
+    ∙ ap (λ (n : ℕ). offsets_of_kind op n (cut_tops summary cuts)) (omega arith)
 
 -- the record at a place among those of one opcode stands at the offset at that place
 pub offset_at : (op start : ℕ) (tops : List Top) (i : ℕ) (t : Top) (offset : ℕ) → At (of_kind op tops) i t → At (offsets_of_kind op start tops) i offset

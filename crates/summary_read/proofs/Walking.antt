@@ -17,7 +17,7 @@ use Rattle.mcap_model.proofs.Lists.{each_cons, each_joined}
 use Rattle.mcap_model.proofs.Places.{at_none}
 use Rattle.mcap_model.proofs.Readings.{length-top}
 use Rattle.summary_read.specs.Reached.{BreaksFirst, breaks_4, breaks_5, breaks_6, DeclaresPast}
-use Rattle.summary_read.specs.Parts.{tops_of, IsSound}
+use Rattle.summary_read.specs.Parts.{cut_tops, IsSummaryRecord}
 use Rattle.summary_read.specs.Steps.{Judged, IsTaken, InRow, CutsTo, AreCut}
 
 -- ---- what stands at an offset
@@ -76,18 +76,18 @@ cuts_more bytes at cuts c so_far taken =
     let t = cut_top bytes c in
     let stands = taken.is.stands in
     let size : length t.content ≡ c.to - c.from = omega (arith, length-take (c.to - c.from) (drop c.from bytes), length-drop c.from bytes, stands.ends) in
-    let tops_are : tops_of bytes (cuts ++ c ∷ []) ≡ tops_of bytes cuts ++ t ∷ [] = map-append (cut_top bytes) cuts (c ∷ []) in
-    let text : spelled (tops_of bytes (cuts ++ c ∷ [])) ≡ spelled (tops_of bytes cuts) ++ top_bytes t = ap spelled tops_are ∙ spelled_more (tops_of bytes cuts) t in
+    let tops_are : cut_tops bytes (cuts ++ c ∷ []) ≡ cut_tops bytes cuts ++ t ∷ [] = map-append (cut_top bytes) cuts (c ∷ []) in
+    let text : spelled (cut_tops bytes (cuts ++ c ∷ [])) ≡ spelled (cut_tops bytes cuts) ++ top_bytes t = ap spelled tops_are ∙ spelled_more (cut_tops bytes cuts) t in
     record {
       within = stands.ends;
       split = so_far.split
-          ∙ ap (λ (l : List ℕ). spelled (tops_of bytes cuts) ++ l) stands.framed_there
-          ∙ sym (append_assoc (spelled (tops_of bytes cuts)) (top_bytes t) (drop c.to bytes))
+          ∙ ap (λ (l : List ℕ). spelled (cut_tops bytes cuts) ++ l) stands.framed_there
+          ∙ sym (append_assoc (spelled (cut_tops bytes cuts)) (top_bytes t) (drop c.to bytes))
           ∙ ap (λ (l : List ℕ). l ++ drop c.to bytes) (sym text);
       there = omega (
         arith,
         ap length text,
-        length-append (spelled (tops_of bytes cuts)) (top_bytes t),
+        length-append (spelled (cut_tops bytes cuts)) (top_bytes t),
         length-top t,
         size,
         so_far.there,
@@ -96,8 +96,8 @@ cuts_more bytes at cuts c so_far taken =
       );
       row = row_more 0 at cuts c so_far.row stands.head;
       inside = each_more (λ (d : Cut). (d.from ≤ d.to) × (d.to ≤ length bytes)) cuts c so_far.inside (stands.begins, stands.ends);
-      sound = subst (Each IsSound) (sym tops_are) (
-          each_more IsSound (tops_of bytes cuts) t so_far.sound (record {
+      sound = subst (Each IsSummaryRecord) (sym tops_are) (
+          each_more IsSummaryRecord (cut_tops bytes cuts) t so_far.sound (record {
             kind = taken.kind;
             layout = taken.layout;
             short = omega (arith, size, taken.is.within);
@@ -111,8 +111,8 @@ all_cut bytes at cuts to past =
     let end : at ≡ length bytes = omega (arith, past, to.within) in
     record {
       split = to.split
-          ∙ ap (λ (l : List ℕ). spelled (tops_of bytes cuts) ++ l) (nil_from_length (drop at bytes) (omega (arith, length-drop at bytes, past)))
-          ∙ append-nil (spelled (tops_of bytes cuts));
+          ∙ ap (λ (l : List ℕ). spelled (cut_tops bytes cuts) ++ l) (nil_from_length (drop at bytes) (omega (arith, length-drop at bytes, past)))
+          ∙ append-nil (spelled (cut_tops bytes cuts));
       row = subst (InRow 0 cuts) end to.row;
       inside = to.inside;
       sound = to.sound;

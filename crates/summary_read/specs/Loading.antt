@@ -9,7 +9,7 @@ use Rattle.mcap_model.specs.declared.refusals.NotIndexed.{NotIndexed}
 use Rattle.mcap_model.specs.declared.refusals.NotIndexed.TheVariants as lacks
 use Rattle.mcap_model.specs.declared.refusals.IndexedRefused.{IndexedRefused}
 use Rattle.mcap_model.specs.declared.refusals.IndexedRefused.TheVariants as by_index
-use Rattle.summary_read.specs.Reached.{HasNoSummary, StartsAt, Fails, Passes}
+use Rattle.summary_read.specs.Reached.{HasNoSummary, SummaryStartsAt, FailsLoading, Passes}
 use Rattle.summary_read.specs.Parts.{Parts, IsLoaded}
 
 -- no other reason than that there is no summary
@@ -23,19 +23,19 @@ IsUnsummed (lacks.NoChannel id) = ⊥
 -- why a file isn't loaded whose Footer doesn't say that there is no summary
 abbrev pub IsUnloaded : List ℕ → ReadingRefused → Type 0
 IsUnloaded file (refusals.Fault faults) = Unit {0}
-IsUnloaded file (refusals.Grammar offset rule) = Fails file rule offset × (HasNoSummary file → ⊥)
+IsUnloaded file (refusals.Grammar offset rule) = FailsLoading file rule offset × (HasNoSummary file → ⊥)
 IsUnloaded file (refusals.Compressed offset name) = ⊥
 IsUnloaded file (refusals.Limit offset) = Passes file offset × (HasNoSummary file → ⊥)
 IsUnloaded file refusals.Memory = Unit {0}
 
 -- why a file isn't loaded
-abbrev pub IsRefused : List ℕ → IndexedRefused → Type 0
-IsRefused file (by_index.NotIndexed why) = IsUnsummed why × HasNoSummary file
-IsRefused file (by_index.Refused why) = IsUnloaded file why
+abbrev pub IsLoadRefused : List ℕ → IndexedRefused → Type 0
+IsLoadRefused file (by_index.NotIndexed why) = IsUnsummed why × HasNoSummary file
+IsLoadRefused file (by_index.Refused why) = IsUnloaded file why
 
 abbrev pub LoadsFile : List ℕ → Result Parts IndexedRefused → Type 0
 LoadsFile file (Ok parts) = IsLoaded file parts × (HasNoSummary file → ⊥)
-LoadsFile file (Err why) = IsRefused file why
+LoadsFile file (Err why) = IsLoadRefused file why
 
 -- where the store tells its bytes, these are the file
 abbrev pub Loads : Option (List ℕ) → Result Parts IndexedRefused → Type 0
@@ -63,7 +63,7 @@ LoadCause before now (Err (by_index.Refused why)) = PlainCause before now why
 -- Header, the content that the Header declares, and the summary.
 abbrev pub AskedFor : List ℕ → ℕ → ℕ → Type 0
 AskedFor file before now = (now ≤ before + 45)
-    ⊎ ((start : ℕ) × StartsAt file start × (now ≤ before + 54 + declared_length (drop 8 file) + (length file - 37 - start)))
+    ⊎ ((start : ℕ) × SummaryStartsAt file start × (now ≤ before + 54 + declared_length (drop 8 file) + (length file - 37 - start)))
 
 abbrev pub AsksLittle : StoreState → StoreState → Type 0
 AsksLittle old new = (file : List ℕ) → old.bytes ≡ Some file → AskedFor file old.asked new.asked

@@ -13,7 +13,7 @@ use Rattle.mcap_model.specs.Whole.{V2, stands_in_summary}
 use Rattle.mcap_model.specs.Made.{top}
 use Rattle.mcap_model.specs.Plain.{cut_top}
 use Rattle.mcap_wire.specs.Limits.{file_limit}
-use Rattle.summary_read.specs.Reached.{summary_limit, EndsIn, StartsAt, summary_part}
+use Rattle.summary_read.specs.Reached.{summary_limit, EndsIn, SummaryStartsAt, summary_part}
 
 -- The Header and the Footer; the first Statistics of the summary, if it has one; and the other known records of the
 -- summary by their kinds, each list in the order of the file. Of the Chunk Indexes the offsets in the file too.
@@ -55,7 +55,7 @@ pub record AreListed (tops : List Top) (p : Parts) : Type 0 where
   pub summary_offsets : p.summary_offsets ≡ of_kind 14 tops
 
 -- a record that may stand in a summary, with a content that can be read
-pub record IsSound (t : Top) : Type 0 where
+pub record IsSummaryRecord (t : Top) : Type 0 where
   pub kind : stands_in_summary t.op ≡ true
   pub layout : V6 t
   pub short : length t.content ≤ content_limit
@@ -67,10 +67,10 @@ pub record IsLoaded (file : List ℕ) (p : Parts) : Type 0 where
   pub header_stands : StandsIn file 8 p.header
   pub header_is : IsHeader p.header
   pub ends : EndsIn file p.footer
-  pub starts : StartsAt file p.footer.summary_start
+  pub starts : SummaryStartsAt file p.footer.summary_start
   pub tops : List Top
   pub split : summary_part file p.footer.summary_start ≡ spelled tops
-  pub sound : Each IsSound tops
+  pub sound : Each IsSummaryRecord tops
   pub listed : AreListed tops p
   pub placed : p.chunk_index_offsets ≡ offsets_of_kind 8 p.footer.summary_start tops
   pub file_fits : length file ≤ file_limit
@@ -79,7 +79,7 @@ pub record IsLoaded (file : List ℕ) (p : Parts) : Type 0 where
 -- ---- how they are held
 
 -- a record that was cut from the summary stands in it, and its content can be read
-pub record IsHeld (summary : List ℕ) (op : ℕ) (c : Cut) : Type 0 where
+pub record IsSummaryCut (summary : List ℕ) (op : ℕ) (c : Cut) : Type 0 where
   pub kind : c.op ≡ op
   pub head : 9 ≤ c.from
   pub begins : c.from ≤ c.to
@@ -87,7 +87,7 @@ pub record IsHeld (summary : List ℕ) (op : ℕ) (c : Cut) : Type 0 where
   pub layout : V6 (cut_top summary c)
 
 abbrev pub AreHeld : List ℕ → ℕ → List Cut → Type 0
-AreHeld summary op cuts = Each (IsHeld summary op) cuts
+AreHeld summary op cuts = Each (IsSummaryCut summary op) cuts
 
 -- the contents of records that were cut stand in the summary
 abbrev pub AreInside : List ℕ → List Cut → Type 0
@@ -98,25 +98,25 @@ abbrev pub IsContentAt : List ℕ → List Cut → ℕ → List ℕ → Type 0
 IsContentAt summary cuts i content = (c : Cut) × At cuts i c × (content ≡ part c.from c.to summary)
 
 -- the records that were cut
-abbrev pub tops_of : List ℕ → List Cut → List Top
-tops_of summary cuts = map (cut_top summary) cuts
+abbrev pub cut_tops : List ℕ → List Cut → List Top
+cut_tops summary cuts = map (cut_top summary) cuts
 
 -- the offsets of the records that were cut from a summary which starts there: their heads have nine bytes
 abbrev pub offsets_of : ℕ → List Cut → List ℕ
 offsets_of start cuts = map (λ c. start + (c.from - 9)) cuts
 
 -- the Header of that content, the Footer, and the records that were cut, listed
-pub record IsListed (header : List ℕ) (footer : Footer) (summary : List ℕ) (cuts : List Cut) (p : Parts) : Type 0 where
+pub record ListsParts (header : List ℕ) (footer : Footer) (summary : List ℕ) (cuts : List Cut) (p : Parts) : Type 0 where
   pub header_is : p.header ≡ top 1 header
   pub footer_is : p.footer ≡ footer
-  pub listed : AreListed (tops_of summary cuts) p
-  pub placed : p.chunk_index_offsets ≡ offsets_of_kind 8 footer.summary_start (tops_of summary cuts)
+  pub listed : AreListed (cut_tops summary cuts) p
+  pub placed : p.chunk_index_offsets ≡ offsets_of_kind 8 footer.summary_start (cut_tops summary cuts)
 
 -- ---- what is given of them
 
 -- the record at that place is such a one
-abbrev pub Gives : List Top → ℕ → (Top → Type 0) → Type 0
-Gives tops i Is = (t : Top) × At tops i t × Is t
+abbrev pub IsSuchAt : List Top → ℕ → (Top → Type 0) → Type 0
+IsSuchAt tops i Is = (t : Top) × At tops i t × Is t
 
 -- the Statistics is shown, if there is one
 abbrev pub GivesStatistics : Option Top → Option Statistics → Type 0

@@ -19,8 +19,8 @@ summary_limit = 2 ^ 28
 -- ---- the Footer
 
 -- the record shows this Footer
-abbrev pub ShowsFooter : Top → Footer → Type 0
-ShowsFooter t f = IsFooter t f.summary_start f.summary_offset_start f.summary_crc
+abbrev pub RecordShowsFooter : Top → Footer → Type 0
+RecordShowsFooter t f = IsFooter t f.summary_start f.summary_offset_start f.summary_crc
 
 -- this Footer stands in front of the last eight bytes
 pub record EndsIn (file : List ℕ) (f : Footer) : Type 0 where
@@ -29,7 +29,7 @@ pub record EndsIn (file : List ℕ) (f : Footer) : Type 0 where
   pub last : List ℕ
   pub split : file ≡ before ++ (top_bytes top ++ last)
   pub size : length last ≡ 8
-  pub is : ShowsFooter top f
+  pub is : RecordShowsFooter top f
 
 -- a whole Footer stands there, and says that there is no summary
 abbrev pub HasNoSummary : List ℕ → Type 0
@@ -42,7 +42,7 @@ abbrev pub summary_part : List ℕ → ℕ → List ℕ
 summary_part file start = part start (length file - 37) file
 
 -- the Footer names a summary that starts behind the magic and not behind the Footer's own place
-pub record StartsAt (file : List ℕ) (start : ℕ) : Type 0 where
+pub record SummaryStartsAt (file : List ℕ) (start : ℕ) : Type 0 where
   pub footer : Footer
   pub ends : EndsIn file footer
   pub named : footer.summary_start ≡ start
@@ -84,10 +84,10 @@ pub data FailsAtEnds (file : List ℕ) : ℕ → ℕ → Type 0 where
 
 -- The rule of that number fails at that offset: on the file's ends; on the Footer, which names no place of a summary; or on
 -- a record of the summary. Of a file that doesn't begin with the magic only that is told.
-pub data Fails (file : List ℕ) : ℕ → ℕ → Type 0 where
-  at_ends : (rule offset : ℕ) → FailsAtEnds file rule offset → Fails file rule offset
-  by_start : V1 file → (f : Footer) → EndsIn file f → f.summary_start ≢ 0 → (f.summary_start < 8) ⊎ (length file < f.summary_start + 37) → Fails file 11 (length file - 37)
-  inside : V1 file → (start rule offset : ℕ) → StartsAt file start → FailsInside (summary_part file start) start rule offset → Fails file rule offset
+pub data FailsLoading (file : List ℕ) : ℕ → ℕ → Type 0 where
+  at_ends : (rule offset : ℕ) → FailsAtEnds file rule offset → FailsLoading file rule offset
+  by_start : V1 file → (f : Footer) → EndsIn file f → f.summary_start ≢ 0 → (f.summary_start < 8) ⊎ (length file < f.summary_start + 37) → FailsLoading file 11 (length file - 37)
+  inside : V1 file → (start rule offset : ℕ) → SummaryStartsAt file start → FailsInside (summary_part file start) start rule offset → FailsLoading file rule offset
 
 -- ---- where a limit is passed
 
@@ -103,6 +103,6 @@ PassesInside summary start offset = (tops : List Top) × (rest : List ℕ) × Cu
 -- the file is too long, or its summary, or the content that the Header or a record of the summary declares
 pub data Passes (file : List ℕ) : ℕ → Type 0 where
   file_passes : file_limit < length file → Passes file file_limit
-  summary_passes : (start : ℕ) → StartsAt file start → summary_limit < length file - 37 - start → Passes file start
+  summary_passes : (start : ℕ) → SummaryStartsAt file start → summary_limit < length file - 37 - start → Passes file start
   header_passes : DeclaresPast (drop 8 file) → Passes file 8
-  record_passes : (start offset : ℕ) → StartsAt file start → PassesInside (summary_part file start) start offset → Passes file offset
+  record_passes : (start offset : ℕ) → SummaryStartsAt file start → PassesInside (summary_part file start) start offset → Passes file offset

@@ -17,9 +17,9 @@ use Rattle.mcap_model.specs.declared.refusals.ReadingRefused.TheVariants as refu
 use Rattle.mcap_model.specs.declared.refusals.IndexedRefused.{IndexedRefused}
 use Rattle.mcap_model.specs.declared.refusals.IndexedRefused.TheVariants as by_index
 use Rattle.mcap_wire.specs.Limits.{file_limit}
-use Rattle.summary_read.specs.Reached.{summary_limit, ShowsFooter, EndsIn, HasNoSummary, BreaksFirst, DeclaresPast, Fails, Passes, FailsInside, PassesInside}
-use Rattle.summary_read.specs.Parts.{tops_of, AreInside, IsSound}
-use Rattle.summary_read.specs.Loading.{IsUnsummed, IsUnloaded, IsRefused}
+use Rattle.summary_read.specs.Reached.{summary_limit, RecordShowsFooter, EndsIn, HasNoSummary, BreaksFirst, DeclaresPast, FailsLoading, Passes, FailsInside, PassesInside}
+use Rattle.summary_read.specs.Parts.{cut_tops, AreInside, IsSummaryRecord}
+use Rattle.summary_read.specs.Loading.{IsUnsummed, IsUnloaded, IsLoadRefused}
 
 -- ---- the ends of a file
 
@@ -37,8 +37,8 @@ IsOfEnd (by_index.Refused why) = IsOfBytes why
 
 -- bytes begin with that Footer, or with none
 abbrev pub BeginsWithFooter : List ℕ → Option Footer → Type 0
-BeginsWithFooter bytes (Some f) = (t : Top) × (rest : List ℕ) × (bytes ≡ top_bytes t ++ rest) × ShowsFooter t f
-BeginsWithFooter bytes None = (f : Footer) (t : Top) (rest : List ℕ) → bytes ≡ top_bytes t ++ rest → ShowsFooter t f → ⊥
+BeginsWithFooter bytes (Some f) = (t : Top) × (rest : List ℕ) × (bytes ≡ top_bytes t ++ rest) × RecordShowsFooter t f
+BeginsWithFooter bytes None = (f : Footer) (t : Top) (rest : List ℕ) → bytes ≡ top_bytes t ++ rest → RecordShowsFooter t f → ⊥
 
 -- the Footer names a summary that can be read
 pub record NamesPart (file : List ℕ) (f : Footer) : Type 0 where
@@ -53,7 +53,7 @@ pub record NamesPart (file : List ℕ) (f : Footer) : Type 0 where
 -- why a file isn't loaded by its end, where it begins with the magic
 abbrev pub EndStops : List ℕ → ReadingRefused → Type 0
 EndStops file (refusals.Fault faults) = Unit {0}
-EndStops file (refusals.Grammar offset rule) = (V1 file → Fails file rule offset) × (HasNoSummary file → ⊥)
+EndStops file (refusals.Grammar offset rule) = (V1 file → FailsLoading file rule offset) × (HasNoSummary file → ⊥)
 EndStops file (refusals.Compressed offset name) = ⊥
 EndStops file (refusals.Limit offset) = Passes file offset × (HasNoSummary file → ⊥)
 EndStops file refusals.Memory = Unit {0}
@@ -69,7 +69,7 @@ EndJudged file (Err (by_index.Refused why)) = EndStops file why
 
 abbrev pub FooterFound : List ℕ → Result Footer IndexedRefused → Type 0
 FooterFound file (Ok f) = NamesPart file f
-FooterFound file (Err why) = IsRefused file why
+FooterFound file (Err why) = IsLoadRefused file why
 
 -- the file begins with the magic and the head of a Header, whose content is whole
 pub record HasHead (file : List ℕ) (len : ℕ) : Type 0 where
@@ -85,13 +85,13 @@ FrontJudged file (Err why) = IsUnloaded file why
 -- ---- what was read of a store
 
 -- the bytes and the length that the store tells stay, and it was asked for at most so many bytes
-pub record Takes (old new : StoreState) (len : ℕ) : Type 0 where
+pub record AsksAtMost (old new : StoreState) (len : ℕ) : Type 0 where
   pub bytes : new.bytes ≡ old.bytes
   pub known : new.known ≡ old.known
   pub asked : new.asked ≤ old.asked + len
 
 -- the Footer of a file of that length names a place in it
-pub record IsInside (len : ℕ) (f : Footer) : Type 0 where
+pub record FooterNamesPlace (len : ℕ) (f : Footer) : Type 0 where
   pub whole : 37 ≤ len
   pub behind : 8 ≤ f.summary_start
   pub before : f.summary_start + 37 ≤ len
@@ -157,13 +157,13 @@ pub record IsTaken (bytes : List ℕ) (at : ℕ) (c : Cut) : Type 0 where
   pub kind : stands_in_summary c.op ≡ true
   pub layout : V6 (cut_top bytes c)
 
-abbrev pub RecordTaken : List ℕ → ℕ → ℕ → Result Cut ReadingRefused → Type 0
-RecordTaken bytes at start (Ok c) = IsTaken bytes at c
-RecordTaken bytes at start (Err (refusals.Fault faults)) = ⊥
-RecordTaken bytes at start (Err (refusals.Grammar offset rule)) = (offset ≡ start + at) × BreaksFirst (drop at bytes) rule
-RecordTaken bytes at start (Err (refusals.Compressed offset name)) = ⊥
-RecordTaken bytes at start (Err (refusals.Limit offset)) = (offset ≡ start + at) × DeclaresPast (drop at bytes)
-RecordTaken bytes at start (Err refusals.Memory) = ⊥
+abbrev pub RecordCut : List ℕ → ℕ → ℕ → Result Cut ReadingRefused → Type 0
+RecordCut bytes at start (Ok c) = IsTaken bytes at c
+RecordCut bytes at start (Err (refusals.Fault faults)) = ⊥
+RecordCut bytes at start (Err (refusals.Grammar offset rule)) = (offset ≡ start + at) × BreaksFirst (drop at bytes) rule
+RecordCut bytes at start (Err (refusals.Compressed offset name)) = ⊥
+RecordCut bytes at start (Err (refusals.Limit offset)) = (offset ≡ start + at) × DeclaresPast (drop at bytes)
+RecordCut bytes at start (Err refusals.Memory) = ⊥
 
 -- the records stand one behind the other, the first at the first offset, and the last ends at the other
 abbrev pub InRow : ℕ → List Cut → ℕ → Type 0
@@ -173,18 +173,18 @@ InRow at (c ∷ cs) end = (c.from ≡ at + 9) × InRow c.to cs end
 -- so far these records were cut
 pub record CutsTo (bytes : List ℕ) (at : ℕ) (cuts : List Cut) : Type 0 where
   pub within : at ≤ length bytes
-  pub split : bytes ≡ spelled (tops_of bytes cuts) ++ drop at bytes
-  pub there : at ≡ length (spelled (tops_of bytes cuts))
+  pub split : bytes ≡ spelled (cut_tops bytes cuts) ++ drop at bytes
+  pub there : at ≡ length (spelled (cut_tops bytes cuts))
   pub row : InRow 0 cuts at
   pub inside : AreInside bytes cuts
-  pub sound : Each IsSound (tops_of bytes cuts)
+  pub sound : Each IsSummaryRecord (cut_tops bytes cuts)
 
 -- all records of the summary were cut
 pub record AreCut (bytes : List ℕ) (cuts : List Cut) : Type 0 where
-  pub split : bytes ≡ spelled (tops_of bytes cuts)
+  pub split : bytes ≡ spelled (cut_tops bytes cuts)
   pub row : InRow 0 cuts (length bytes)
   pub inside : AreInside bytes cuts
-  pub sound : Each IsSound (tops_of bytes cuts)
+  pub sound : Each IsSummaryRecord (cut_tops bytes cuts)
 
 abbrev pub SummaryCut : {Y : Type 0} → List ℕ → ℕ → Result (Vec Cut Y) ReadingRefused → Type 0
 SummaryCut bytes start (Ok cuts) = AreCut bytes cuts.items

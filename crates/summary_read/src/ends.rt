@@ -5,7 +5,7 @@ ghost use Rattle.mcap_model.specs.Made.{top};
 ghost use Rattle.mcap_model.specs.Rules.{V1};
 ghost use Rattle.summary_read.specs.Reached.{EndsIn, HasNoSummary};
 ghost use Rattle.mcap_model.specs.Whole.{EndsWithMagic};
-ghost use Rattle.summary_read.specs.Steps.{IsOfBytes, IsOfEnd, IsInside, BeginsWithFooter, EndJudged, EndStops, FooterJudged, FrontJudged};
+ghost use Rattle.summary_read.specs.Steps.{IsOfBytes, IsOfEnd, FooterNamesPlace, BeginsWithFooter, EndJudged, EndStops, FooterJudged, FrontJudged};
 
 use mcap_model::{IndexedRefused, NotIndexed, ReadingRefused};
 use mcap_wire::{CONTENT_LIMIT, MAGIC, cut, take_head};
@@ -85,7 +85,7 @@ fn judge_footer(end: &[u8], len: u64, footer: Footer) -> Result<Footer, ReadingR
     requires whole { 37 ≤ len }
     requires some { footer.summary_start ≢ 0 }
     ensures judged { (file : List ℕ) → length file ≡ len → drop (len - 37) file ≡ end.now → EndsIn file footer → (HasNoSummary file → ⊥) → FooterJudged file result }
-    ensures inside { IfOk result (IsInside len) }
+    ensures inside { IfOk result (FooterNamesPlace len) }
     ensures of_bytes { IfErr result IsOfBytes }
 {
     let start = footer.summary_start;
@@ -120,7 +120,7 @@ pub(crate) fn judge_end(end: &[u8], len: u64) -> Result<Footer, IndexedRefused>
     requires size { length end.now ≡ 37 }
     requires whole { 37 ≤ len }
     ensures judged { (file : List ℕ) → length file ≡ len → drop (len - 37) file ≡ end.now → EndJudged file result }
-    ensures inside { IfOk result (IsInside len) }
+    ensures inside { IfOk result (FooterNamesPlace len) }
     ensures of_bytes { IfErr result IsOfEnd }
 {
     let footer = match footer_in(end) {

@@ -5,7 +5,7 @@ ghost use Rattle.rec_data.specs.Records.{ShowsHeader};
 ghost use Rattle.rec_index.specs.Parsed.{chunk_index_fields, attachment_index_fields};
 ghost use Rattle.mcap_model.specs.Places.{At};
 ghost use Rattle.mcap_model.specs.Fields.{IsSchema, IsChannel, IsChunkIndex, IsAttachmentIndex, IsMetadataIndex, IsSummaryOffset};
-ghost use Rattle.summary_read.specs.Parts.{AreInside, IsContentAt, Gives, GivesStatistics};
+ghost use Rattle.summary_read.specs.Parts.{AreInside, IsContentAt, IsSuchAt, GivesStatistics};
 
 use mcap_wire::Cut;
 use rec_data::{Channel, Footer, Header, Schema};
@@ -35,21 +35,21 @@ impl Model for Loaded {
     ghost use Rattle.std.specs.Prelude.{◌+◌, ◌^◌, ◌<◌, length, slice_get};
     ghost use Rattle.mcap_model.specs.Fields.{IsHeader};
     ghost use Rattle.mcap_model.specs.Made.{top};
-    ghost use Rattle.summary_read.specs.Parts.{Parts, AreHeld, offsets_of, tops_of};
+    ghost use Rattle.summary_read.specs.Parts.{Parts, AreHeld, offsets_of, cut_tops};
 
     ghost Value = { Parts };
 
     ghost view = { λ l. record {
       header = top 1 l.header.items;
       footer = l.footer;
-      statistics = slice_get (tops_of l.summary.items l.statistics.items) 0;
-      schemas = tops_of l.summary.items l.schemas.items;
-      channels = tops_of l.summary.items l.channels.items;
-      chunk_indexes = tops_of l.summary.items l.chunk_indexes.items;
+      statistics = slice_get (cut_tops l.summary.items l.statistics.items) 0;
+      schemas = cut_tops l.summary.items l.schemas.items;
+      channels = cut_tops l.summary.items l.channels.items;
+      chunk_indexes = cut_tops l.summary.items l.chunk_indexes.items;
       chunk_index_offsets = offsets_of l.footer.summary_start l.chunk_indexes.items;
-      attachment_indexes = tops_of l.summary.items l.attachment_indexes.items;
-      metadata_indexes = tops_of l.summary.items l.metadata_indexes.items;
-      summary_offsets = tops_of l.summary.items l.summary_offsets.items;
+      attachment_indexes = cut_tops l.summary.items l.attachment_indexes.items;
+      metadata_indexes = cut_tops l.summary.items l.metadata_indexes.items;
+      summary_offsets = cut_tops l.summary.items l.summary_offsets.items;
     } };
 
     ghost invariant = { λ l. IsHeader (top 1 l.header.items)
@@ -114,7 +114,7 @@ impl Loaded {
     /// The Schema at that place.
     pub fn schema(&self, i: usize) -> Schema<'_>
         requires { i < length self.now.schemas }
-        ensures { Gives self.now.schemas i (λ t. IsSchema t result.id (schema_fields result)) }
+        ensures { IsSuchAt self.now.schemas i (λ t. IsSchema t result.id (schema_fields result)) }
     {
         match Schema::parse(content_at(&self.summary, &self.schemas, i)) {
             Ok(parsed) => return parsed,
@@ -132,7 +132,7 @@ impl Loaded {
     /// The Channel at that place.
     pub fn channel(&self, i: usize) -> Channel<'_>
         requires { i < length self.now.channels }
-        ensures { Gives self.now.channels i (λ t. IsChannel t result.id (channel_fields result)) }
+        ensures { IsSuchAt self.now.channels i (λ t. IsChannel t result.id (channel_fields result)) }
     {
         match Channel::parse(content_at(&self.summary, &self.channels, i)) {
             Ok(parsed) => return parsed,
@@ -150,7 +150,7 @@ impl Loaded {
     /// The Chunk Index at that place.
     pub fn chunk_index(&self, i: usize) -> ChunkIndex<'_>
         requires { i < length self.now.chunk_indexes }
-        ensures { Gives self.now.chunk_indexes i (λ t. IsChunkIndex t (chunk_index_fields result)) }
+        ensures { IsSuchAt self.now.chunk_indexes i (λ t. IsChunkIndex t (chunk_index_fields result)) }
     {
         match ChunkIndex::parse(content_at(&self.summary, &self.chunk_indexes, i)) {
             Ok(parsed) => return parsed,
@@ -176,7 +176,7 @@ impl Loaded {
     /// The Attachment Index at that place.
     pub fn attachment_index(&self, i: usize) -> AttachmentIndex<'_>
         requires { i < length self.now.attachment_indexes }
-        ensures { Gives self.now.attachment_indexes i (λ t. IsAttachmentIndex t (attachment_index_fields result)) }
+        ensures { IsSuchAt self.now.attachment_indexes i (λ t. IsAttachmentIndex t (attachment_index_fields result)) }
     {
         match AttachmentIndex::parse(content_at(&self.summary, &self.attachment_indexes, i)) {
             Ok(parsed) => return parsed,
@@ -194,7 +194,7 @@ impl Loaded {
     /// The Metadata Index at that place.
     pub fn metadata_index(&self, i: usize) -> MetadataIndex<'_>
         requires { i < length self.now.metadata_indexes }
-        ensures { Gives self.now.metadata_indexes i (λ t. IsMetadataIndex t result.offset result.length result.name.now) }
+        ensures { IsSuchAt self.now.metadata_indexes i (λ t. IsMetadataIndex t result.offset result.length result.name.now) }
     {
         match MetadataIndex::parse(content_at(&self.summary, &self.metadata_indexes, i)) {
             Ok(parsed) => return parsed,
@@ -212,7 +212,7 @@ impl Loaded {
     /// The Summary Offset at that place.
     pub fn summary_offset(&self, i: usize) -> SummaryOffset
         requires { i < length self.now.summary_offsets }
-        ensures { Gives self.now.summary_offsets i (λ t. IsSummaryOffset t result.group_opcode result.group_start result.group_length) }
+        ensures { IsSuchAt self.now.summary_offsets i (λ t. IsSummaryOffset t result.group_opcode result.group_start result.group_length) }
     {
         match SummaryOffset::parse(content_at(&self.summary, &self.summary_offsets, i)) {
             Ok(parsed) => return parsed,

@@ -5,8 +5,8 @@ ghost use Rattle.mcap_io.specs.Stores.{LeavesStore};
 ghost use Rattle.mcap_model.specs.Fields.{IsHeader};
 ghost use Rattle.mcap_model.specs.Made.{top};
 ghost use Rattle.summary_read.specs.Loading.{Loads, LoadCause, PlainCause, StepCause, AsksLittle};
-ghost use Rattle.summary_read.specs.Parts.{IsListed};
-ghost use Rattle.summary_read.specs.Steps.{AreCut, IsInside, TellsEnd, TellsFooter, TellsFront, TellsHeader, TellsMagic, TellsRefused, HeaderAsks, TellsPart, Takes};
+ghost use Rattle.summary_read.specs.Parts.{ListsParts};
+ghost use Rattle.summary_read.specs.Steps.{AreCut, FooterNamesPlace, TellsEnd, TellsFooter, TellsFront, TellsHeader, TellsMagic, TellsRefused, HeaderAsks, TellsPart, AsksAtMost};
 
 use crate::ends::{END_LENGTH, FRONT_LENGTH, begins_with_magic, is_header, judge_end, judge_front};
 use crate::lists::of_kind;
@@ -23,9 +23,9 @@ use std::alloc::Global;
 fn read_end<T: Store>(store: &mut T, len: u64) -> Result<Footer, IndexedRefused>
     requires { len ≤ (T.state store.old).known }
     ensures judged { TellsEnd (T.state store.old).bytes len result }
-    ensures inside { IfOk result (IsInside len) }
+    ensures inside { IfOk result (FooterNamesPlace len) }
     ensures cause { LoadCause (T.state store.old).faults (T.state store.new).faults result }
-    ensures takes { Takes (T.state store.old) (T.state store.new) 37 }
+    ensures takes { AsksAtMost (T.state store.old) (T.state store.new) 37 }
 {
     if len < END_LENGTH {
         return Err(IndexedRefused::Refused {
@@ -53,7 +53,7 @@ fn read_magic<T: Store>(store: &mut T, len: u64) -> Result<bool, Failed>
     requires { len ≤ (T.state store.old).known }
     ensures told { TellsMagic (T.state store.old).bytes len result }
     ensures cause { HasCause (T.state store.old).faults (T.state store.new).faults result }
-    ensures takes { Takes (T.state store.old) (T.state store.new) 8 }
+    ensures takes { AsksAtMost (T.state store.old) (T.state store.new) 8 }
 {
     if len < MAGIC.len() as u64 {
         return Ok(false);
@@ -70,7 +70,7 @@ fn refuse_end<T: Store>(store: &mut T, len: u64, offset: u64, rule: u8) -> Readi
     requires { len ≤ (T.state store.old).known }
     ensures judged { TellsRefused (T.state store.old).bytes len offset rule result }
     ensures cause { PlainCause (T.state store.old).faults (T.state store.new).faults result }
-    ensures takes { Takes (T.state store.old) (T.state store.new) 8 }
+    ensures takes { AsksAtMost (T.state store.old) (T.state store.new) 8 }
 {
     match read_magic(store, len) {
         Ok(true) => return ReadingRefused::Grammar { offset, rule },
@@ -87,9 +87,9 @@ fn refuse_end<T: Store>(store: &mut T, len: u64, offset: u64, rule: u8) -> Readi
 fn find_footer<T: Store>(store: &mut T, len: u64) -> Result<Footer, IndexedRefused>
     requires { len ≤ (T.state store.old).known }
     ensures judged { TellsFooter (T.state store.old).bytes len result }
-    ensures inside { IfOk result (IsInside len) }
+    ensures inside { IfOk result (FooterNamesPlace len) }
     ensures cause { LoadCause (T.state store.old).faults (T.state store.new).faults result }
-    ensures takes { Takes (T.state store.old) (T.state store.new) 45 }
+    ensures takes { AsksAtMost (T.state store.old) (T.state store.new) 45 }
     ensures asks { OnOk result ((T.state store.new).asked ≤ (T.state store.old).asked + 37) }
 {
     match read_end(store, len) {
@@ -114,7 +114,7 @@ fn read_front<T: Store>(store: &mut T, len: u64) -> Result<u64, ReadingRefused>
     ensures judged { TellsFront (T.state store.old).bytes len result }
     ensures inside { IfOk result (λ n. 25 + n ≤ len) }
     ensures cause { StepCause (T.state store.old).faults (T.state store.new).faults result }
-    ensures takes { Takes (T.state store.old) (T.state store.new) 17 }
+    ensures takes { AsksAtMost (T.state store.old) (T.state store.new) 17 }
 {
     let mut front = [0; 17];
     match store.read_at(0, &mut front) {
@@ -137,7 +137,7 @@ fn take_part<T: Store>(
     requires { at + len ≤ (T.state store.old).known }
     ensures given { TellsPart (T.state store.old).bytes at len result }
     ensures cause { StepCause (T.state store.old).faults (T.state store.new).faults result }
-    ensures takes { Takes (T.state store.old) (T.state store.new) len }
+    ensures takes { AsksAtMost (T.state store.old) (T.state store.new) len }
 {
     match read_part(alloc, store, at, len) {
         Ok(part) => return Ok(part),
@@ -157,7 +157,7 @@ fn read_header<T: Store>(alloc: Global, store: &mut T, len: u64) -> Result<Vec<u
     ensures judged { TellsHeader (T.state store.old).bytes len result }
     ensures is { IfOk result (λ content. IsHeader (top 1 content.items)) }
     ensures cause { StepCause (T.state store.old).faults (T.state store.new).faults result }
-    ensures takes { Takes (T.state store.old) (T.state store.new) len }
+    ensures takes { AsksAtMost (T.state store.old) (T.state store.new) len }
     ensures asks { HeaderAsks (T.state store.old) (T.state store.new) len }
 {
     let declared = match read_front(store, len) {
@@ -185,7 +185,7 @@ fn list_records(
     requires is { IsHeader (top 1 header.items) }
     requires cut { AreCut summary.items cuts.now }
     requires fits { footer.summary_start + length summary.items < 2 ^ 64 }
-    ensures { IfOk result (IsListed header.items footer summary.items cuts.now) }
+    ensures { IfOk result (ListsParts header.items footer summary.items cuts.now) }
 {
     let Ok(statistics) = of_kind(alloc, cuts, STATISTICS) else {
         return Err(Memory);

@@ -1,6 +1,6 @@
 //! The records of a summary, one after the other.
 ghost use Rattle.std.specs.Prelude.{◌+◌, ◌^◌, ◌<◌, length, IfErr};
-ghost use Rattle.summary_read.specs.Steps.{IsOfBytes, RecordTaken, SummaryCut};
+ghost use Rattle.summary_read.specs.Steps.{IsOfBytes, RecordCut, SummaryCut};
 
 use crate::records::breaks;
 use mcap_model::ReadingRefused;
@@ -11,7 +11,7 @@ use std::alloc::Global;
 fn take_record(bytes: &[u8], at: usize, start: u64) -> Result<Cut, ReadingRefused>
     requires inside { at < length bytes.now }
     requires fits { start + length bytes.now < 2 ^ 64 }
-    ensures { RecordTaken bytes.now at start result }
+    ensures { RecordCut bytes.now at start result }
 {
     let offset = start + at as u64;
     let cut = match cut(bytes, at) {

@@ -13,7 +13,7 @@ use Rattle.chunk_build.specs.declared.building.Mark.{Mark}
 use Rattle.chunk_build.specs.Building.{mark_of}
 use Rattle.chunk_build.specs.Chunker.{AreFramed}
 use Rattle.chunk_build.proofs.Marks.{first_is}
-use Rattle.summary_write.specs.Tally.{Tally, id_of, with_id_once, with_bytes_once, with_record}
+use Rattle.summary_write.specs.Tally.{Tally, id_in_record, with_id_once, with_bytes_once, with_record}
 use Rattle.summary_write.proofs.Tallying.{schema_after, channel_after}
 
 -- the content stands behind the head
@@ -25,8 +25,8 @@ behind_head bytes r is =
 -- its first field is the id
 record IdFirst (bytes : List ℕ) (r : Rec) : Type 0 where
   pub rest : List ℕ
-  pub there : drop 9 bytes ≡ le 2 (id_of r) ++ rest
-  pub fits : id_of r < 256 ^ 2
+  pub there : drop 9 bytes ≡ le 2 (id_in_record r) ++ rest
+  pub fits : id_in_record r < 256 ^ 2
 
 id_first : (bytes : List ℕ) (r : Rec) → AreFramed bytes r → IdFirst bytes r
 id_first bytes (Schema own schema) is = record { rest = _; there = behind_head bytes (Schema own schema) is; fits = is.shown.1.1.fit.0 }
@@ -34,11 +34,11 @@ id_first bytes (Channel own schema topic encoding metadata) is = record { rest =
 id_first bytes (Message own sequence log_time publish_time payload) is =
     record { rest = _; there = behind_head bytes (Message own sequence log_time publish_time payload) is; fits = is.shown.1.fit.0 }
 
-pub id_there : (bytes : List ℕ) (r : Rec) (id end : ℕ) → AreFramed bytes r → NumberAt 2 bytes 9 id end → id ≡ id_of r
-id_there bytes r id end is there = let first = id_first bytes r is in (number_decided 2 bytes 9 id end (id_of r) first.rest there first.fits first.there).0
+pub id_there : (bytes : List ℕ) (r : Rec) (id end : ℕ) → AreFramed bytes r → NumberAt 2 bytes 9 id end → id ≡ id_in_record r
+id_there bytes r id end is there = let first = id_first bytes r is in (number_decided 2 bytes 9 id end (id_in_record r) first.rest there first.fits first.there).0
 
 pub id_not_refused : (bytes : List ℕ) (r : Rec) (why : Why) → AreFramed bytes r → NumberFails 2 bytes 9 why → ⊥
-id_not_refused bytes r why is fails = let first = id_first bytes r is in number_not_refused 2 bytes 9 (id_of r) first.rest why (omega arith) first.there fails
+id_not_refused bytes r why is fails = let first = id_first bytes r is in number_not_refused 2 bytes 9 (id_in_record r) first.rest why (omega arith) first.there fails
 
 -- ---- a record more
 
@@ -61,7 +61,7 @@ some_mark : (m : Mark) → None ≡ Some m → ⊥
 some_mark m same = cc
 
 -- a Schema is declared
-pub schema_noted : (t : Tally) (bytes : List ℕ) (r : Rec) (id : ℕ) (ids framed : List ℕ) → AreFramed bytes r → get_or bytes 0 0 ≡ 3 → id ≡ id_of r → ids ≡ with_id_once t.schema_ids id
+pub schema_noted : (t : Tally) (bytes : List ℕ) (r : Rec) (id : ℕ) (ids framed : List ℕ) → AreFramed bytes r → get_or bytes 0 0 ≡ 3 → id ≡ id_in_record r → ids ≡ with_id_once t.schema_ids id
     → framed ≡ with_bytes_once t.schema_ids id t.schemas bytes → make ids framed t.channel_ids t.channels t ≡ with_record t r
 schema_noted t bytes (Schema own schema) id ids framed is first own_id one other =
     schema_after t own schema (Schema own schema) ids framed refl (one ∙ ap (with_id_once t.schema_ids) own_id)
@@ -71,7 +71,7 @@ schema_noted t bytes (Message own sequence log_time publish_time payload) id ids
     absurd (omega (arith, first, first_is bytes (Message own sequence log_time publish_time payload) is))
 
 -- a Channel is declared
-pub channel_noted : (t : Tally) (bytes : List ℕ) (r : Rec) (id : ℕ) (ids framed : List ℕ) → AreFramed bytes r → None ≡ mark_of r → (get_or bytes 0 0 ≡ 3 → ⊥) → id ≡ id_of r → ids ≡ with_id_once t.channel_ids id
+pub channel_noted : (t : Tally) (bytes : List ℕ) (r : Rec) (id : ℕ) (ids framed : List ℕ) → AreFramed bytes r → None ≡ mark_of r → (get_or bytes 0 0 ≡ 3 → ⊥) → id ≡ id_in_record r → ids ≡ with_id_once t.channel_ids id
     → framed ≡ with_bytes_once t.channel_ids id t.channels bytes → make t.schema_ids t.schemas ids framed t ≡ with_record t r
 channel_noted t bytes (Schema own schema) id ids framed is none other_op own_id one other = absurd (other_op (first_is bytes (Schema own schema) is))
 channel_noted t bytes (Channel own schema topic encoding metadata) id ids framed is none other_op own_id one other =

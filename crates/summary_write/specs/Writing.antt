@@ -5,13 +5,13 @@ use Rattle.mcap_crc.specs.Remainder.{remainder}
 use Rattle.rec_data.specs.Records.{footer_text}
 use Rattle.rec_index.specs.Fields.{StatisticsFields}
 use Rattle.rec_index.specs.Records.{statistics_text, summary_offset_text}
-use Rattle.mcap_model.specs.Summary.{capped, footer_fields}
+use Rattle.mcap_model.specs.Summary.{capped, footer_of_offsets}
 use Rattle.summary_write.specs.declared.text.Numbers.{Numbers}
 use Rattle.summary_write.specs.Tally.{Tally}
 
 -- the fields of the Statistics of these numbers
-abbrev pub counted : Numbers → StatisticsFields
-counted n = record {
+abbrev pub statistics_of_numbers : Numbers → StatisticsFields
+statistics_of_numbers n = record {
   messages = n.messages;
   schemas = n.schemas;
   channels = capped n.channels;
@@ -49,26 +49,26 @@ abbrev pub groups_of_tally : Tally → List ℕ
 groups_of_tally t = six_texts t.schemas t.channels (statistics_of t) t.chunk_indexes t.extras.attachment_indexes t.extras.metadata_indexes
 
 -- the Summary Offset of a group of so many bytes, if it is there
-abbrev pub offset_of : ℕ → ℕ → ℕ → List ℕ
-offset_of op at zero = []
-offset_of op at (suc len) = framed 14 (summary_offset_text (record { op = op; offset = at; size = suc len }))
+abbrev pub group_offset_record : ℕ → ℕ → ℕ → List ℕ
+group_offset_record op at zero = []
+group_offset_record op at (suc len) = framed 14 (summary_offset_text (record { op = op; offset = at; size = suc len }))
 
 -- those of the six groups, where they have these lengths and the first one stands at that offset
 abbrev pub six_offsets : ℕ → ℕ → ℕ → ℕ → ℕ → ℕ → ℕ → List ℕ
 six_offsets at a b c d e f =
-    offset_of 3 at a
-    ++ (offset_of 4 (at + a) b
-    ++ (offset_of 11 (at + a + b) c
-    ++ (offset_of 8 (at + a + b + c) d
-    ++ (offset_of 10 (at + a + b + c + d) e
-    ++ offset_of 13 (at + a + b + c + d + e) f))))
+    group_offset_record 3 at a
+    ++ (group_offset_record 4 (at + a) b
+    ++ (group_offset_record 11 (at + a + b) c
+    ++ (group_offset_record 8 (at + a + b + c) d
+    ++ (group_offset_record 10 (at + a + b + c + d) e
+    ++ group_offset_record 13 (at + a + b + c + d + e) f))))
 
 abbrev pub offsets_of_tally : Tally → ℕ → List ℕ
 offsets_of_tally t at = six_offsets at (length t.schemas) (length t.channels) (length (statistics_of t)) (length t.chunk_indexes) (length t.extras.attachment_indexes) (length t.extras.metadata_indexes)
 
 -- behind these bytes the Footer of a summary that starts at one offset, its Summary Offsets at another, and the magic
 abbrev pub closed_by : List ℕ → ℕ → ℕ → List ℕ
-closed_by bytes at behind = bytes ++ (framed 2 (footer_text (footer_fields at behind (remainder (bytes ++ take 25 (framed 2 (footer_text (footer_fields at behind 0))))))) ++ magic)
+closed_by bytes at behind = bytes ++ (framed 2 (footer_text (footer_of_offsets at behind (remainder (bytes ++ take 25 (framed 2 (footer_text (footer_of_offsets at behind 0))))))) ++ magic)
 
-unfoldable pub text_of : Tally → ℕ → List ℕ
-text_of t at = closed_by (groups_of_tally t ++ offsets_of_tally t at) at (at + length (groups_of_tally t))
+unfoldable pub closed_summary : Tally → ℕ → List ℕ
+closed_summary t at = closed_by (groups_of_tally t ++ offsets_of_tally t at) at (at + length (groups_of_tally t))

@@ -9,7 +9,7 @@ ghost use Rattle.chunk_build.specs.Building.{mark_of};
 ghost use Rattle.chunk_build.specs.Chunker.{AreFramed};
 ghost use Rattle.mcap_model.specs.Built.{IsBlock};
 ghost use Rattle.mcap_model.specs.Summary.{Noted, summary_text};
-ghost use Rattle.summary_write.specs.Tally.{StandsFor, no_notes, id_of, with_record, with_id_once, with_bytes_once, with_noted_record, with_noted_block, with_noted_extra, index_of_block};
+ghost use Rattle.summary_write.specs.Tally.{SummaryStandsFor, no_notes, id_in_record, with_record, with_id_once, with_bytes_once, with_noted_record, with_noted_block, with_noted_extra, index_of_block};
 
 use crate::counts::count;
 use crate::extras::{add_attachment_index, add_metadata_index};
@@ -49,17 +49,17 @@ impl Model for Summary {
 
     ghost Value = { Tally };
 
-    ghost use Rattle.summary_write.specs.Fields.{tally_of, IsSound};
+    ghost use Rattle.summary_write.specs.Fields.{tally_of, HasSoundCounts};
 
     ghost view = { tally_of };
 
-    ghost invariant = { IsSound };
+    ghost invariant = { HasSoundCounts };
 }
 
 impl Summary {
     /// A summary in which nothing is noted.
     pub fn new(alloc: Global) -> Result<Summary, Memory>
-        ensures new { IfOk result (λ s. StandsFor s no_notes) }
+        ensures new { IfOk result (λ s. SummaryStandsFor s no_notes) }
         ensures none { IfOk result (λ s. (s.messages ≡ 0) × (s.blocks ≡ 0)) }
     {
         Ok(Summary {
@@ -86,7 +86,7 @@ impl Summary {
     pub fn note_record(&mut self, r: &Rec) -> Result<(), Memory>
         requires fits { LengthsFit r.now }
         requires few { self.old.messages < record_count_limit }
-        ensures ok { OnOk result ((n : Noted) → StandsFor self.old n → StandsFor self.new (with_noted_record n r.now)) }
+        ensures ok { OnOk result ((n : Noted) → SummaryStandsFor self.old n → SummaryStandsFor self.new (with_noted_record n r.now)) }
         ensures err { OnErr result (self.new ≡ self.old) }
         ensures messages { self.new.messages ≤ self.old.messages + 1 }
         ensures blocks { self.new.blocks ≡ self.old.blocks }
@@ -108,7 +108,7 @@ impl Summary {
     pub fn note_framed(&mut self, bytes: &[u8]) -> Result<(), Memory>
         requires framed { (r : Rec) × AreFramed bytes.now r }
         requires few { self.old.messages < record_count_limit }
-        ensures ok { OnOk result ((r : Rec) → AreFramed bytes.now r → (n : Noted) → StandsFor self.old n → StandsFor self.new (with_noted_record n r)) }
+        ensures ok { OnOk result ((r : Rec) → AreFramed bytes.now r → (n : Noted) → SummaryStandsFor self.old n → SummaryStandsFor self.new (with_noted_record n r)) }
         ensures err { OnErr result (self.new ≡ self.old) }
         ensures messages { self.new.messages ≤ self.old.messages + 1 }
         ensures blocks { self.new.blocks ≡ self.old.blocks }
@@ -153,8 +153,8 @@ impl Summary {
         requires within { at ≤ 2 ^ 41 }
         requires block { (records : List Rec) × IsBlock b.now records }
         requires few { self.old.blocks < 2 ^ 48 }
-        ensures ok { OnOk result ((records : List Rec) → IsBlock b.now records → (n : Noted) → StandsFor self.old n
-            → StandsFor self.new (with_noted_block n at records)) }
+        ensures ok { OnOk result ((records : List Rec) → IsBlock b.now records → (n : Noted) → SummaryStandsFor self.old n
+            → SummaryStandsFor self.new (with_noted_block n at records)) }
         ensures err { OnErr result (self.new ≡ self.old) }
         ensures messages { self.new.messages ≡ self.old.messages }
         ensures blocks { self.new.blocks ≤ self.old.blocks + 1 }
@@ -171,7 +171,7 @@ impl Summary {
     pub fn note_attachment(&mut self, at: u64, content: &[u8]) -> Result<(), Memory>
         requires within { at ≤ 2 ^ 41 }
         requires meets { (f : AttachmentFields) × ShowsAttachment content.now f }
-        ensures ok { OnOk result ((n : Noted) → StandsFor self.old n → StandsFor self.new (with_noted_extra n at (record { op = 9; content = content.now }))) }
+        ensures ok { OnOk result ((n : Noted) → SummaryStandsFor self.old n → SummaryStandsFor self.new (with_noted_extra n at (record { op = 9; content = content.now }))) }
         ensures err { OnErr result (self.new ≡ self.old) }
         ensures messages { self.new.messages ≡ self.old.messages }
         ensures blocks { self.new.blocks ≡ self.old.blocks }
@@ -188,7 +188,7 @@ impl Summary {
     pub fn note_metadata(&mut self, at: u64, content: &[u8]) -> Result<(), Memory>
         requires within { at ≤ 2 ^ 41 }
         requires meets { (f : MetadataFields) × ShowsMetadata content.now f }
-        ensures ok { OnOk result ((n : Noted) → StandsFor self.old n → StandsFor self.new (with_noted_extra n at (record { op = 12; content = content.now }))) }
+        ensures ok { OnOk result ((n : Noted) → SummaryStandsFor self.old n → SummaryStandsFor self.new (with_noted_extra n at (record { op = 12; content = content.now }))) }
         ensures err { OnErr result (self.new ≡ self.old) }
         ensures messages { self.new.messages ≡ self.old.messages }
         ensures blocks { self.new.blocks ≡ self.old.blocks }
@@ -205,7 +205,7 @@ impl Summary {
     /// Offsets, the Footer and the magic.
     pub fn text(&self, at: u64) -> Result<Bytes, Memory>
         requires { at ≤ 2 ^ 41 }
-        ensures { IfOk result (λ bytes. (n : Noted) → StandsFor self.now n → bytes ≡ summary_text n at) }
+        ensures { IfOk result (λ bytes. (n : Noted) → SummaryStandsFor self.now n → bytes ≡ summary_text n at) }
     {
         let numbers = Numbers {
             messages: self.messages,
@@ -273,7 +273,7 @@ fn first_time(messages: u64, start: u64, time: u64) -> u64
 // The id that a framed record declares, or that it is on: the first field of its content.
 fn id_of_bytes(bytes: &[u8]) -> u16
     requires { (r : Rec) × AreFramed bytes.now r }
-    ensures { (r : Rec) → AreFramed bytes.now r → result ≡ id_of r }
+    ensures { (r : Rec) → AreFramed bytes.now r → result ≡ id_in_record r }
 {
     match take_u16(bytes, 9) {
         Ok((id, _)) => return id,

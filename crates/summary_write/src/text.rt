@@ -2,7 +2,7 @@
 ghost use Rattle.std.specs.Prelude.{◌≡◌, ◌+◌, ◌^◌, ◌<◌, ◌++◌, length, IfOk, OnOk, All};
 ghost use Rattle.mcap_model.specs.Summary.{capped};
 ghost use Rattle.summary_write.specs.Counts.{CountsRise};
-ghost use Rattle.summary_write.specs.Writing.{counted, statistics_record, offset_of, six_offsets, closed_by};
+ghost use Rattle.summary_write.specs.Writing.{statistics_of_numbers, statistics_record, group_offset_record, six_offsets, closed_by};
 
 use mcap_crc::crc_of;
 use mcap_wire::{CountsRef, MAGIC, Memory, put_bytes};
@@ -36,9 +36,9 @@ pub(crate) fn put_statistics(out: &mut Vec<u8>, n: &Numbers<'_>) -> Result<u64, 
     requires rise { CountsRise n.now.counts.now }
     requires ids { All (λ c. c.0 < 2 ^ 16) n.now.counts.now }
     ensures items { IfOk result (λ len. out.new.items ≡ out.old.items
-        ++ statistics_record (counted n.now)) }
+        ++ statistics_record (statistics_of_numbers n.now)) }
     ensures len { IfOk result (λ len. len ≡ length
-        (statistics_record (counted n.now))) }
+        (statistics_record (statistics_of_numbers n.now))) }
 {
     let before = out.len();
     let statistics = Statistics {
@@ -60,7 +60,7 @@ pub(crate) fn put_statistics(out: &mut Vec<u8>, n: &Numbers<'_>) -> Result<u64, 
 
 // Appends the Summary Offset of a group of so many bytes. A group without bytes isn't there, and has none.
 fn put_offset(out: &mut Vec<u8>, op: u8, start: u64, len: u64) -> Result<(), Memory>
-    ensures { OnOk result (out.new.items ≡ out.old.items ++ offset_of op start len) }
+    ensures { OnOk result (out.new.items ≡ out.old.items ++ group_offset_record op start len) }
 {
     if len == 0 {
         return Ok(());

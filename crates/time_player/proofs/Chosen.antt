@@ -16,7 +16,7 @@ use Rattle.mcap_model.specs.Made.{top}
 use Rattle.rec_data.specs.Records.{ShowsMessage}
 use Rattle.mcap_model.specs.Plain.{is_within}
 use Rattle.mcap_model.proofs.NamedTopics.{shown_once}
-use Rattle.time_player.specs.Asking.{is_asked, is_topic, Knows, Keeps}
+use Rattle.time_player.specs.Asking.{is_asked, is_topic, Knows, KeepsAsked}
 
 -- ---- lists
 
@@ -35,12 +35,12 @@ pub kept_joined : (range : Range) (topic : Option (List ℕ)) (ms ns : List Seen
 kept_joined range topic ms ns =
     ap (map shown_as) (filter-append (is_asked range topic) ms ns) ∙ map-append shown_as (filter (is_asked range topic) ms) (filter (is_asked range topic) ns)
 
-pub keeps_none : (range : Range) (topic : Option (List ℕ)) (tables : Tables) (old : List Shown) → Keeps range topic tables [] old old
+pub keeps_none : (range : Range) (topic : Option (List ℕ)) (tables : Tables) (old : List Shown) → KeepsAsked range topic tables [] old old
 keeps_none range topic tables old records knows [] zip = sym (append-nil old)
 keeps_none range topic tables old records knows (m ∷ ms) zip = absurd zip
 
 -- no message
-pub other_kind : (range : Range) (topic : Option (List ℕ)) (tables : Tables) (p : Placed) (old : List Shown) → (p.top.op ≡ 5 → ⊥) → Keeps range topic tables (p ∷ []) old old
+pub other_kind : (range : Range) (topic : Option (List ℕ)) (tables : Tables) (p : Placed) (old : List Shown) → (p.top.op ≡ 5 → ⊥) → KeepsAsked range topic tables (p ∷ []) old old
 other_kind range topic tables p old other = λ records knows messages zip.
     keeps_none range topic tables old records knows messages (subst (λ (b : Bool). AllZip (IsSeen records) (cond b (p ∷ []) []) messages) (ne_eqb p.top.op 5 other) zip)
 
@@ -67,14 +67,14 @@ asked_for range topic s m same within named =
     ap (λ (b : Bool). b && is_topic topic m.topic) (sym (ap (λ (r : Shown). is_within range r.log_time) same) ∙ within) ∙ named
 
 pub message_dropped : (range : Range) (topic : Option (List ℕ)) (tables : Tables) (place : Place) (content : List ℕ) (old : List Shown)
-    → ((records : List Top) (m : Seen) → Knows records tables → IsSeen records (record { place = place; top = top 5 content }) m → is_asked range topic m ≡ false) → Keeps range topic tables (record { place = place; top = top 5 content } ∷ []) old old
+    → ((records : List Top) (m : Seen) → Knows records tables → IsSeen records (record { place = place; top = top 5 content }) m → is_asked range topic m ≡ false) → KeepsAsked range topic tables (record { place = place; top = top 5 content } ∷ []) old old
 message_dropped range topic tables place content old drops records knows [] zip = absurd zip
 message_dropped range topic tables place content old drops records knows (m ∷ []) zip =
     sym (ap (λ (b : Bool). old ++ map shown_as (cond b (m ∷ []) [])) (drops records m knows zip.0) ∙ append-nil old)
 message_dropped range topic tables place content old drops records knows (m ∷ n ∷ ms) zip = absurd zip.1
 
 pub message_kept : (range : Range) (topic : Option (List ℕ)) (tables : Tables) (place : Place) (content : List ℕ) (old : List Shown) (s : Shown)
-    → ((records : List Top) (m : Seen) → Knows records tables → IsSeen records (record { place = place; top = top 5 content }) m → (is_asked range topic m ≡ true) × (s ≡ shown_as m)) → Keeps range topic tables (record { place = place; top = top 5 content } ∷ []) old (old ++ s ∷ [])
+    → ((records : List Top) (m : Seen) → Knows records tables → IsSeen records (record { place = place; top = top 5 content }) m → (is_asked range topic m ≡ true) × (s ≡ shown_as m)) → KeepsAsked range topic tables (record { place = place; top = top 5 content } ∷ []) old (old ++ s ∷ [])
 message_kept range topic tables place content old s keeps records knows [] zip = absurd zip
 message_kept range topic tables place content old s keeps records knows (m ∷ []) zip =
     let is = keeps records m knows zip.0 in

@@ -38,8 +38,8 @@ use Rattle.mcap_scan.proofs.Scanning.{tables_stand, good_stand, lacks_behind}
 use Rattle.record_walk.specs.declared.flat_reader.FlatReader.{FlatReader}
 use Rattle.record_walk.specs.Walking.{flat_content, flat_tables, ahead_of, placed_at, FlatStands, FlatGives, FlatFinds}
 use Rattle.record_walk.proofs.Walked.{walked_flat_tops, walked_messages}
-use Rattle.time_player.specs.Asking.{is_topic, is_asked, Knows, KeepsAmong, Keeps}
-use Rattle.time_player.specs.Replaying.{IsTold, IsPlayed, KeepsAll}
+use Rattle.time_player.specs.Asking.{is_topic, is_asked, Knows, KeepsAmong, KeepsAsked}
+use Rattle.time_player.specs.Replaying.{IsGoodScan, IsPlayed, KeepsAll}
 use Rattle.time_player.proofs.Chosen.{kept, kept_joined, zip_parts}
 
 -- ---- records that are read
@@ -103,7 +103,7 @@ zip_again records others p ms again = by (is_message_placed p) refl ms
 alone : (p : Placed) → p.top.op ≡ 5 → records_of (p ∷ []) ≡ p.top ∷ []
 alone p is = ap (λ (b : Bool). tops_of (cond b (p ∷ []) [])) (ap (λ (n : ℕ). list_any (λ kind. kind == n) (3 ∷ 4 ∷ 5 ∷ [])) is)
 
-keeps_on : (range : Range) (topic : Option (List ℕ)) (tables : Tables) (given : List Placed) (p : Placed) (behind : List Top) (old new : List Shown) → KeepsGiven range topic given old → Knows (records_of given ++ (records_of (p ∷ []) ++ behind)) tables → Keeps range topic tables (p ∷ []) old new
+keeps_on : (range : Range) (topic : Option (List ℕ)) (tables : Tables) (given : List Placed) (p : Placed) (behind : List Top) (old new : List Shown) → KeepsGiven range topic given old → Knows (records_of given ++ (records_of (p ∷ []) ++ behind)) tables → KeepsAsked range topic tables (p ∷ []) old new
     → KeepsGiven range topic (given ++ p ∷ []) new
 keeps_on range topic tables given p behind old new was knows keeps more agree messages zip =
     let front = records_of given in
@@ -123,7 +123,7 @@ keeps_on range topic tables given p behind old new was knows keeps more agree me
     ∙ ap (kept range topic) (sym parts.2)
 
 pub plays_on : (range : Range) (topic : Option (List ℕ)) (flat flat_new : FlatReader) (before now now_new : SourceState) (old new : List Shown) (op : ℕ) (place : Place) (was : PlaysSoFar range topic flat before now old) → FlatGives flat_new before now_new was.tops was.given op place
-    → Keeps range topic (flat_tables flat_new) (placed_at place op (flat_content flat_new) ∷ []) old new → PlaysSoFar range topic flat_new before now_new new
+    → KeepsAsked range topic (flat_tables flat_new) (placed_at place op (flat_content flat_new) ∷ []) old new → PlaysSoFar range topic flat_new before now_new new
 plays_on range topic flat flat_new before now now_new old new op place was gives keeps =
     let p = placed_at place op (flat_content flat_new) in
     let tops = gives.tops in
@@ -162,7 +162,7 @@ plays_end range topic flat flat_new before now now_new tables shown offset was s
       messages = scan.0;
       halts = finds.halts;
       lacks = lacks_behind flat_new.reader before now_new tops (subst IsGoing (sym finds.stage) tt) finds.stands;
-      told = subst (λ (t : Tables). IsTold tops t scan.0) (sym same) (record { good = is.good; tables_are = is.tables_are; scan = scan.1 });
+      told = subst (λ (t : Tables). IsGoodScan tops t scan.0) (sym same) (record { good = is.good; tables_are = is.tables_are; scan = scan.1 });
       kept_are = was.keeps [] (subst (EachBehind Agrees) (sym all) agree) scan.0 zip;
     }
 
@@ -204,7 +204,7 @@ kept_differ range topic messages differ =
     λ same. pairs_at (λ (m : Seen) (n : Seen). m.place ≡ n.place → ⊥) chosen still i j a.0 b.0 less a.1 b.1 (ap (λ (z : Shown). z.place) a.2 ∙ same ∙ sym (ap (λ (z : Shown). z.place) b.2)))
 
 -- what was kept is shown, with the topics of its channels
-kept_shown : (range : Range) (topic : Option (List ℕ)) (tops : List Top) (tables : Tables) (messages : List Seen) (all : Replayed) → IsTold tops tables messages → all.shown.items ≡ kept range topic messages → AreNamed tables.channels all.shown.items all.topics.items
+kept_shown : (range : Range) (topic : Option (List ℕ)) (tops : List Top) (tables : Tables) (messages : List Seen) (all : Replayed) → IsGoodScan tops tables messages → all.shown.items ≡ kept range topic messages → AreNamed tables.channels all.shown.items all.topics.items
     → Shows all (filter (is_asked range topic) messages)
 kept_shown range topic tops tables messages all told same named =
     let chosen = filter (is_asked range topic) messages in
@@ -222,7 +222,7 @@ mapped_there chosen m has = (has.0, at_mapped shown_as chosen has.0 m has.1)
 used_still : (xs ys : List Shown) (channel : ℕ) → IsPermutation xs ys → {s : Shown} → Has xs s → s.channel ≡ channel → is_used ys channel ≡ true
 used_still xs ys channel moved {s} has is = used_there ys s channel (has_there ys s (Contains-permutation xs ys s moved (contained xs s has))) is
 
-pub played : (range : Range) (topic : Option (List ℕ)) (tops : List Top) (tables : Tables) (messages : List Seen) (all out : Replayed) → IsTold tops tables messages → all.shown.items ≡ kept range topic messages → AreNamed tables.channels all.shown.items all.topics.items
+pub played : (range : Range) (topic : Option (List ℕ)) (tops : List Top) (tables : Tables) (messages : List Seen) (all out : Replayed) → IsGoodScan tops tables messages → all.shown.items ≡ kept range topic messages → AreNamed tables.channels all.shown.items all.topics.items
     → out.topics.items ≡ all.topics.items → IsPermutation all.shown.items out.shown.items → InOrder out.shown.items → IsPlayed range topic messages out
 played range topic tops tables messages all out told same named topics moved order =
     let chosen = filter (is_asked range topic) messages in

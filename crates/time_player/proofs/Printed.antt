@@ -12,7 +12,7 @@ use Rattle.mcap_model.specs.declared.replay.Shown.{Shown}
 use Rattle.mcap_model.specs.declared.table.Declared.{Declared}
 use Rattle.mcap_model.specs.Places.{At}
 use Rattle.mcap_model.proofs.Places.{at_none}
-use Rattle.time_player.specs.Lines.{spelling, line_of, line_room, lines_of, IsReady}
+use Rattle.time_player.specs.Lines.{spelling, line_of, line_room, lines_of, HasLineRoom}
 use Rattle.time_player.specs.Printing.{CountsAllBut}
 
 -- ---- the longest line
@@ -44,13 +44,13 @@ drop_next {X} xs i x at =
 pub none_left : (table : List Declared) (shown : List Shown) (i : ℕ) → length shown ≤ i → lines_of table (drop i shown) ≡ []
 none_left table shown i past = ap (lines_of table) (drop_of_length-le shown past)
 
-pub room_on : (table : List Declared) (shown : List Shown) (i : ℕ) (m : Shown) (text : List ℕ) (len room : ℕ) → IsReady shown table room → At shown i m → text ≡ spelling table m.channel → len < 65536 → len + line_room m text ≤ room
+pub room_on : (table : List Declared) (shown : List Shown) (i : ℕ) (m : Shown) (text : List ℕ) (len room : ℕ) → HasLineRoom shown table room → At shown i m → text ≡ spelling table m.channel → len < 65536 → len + line_room m text ≤ room
 room_on table shown i m text len room ready at is short =
     let one = ready.fits i m at in
     let same : length text ≡ length (spelling table m.channel) = ap length is in
     omega (arith, one, same, short)
 
-pub ready_on : (table : List Declared) (shown : List Shown) (room more : ℕ) → IsReady shown table room → room ≤ more → IsReady shown table more
+pub ready_on : (table : List Declared) (shown : List Shown) (room more : ℕ) → HasLineRoom shown table room → room ≤ more → HasLineRoom shown table more
 ready_on table shown room more ready grows = record {
   apart = ready.apart;
   fits = λ n s at. let one = ready.fits n s at in omega (arith, one, grows);

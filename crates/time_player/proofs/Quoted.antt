@@ -20,7 +20,7 @@ use Rattle.std.proofs.lemmas.Option.{same_Some}
 use Rattle.mcap_model.proofs.NamedTopics.{unmapped}
 use Rattle.mcap_model.proofs.OneMore.{taken_more}
 use Rattle.mcap_model.proofs.Replays.{first_topic, first_found}
-use Rattle.time_player.specs.Lines.{line_of, lines_of, spelling, Apart, Quotes, Spells}
+use Rattle.time_player.specs.Lines.{line_of, lines_of, spelling, EachDeclaredOnce, Quotes, Spells}
 
 -- ---- places in longer lists
 
@@ -53,7 +53,7 @@ quotes_known topics table t was known = record {
 }
 
 -- an entry of a channel that has none yet stands once
-apart_more : (table : List Declared) (e : Declared) → Apart table → ((k : ℕ) (d : Declared) → At table k d → d.id ≡ e.id → ⊥) → Apart (table ++ e ∷ [])
+apart_more : (table : List Declared) (e : Declared) → EachDeclaredOnce table → ((k : ℕ) (d : Declared) → At table k d → d.id ≡ e.id → ⊥) → EachDeclaredOnce (table ++ e ∷ [])
 apart_more table e was none j k d f first second same = elim (at_last table e j d first) [
   | inl one ↦ elim (at_last table e k f second) [
     | inl other ↦ was j k d f one other same
@@ -97,7 +97,7 @@ spelled_topic messages topics table m text of quotes has (inr (none, same)) =
 
 -- ---- what is read off a table
 
-spelling_found : (table : List Declared) (k : ℕ) (d : Declared) → Apart table → At table k d → spelling table d.id ≡ d.content
+spelling_found : (table : List Declared) (k : ℕ) (d : Declared) → EachDeclaredOnce table → At table k d → spelling table d.id ≡ d.content
 spelling_found [] k d apart at = absurd (at_none k d at)
 spelling_found (u ∷ us) zero d apart at =
     let same : u ≡ d = same_Some u d at in
@@ -114,7 +114,7 @@ spelling_missing (u ∷ us) channel none =
     ap (λ (b : Bool). cond b u.content (spelling us channel)) (ne_eqb u.id channel (λ e. none 0 u refl e))
     ∙ spelling_missing us channel (λ k d at. none (suc k) d at)
 
-pub spelled_first : (table : List Declared) (channel : ℕ) (text : List ℕ) → Spells table channel text → Apart table → text ≡ spelling table channel
+pub spelled_first : (table : List Declared) (channel : ℕ) (text : List ℕ) → Spells table channel text → EachDeclaredOnce table → text ≡ spelling table channel
 spelled_first table channel text (inl (k, d, at, id, same)) apart = sym same ∙ sym (spelling_found table k d apart at) ∙ ap (spelling table) id
 spelled_first table channel text (inr (none, same)) apart = same ∙ sym (spelling_missing table channel none)
 

@@ -31,5 +31,5 @@ abbrev pub KeepsAmong : Range → Option (List ℕ) → List Top → List Placed
 KeepsAmong range topic records ps old new = (messages : List Seen) → AllZip (IsSeen records) (filter (λ p. is_message_top p.top) ps) messages → new ≡ old ++ map shown_as (filter (is_asked range topic) messages)
 
 -- the same among all records of which these are the tables
-abbrev pub Keeps : Range → Option (List ℕ) → Tables → List Placed → List Shown → List Shown → Type 0
-Keeps range topic tables ps old new = (records : List Top) → Knows records tables → KeepsAmong range topic records ps old new
+abbrev pub KeepsAsked : Range → Option (List ℕ) → Tables → List Placed → List Shown → List Shown → Type 0
+KeepsAsked range topic tables ps old new = (records : List Top) → Knows records tables → KeepsAmong range topic records ps old new

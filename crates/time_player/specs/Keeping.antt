@@ -16,8 +16,8 @@ abbrev pub data_in : List Shown → ℕ
 data_in shown = sum_by (λ s. length s.payload) shown
 
 -- how many bytes of data are held for those that are kept
-abbrev pub held_in : Kept → ℕ
-held_in k = length k.payloads.items
+abbrev pub data_held : Kept → ℕ
+data_held k = length k.payloads.items
 
 -- the message of a record that stands there, with a payload that stands elsewhere
 abbrev pub shown_with : Place → Message → List ℕ → Shown
@@ -39,6 +39,6 @@ KeepsPart told at len show before now (Ok it) = IsKeptWith told at len show befo
 KeepsPart told at len show before now (Err why) = Unit {0}
 
 -- so many bytes more are held; where they are refused, at most so many
-abbrev pub HoldsPart : ℕ → ℕ → ℕ → Result Unit ReadRefused → Type 0
-HoldsPart len before now (Ok it) = now ≡ before + len
-HoldsPart len before now (Err why) = now ≤ before + len
+abbrev pub HoldsMoreBytes : ℕ → ℕ → ℕ → Result Unit ReadRefused → Type 0
+HoldsMoreBytes len before now (Ok it) = now ≡ before + len
+HoldsMoreBytes len before now (Err why) = now ≤ before + len

@@ -18,7 +18,7 @@ use Rattle.time_player.specs.Asking.{is_asked}
 use Rattle.time_player.specs.Keeping.{kept_in}
 
 -- these are the messages of records that are good, and the tables of those records
-pub record IsTold (tops : List Top) (tables : Tables) (messages : List Seen) : Type 0 where
+pub record IsGoodScan (tops : List Top) (tables : Tables) (messages : List Seen) : Type 0 where
   pub good : Good reading_limits tops
   pub tables_are : TablesOf (flat tops) tables
   pub scan : Scan tops messages
@@ -41,7 +41,7 @@ pub record KeepsAll (range : Range) (topic : Option (List ℕ)) (before now : So
   pub messages : List Seen
   pub halts : HaltsSo before now tops (at_end end)
   pub lacks : MemoryStands before now tops
-  pub told : IsTold tops tables messages
+  pub told : IsGoodScan tops tables messages
   pub kept_are : kept ≡ map shown_as (filter (is_asked range topic) messages)
 
 abbrev pub ReadsKept : Range → Option (List ℕ) → SourceState → SourceState → Result (Tables × Kept) ReadingRefused → Type 0

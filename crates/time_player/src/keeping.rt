@@ -3,7 +3,7 @@ ghost use Rattle.std.specs.Prelude.{◌∷◌, [], OnOk};
 ghost use Rattle.mcap_model.specs.Made.{top};
 ghost use Rattle.mcap_model.specs.Plain.{asked_topic};
 ghost use Rattle.record_walk.specs.Walking.{flat_content, flat_tables, placed_at};
-ghost use Rattle.time_player.specs.Asking.{Keeps};
+ghost use Rattle.time_player.specs.Asking.{KeepsAsked};
 ghost use Rattle.time_player.specs.Keeping.{kept_in};
 
 use crate::asking::is_on_topic;
@@ -22,7 +22,7 @@ fn keep_message(
     place: Place,
     content: &[u8],
 ) -> Result<(), Memory>
-    ensures { OnOk result (Keeps range (asked_topic topic.entry) tables.now (record { place = place; top = top 5 content.now } ∷ []) (kept_in kept.old) (kept_in kept.new)) }
+    ensures { OnOk result (KeepsAsked range (asked_topic topic.entry) tables.now (record { place = place; top = top 5 content.now } ∷ []) (kept_in kept.old) (kept_in kept.new)) }
 {
     let message = match Message::parse(content) {
         Ok(message) => message,
@@ -46,7 +46,7 @@ pub(crate) fn keep_record(
     op: u8,
     place: Place,
 ) -> Result<(), Memory>
-    ensures { OnOk result (Keeps range (asked_topic topic.entry) (flat_tables flat.now) (placed_at place op (flat_content flat.now) ∷ []) (kept_in kept.old) (kept_in kept.new)) }
+    ensures { OnOk result (KeepsAsked range (asked_topic topic.entry) (flat_tables flat.now) (placed_at place op (flat_content flat.now) ∷ []) (kept_in kept.old) (kept_in kept.new)) }
 {
     if op != MESSAGE {
         return Ok(());

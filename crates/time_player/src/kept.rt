@@ -101,12 +101,12 @@ impl Kept {
     ghost use Rattle.std.specs.List.{dedup};
     ghost use Rattle.time_player.specs.Heads.{same_place};
     ghost use Rattle.time_player.specs.Ordering.{IsOrdered};
-    ghost use Rattle.time_player.specs.Keeping.{data_in, held_in, kept_in, shown_at, shown_with, HoldsPart, KeepsPart};
+    ghost use Rattle.time_player.specs.Keeping.{data_in, data_held, kept_in, shown_at, shown_with, HoldsMoreBytes, KeepsPart};
     ghost use Rattle.time_player.specs.Reading.{ReadsFrom};
 
     pub fn new(alloc: Global) -> Kept
         ensures none { kept_in result ≡ [] }
-        ensures empty { held_in result ≡ 0 }
+        ensures empty { data_held result ≡ 0 }
     {
         Kept {
             heads: Vec::new(alloc),
@@ -123,7 +123,7 @@ impl Kept {
 
     /// How many bytes of data are held for the messages that are kept.
     pub fn data_len(&self) -> usize
-        ensures { result ≡ held_in self.now }
+        ensures { result ≡ data_held self.now }
     {
         self.payloads.len()
     }
@@ -181,7 +181,7 @@ impl Kept {
         requires { at + len ≤ (T.state store.old).known }
         ensures keeps { KeepsPart (T.state store.old).bytes at len (shown_with place message.now) (kept_in self.old) (kept_in self.new) result }
         ensures reads { ReadsFrom (T.state store.old) (T.state store.new) len result }
-        ensures holds { HoldsPart len (held_in self.old) (held_in self.new) result }
+        ensures holds { HoldsMoreBytes len (data_held self.old) (data_held self.new) result }
     {
         let from = self.payloads.len();
         match add_part(store, at, len, &mut self.payloads) {

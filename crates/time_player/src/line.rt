@@ -3,7 +3,7 @@ ghost use Rattle.std.specs.Prelude.{◌≡◌, ◌+◌, ◌*◌, ◌^◌, ◌<�
 ghost use Rattle.mcap_wire.specs.Writing.{HasRoom, LacksRoom};
 ghost use Rattle.time_player.specs.Text.{data_text};
 ghost use Rattle.time_player.specs.Lent.{shown_of};
-ghost use Rattle.time_player.specs.Lines.{number_text, numbers_of, line_of, line_room};
+ghost use Rattle.time_player.specs.Lines.{spaced_number, numbers_of, line_of, line_room};
 
 use crate::hex::add_hex;
 use crate::lent::{Lent, lend};
@@ -33,8 +33,8 @@ fn add_data(out: &mut Vec<u8>, payload: &[u8])
 fn write_number(number: u64, text: &mut [u8; NUMBERS], end: usize) -> usize
     requires { (21 ≤ end) × (end ≤ 84) }
     ensures below { end ≤ result + 21 }
-    ensures len { result + length (number_text number) ≡ end }
-    ensures written { drop result text.new ≡ number_text number ++ drop end text.old }
+    ensures len { result + length (spaced_number number) ≡ end }
+    ensures written { drop result text.new ≡ spaced_number number ++ drop end text.old }
 {
     text[end - 1] = b' ';
     write_digits(number, text, end - 1)

@@ -5,7 +5,7 @@ ghost use Rattle.mcap_model.specs.declared.replay.Topic.{Topic as Entry};
 ghost use Rattle.mcap_model.specs.Scan.{Seen};
 ghost use Rattle.mcap_model.specs.Showing.{Shows};
 ghost use Rattle.time_player.specs.Text.{cat_text as text_of};
-ghost use Rattle.time_player.specs.Lines.{Apart, Quotes, Spells, spelling};
+ghost use Rattle.time_player.specs.Lines.{EachDeclaredOnce, Quotes, Spells, spelling};
 
 use crate::line::add_line;
 use mcap_model::{Replayed, Table, Topic};
@@ -56,7 +56,7 @@ pub(crate) fn quote_topics(alloc: Global, topics: &[Topic]) -> Result<Table, Mem
 /// The topic of a channel as a JSON string: an empty one, where it has none.
 pub(crate) fn spelled(quoted: &Table, channel: u16) -> &[u8]
     ensures spells { Spells quoted.now channel result.now }
-    ensures first { Apart quoted.now → result.now ≡ spelling quoted.now channel }
+    ensures first { EachDeclaredOnce quoted.now → result.now ≡ spelling quoted.now channel }
 {
     match quoted.find(channel) {
         Some(topic) => return topic,

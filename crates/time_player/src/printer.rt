@@ -3,7 +3,7 @@ ghost use Rattle.std.specs.Prelude.{◌≡◌, ◌+◌, ◌≤◌, List, [], IfO
 ghost use Rattle.mcap_crc.specs.Remainder.{remainder};
 ghost use Rattle.mcap_io.specs.Outside.{WritesAll};
 ghost use Rattle.mcap_model.specs.Places.{Each};
-ghost use Rattle.time_player.specs.Lines.{Apart, spelling, line_room, lines_of, IsReady};
+ghost use Rattle.time_player.specs.Lines.{EachDeclaredOnce, spelling, line_room, lines_of, HasLineRoom};
 ghost use Rattle.time_player.specs.Messages.{messages_in};
 ghost use Rattle.time_player.specs.Printing.{CountsAllBut, piece_limit};
 
@@ -37,17 +37,17 @@ impl Model for Printer {
 
     ghost Value = { List ℕ };
 
-    ghost use Rattle.time_player.specs.Lines.{lines_of, IsReady};
+    ghost use Rattle.time_player.specs.Lines.{lines_of, HasLineRoom};
     ghost use Rattle.time_player.specs.Messages.{messages_in};
 
     ghost view = { λ p. lines_of p.quoted (messages_in p.messages) };
 
-    ghost invariant = { λ p. IsReady (messages_in p.messages) p.quoted (vec_capacity p.piece) };
+    ghost invariant = { λ p. HasLineRoom (messages_in p.messages) p.quoted (vec_capacity p.piece) };
 }
 
 // The room that the longest line takes, if it can be had at all.
 fn longest_line(messages: &Messages, quoted: &Table) -> Option<usize>
-    requires { Apart quoted.now }
+    requires { EachDeclaredOnce quoted.now }
     ensures { IfSome result (λ n. Each (λ s. line_room s (spelling quoted.now s.channel) ≤ n) (messages_in messages.now)) }
 {
     let mut longest = 0;
@@ -82,7 +82,7 @@ fn write_lines<K: Sink>(
     piece: Vec<u8>,
     sink: &mut K,
 ) -> Result<(), Short>
-    requires { IsReady (messages_in messages.now) quoted.now (vec_capacity piece) }
+    requires { HasLineRoom (messages_in messages.now) quoted.now (vec_capacity piece) }
     ensures written { WritesAll (K.state sink.old) (K.state sink.new) (lines_of quoted.now (messages_in messages.now)) result }
     ensures counted { CountsAllBut piece_limit (K.state sink.old).took (K.state sink.new).took result }
     ensures silent { lines_of quoted.now (messages_in messages.now) ≡ [] → K.state sink.new ≡ K.state sink.old }
@@ -122,7 +122,7 @@ fn write_lines<K: Sink>(
 
 // The CRC-32 of the lines of messages. One line at a time stands in the piece.
 fn sum_lines(messages: &Messages, quoted: &Table, piece: Vec<u8>) -> u32
-    requires { IsReady (messages_in messages.now) quoted.now (vec_capacity piece) }
+    requires { HasLineRoom (messages_in messages.now) quoted.now (vec_capacity piece) }
     ensures { result ≡ remainder (lines_of quoted.now (messages_in messages.now)) }
 {
     let mut piece = piece;
@@ -143,7 +143,7 @@ impl Printer {
 
     /// Takes messages over, and makes room for their lines; `quoted` has the topics of their channels.
     fn of(alloc: Global, messages: Messages, quoted: Table) -> Result<Printer, Memory>
-        requires { Apart quoted }
+        requires { EachDeclaredOnce quoted }
         ensures { IfOk result (λ text. text ≡ lines_of quoted (messages_in messages)) }
     {
         let longest = match longest_line(&messages, &quoted) {

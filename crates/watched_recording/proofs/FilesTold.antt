@@ -21,11 +21,11 @@ use Rattle.recorder.specs.Recorded.{Sides}
 use Rattle.watching.specs.declared.report.WatchEnd.{WatchEnd}
 use Rattle.watching.specs.declared.report.WatchEnd.TheVariants as watch_ends
 use Rattle.watching.specs.Text.{sealed_by, WatchText, WatchPart, WatchTextOf, WatchPartOf, replays_of}
-use Rattle.watching.specs.Watching.{Written, unwritten, written_by, Takes, WritesTo}
+use Rattle.watching.specs.Watching.{Written, unwritten, written_by, TakesSuchText, WritesTo}
 use Rattle.watching.proofs.Taking.{takes_as}
 use Rattle.watching.proofs.Texts.{whole_as, part_as}
-use Rattle.watched_recording.specs.Watched.{Watch, AsksViews, WatchTells, IsWatched, Told, RecordedWatched}
-use Rattle.watched_recording.specs.Files.{FrontReplay, WritesOfFile, TellsFile, IsWatchedFile, WatchFilesAreTold}
+use Rattle.watched_recording.specs.Watched.{Watch, AsksViews, WatchTells, IsWatched, SeenWatching, RecordedWatched}
+use Rattle.watched_recording.specs.Files.{FrontReplay, WritesOfFile, TellsWatchFile, IsWatchedFile, WatchFilesAreTold}
 use Rattle.watched_recording.proofs.FilesFronts.{front_replayed}
 
 -- the store holds what it held before it was asked for views
@@ -40,13 +40,13 @@ none_watched (x ∷ more) none n w at = absurd (cc none)
 
 module _ {X : Type 0} (tells : X → Option (List ℕ)) (options : FileOptions) (range : Range) (history : List Rec) (w : WriterReport) (entries : List (Entry X)) (many : length entries ≡ w.blocks) (stored : List Stored) (told : AllZip (IsStored tells) entries stored)
     (are : (n count : ℕ) (text : List ℕ) → n ≤ length entries → replays_of tells range entries n count text → FrontReplay options range history n count text) where
-  whole_told : (fronts : List ℕ) (old new : Option (List ℕ)) → Takes (WatchTextOf tells range entries fronts (sealed_by w.end)) old new → Takes (WatchText (FrontReplay options range history) w.blocks fronts (sealed_by w.end)) old new
+  whole_told : (fronts : List ℕ) (old new : Option (List ℕ)) → TakesSuchText (WatchTextOf tells range entries fronts (sealed_by w.end)) old new → TakesSuchText (WatchText (FrontReplay options range history) w.blocks fronts (sealed_by w.end)) old new
   whole_told fronts old new took =
       takes_as (WatchTextOf tells range entries fronts (sealed_by w.end)) (WatchText (FrontReplay options range history) w.blocks fronts (sealed_by w.end)) old new
       (λ t is. subst (λ (blocks : ℕ). WatchText (FrontReplay options range history) blocks fronts (sealed_by w.end) t) many
       (whole_as (replays_of tells range entries) (FrontReplay options range history) (length entries) are fronts (sealed_by w.end) t is)) took
 
-  part_told : (fronts : List ℕ) (old new : Option (List ℕ)) → Takes (WatchPartOf tells range entries fronts (sealed_by w.end)) old new → Takes (WatchPart (FrontReplay options range history) w.blocks fronts (sealed_by w.end)) old new
+  part_told : (fronts : List ℕ) (old new : Option (List ℕ)) → TakesSuchText (WatchPartOf tells range entries fronts (sealed_by w.end)) old new → TakesSuchText (WatchPart (FrontReplay options range history) w.blocks fronts (sealed_by w.end)) old new
   part_told fronts old new took =
       takes_as (WatchPartOf tells range entries fronts (sealed_by w.end)) (WatchPart (FrontReplay options range history) w.blocks fronts (sealed_by w.end)) old new
       (λ t is. subst (λ (blocks : ℕ). WatchPart (FrontReplay options range history) blocks fronts (sealed_by w.end) t) many
@@ -59,13 +59,13 @@ module _ {X : Type 0} (tells : X → Option (List ℕ)) (options : FileOptions) 
   written_of before now (watch_ends.Flaw rule offset) is = is.1 stored told
   written_of before now watch_ends.Memory is = (is.0, part_told now.fronts before.sink.took now.sink.took is.1)
 
-  told_of : (note : List (Added X)) → entries ≡ entries_of note → end_of note ≡ Some w.end → (it : Watch) (view : Option ℕ) → WatchTells tells range (Some note) it.before it.now view it.report → TellsFile options range history w it view
+  told_of : (note : List (Added X)) → entries ≡ entries_of note → end_of note ≡ Some w.end → (it : Watch) (view : Option ℕ) → WatchTells tells range (Some note) it.before it.now view it.report → TellsWatchFile options range history w it view
   told_of note same end_is it (Some failures) is =
       written_of (unwritten it.before 0) (written_by it.now failures it.report) it.report.end
       (subst (λ (es : List (Entry X)). WritesTo tells range es (sealed_by w.end) (unwritten it.before 0) (written_by it.now failures it.report) (Some it.report.end)) (sym same) (is w.end end_is))
   told_of note same end_is it None is = is
 
-module _ {X : Type 0} (tells : X → Option (List ℕ)) (options : RecordOptions) (range : Range) (before now : Sides) (r : Report) (told : Told) (it : RecordedWatched tells options range before now r told)
+module _ {X : Type 0} (tells : X → Option (List ℕ)) (options : RecordOptions) (range : Range) (before now : Sides) (r : Report) (told : SeenWatching) (it : RecordedWatched tells options range before now r told)
     (readable : AreReadable options.file) (size : ℕ) (some : options.file.chunk ≡ Some size) (held : List ℕ) (held_is : before.live.held ≡ Some held) where
   by_note : (note : Option (List (Added X))) → it.note ≡ note → (told.handed ≡ []) ⊎ IsSome note → Each (IsWatchedFile options.file range it.recorded.recorded.history r.writer) it.watches
   by_note None is (inl none) n w at = absurd (none_watched it.watches (sym none ∙ it.are.before_are) n w at)

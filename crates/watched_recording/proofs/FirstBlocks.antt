@@ -13,7 +13,7 @@ use Rattle.mcap_model.specs.Blocks.{Piece, block, block_bytes, cuts, pieces_of, 
 use Rattle.mcap_model.specs.File.{written_of}
 use Rattle.mcap_model.proofs.OneMore.{zip_push}
 use Rattle.live_entry.specs.declared.entry.Entry.{Entry}
-use Rattle.live_entry.specs.Entries.{SeenExtents, IsEntryOf, seen_before}
+use Rattle.live_entry.specs.Entries.{SeenExtents, HasBlockExtent, seen_before}
 use Rattle.live_entry.specs.Following.{Stored, IsStored}
 use Rattle.live_directory.specs.Writing.{at_most_one}
 use Rattle.chunk_writer.specs.declared.phase.Phase.{Phase}
@@ -21,14 +21,14 @@ use Rattle.chunk_writer.specs.declared.phase.Phase.TheVariants as phases
 use Rattle.chunk_writer.specs.declared.scribe.Scribe.{Scribe}
 use Rattle.chunk_writer.specs.Limits.{Holds}
 use Rattle.chunk_writer.specs.Stops.{numbers}
-use Rattle.chunk_writer.specs.Scribes.{Writes, Ends, GivesEntries, store_of, phase_of, blocks_of, bytes_of}
+use Rattle.chunk_writer.specs.Scribes.{WritesHistory, Ends, GivesEntries, store_of, phase_of, blocks_of, planned_bytes}
 use Rattle.chunk_writer.specs.Tapes.{PutsFirst, IsLeft, seen_store, TakesOn, EndsOn}
 use Rattle.chunk_writer.proofs.Cuts.{pieces_grow}
 use Rattle.recorder.specs.declared.report.WriterReport.{WriterReport}
-use Rattle.recorder.specs.Recorded.{answer_of}
-use Rattle.recorder.specs.Onto.{numbers_of}
+use Rattle.recorder.specs.Recorded.{end_answer}
+use Rattle.recorder.specs.Onto.{written_numbers}
 use Rattle.recorder.proofs.EntriesGathered.{entries_gathered}
-use Rattle.watched_recording.specs.Watched.{AreBlocks}
+use Rattle.watched_recording.specs.Watched.{AreBlockEntries}
 use Rattle.watched_recording.proofs.Ends.{all_stand}
 use Rattle.watched_recording.proofs.Follows.{still_going}
 
@@ -45,10 +45,10 @@ abbrev stored_block : ℕ × List Rec → Stored
 stored_block b = record { at = b.0; bytes = block_bytes b.1 }
 
 module _ {X : Type 0} (seen : SeenExtents X) (held : List ℕ) (is : seen.held ≡ Some held) where
-  stored_so : (b : ℕ × List Rec) (e : Entry X) → IsEntryOf seen e b.0 b.1 → IsStored seen.tells e (stored_block b)
+  stored_so : (b : ℕ × List Rec) (e : Entry X) → HasBlockExtent seen e b.0 b.1 → IsStored seen.tells e (stored_block b)
   stored_so b e it = record { told = (let told = it.told in told.there held is); offset = (let numbers = it.numbers in numbers.offset_is) }
 
-  all_stored : (blocks : List (ℕ × List Rec)) (entries : List (Entry X)) → AllZip (λ (b : ℕ × List Rec) (e : Entry X). IsEntryOf seen e b.0 b.1) blocks entries → AllZip (IsStored seen.tells) entries (map stored_block blocks)
+  all_stored : (blocks : List (ℕ × List Rec)) (entries : List (Entry X)) → AllZip (λ (b : ℕ × List Rec) (e : Entry X). HasBlockExtent seen e b.0 b.1) blocks entries → AllZip (IsStored seen.tells) entries (map stored_block blocks)
   all_stored [] [] zip = tt
   all_stored [] (e ∷ es) zip = absurd zip
   all_stored (b ∷ bs) [] zip = absurd zip
@@ -58,8 +58,8 @@ module _ {X : Type 0} (seen : SeenExtents X) (held : List ℕ) (is : seen.held �
 
 -- A scribe was opened, took a history in several calls, and was ended.
 module _ {L X : Type 0} (state : L → LiveState) (tells : X → Option (List ℕ)) (size : X → ℕ) (options : FileOptions) (live : LiveState) (first mid last : Scribe L) (history : List Rec) (given : List (Entry X)) (w : WriterReport)
-    (stands : Writes state options [] live [] first) (going : phase_of first ≡ phases.Going) (took : TakesOn (seen_store state tells size) first mid history given)
-    (counted : blocks_of mid ≡ blocks_of first + length given) (holds : Holds (blocks_of mid) (bytes_of mid)) where
+    (stands : WritesHistory state options [] live [] first) (going : phase_of first ≡ phases.Going) (took : TakesOn (seen_store state tells size) first mid history given)
+    (counted : blocks_of mid ≡ blocks_of first + length given) (holds : Holds (blocks_of mid) (planned_bytes mid)) where
   none_first : blocks_of first ≡ 0
   none_first = (stands.0.going going).0.blocks
 
@@ -67,22 +67,22 @@ module _ {L X : Type 0} (state : L → LiveState) (tells : X → Option (List �
   store_told held is = (held ++ written_of options [], (stands.0.going going).1 held is)
 
   -- where it was closed without a last block the blocks that are sure are all
-  sure_all : (p : Phase) → phase_of mid ≡ p → (it : PutsFirst (seen_before tells size (state (store_of first))) options [] history given (bytes_of mid) (phase_of mid)) → IsLeft p it.behind
-      → EndsOn (seen_store state tells size) mid last None (numbers_of w) (answer_of w.end) → w.end ≡ ends.Closed → (cuts options.chunk it.first).pieces ≡ pieces_of options.chunk history
+  sure_all : (p : Phase) → phase_of mid ≡ p → (it : PutsFirst (seen_before tells size (state (store_of first))) options [] history given (planned_bytes mid) (phase_of mid)) → IsLeft p it.behind
+      → EndsOn (seen_store state tells size) mid last None (written_numbers w) (end_answer w.end) → w.end ≡ ends.Closed → (cuts options.chunk it.first).pieces ≡ pieces_of options.chunk history
   sure_all phases.Going is it left ended closed =
       let sure = (cuts options.chunk history).pieces in
       let whole : history ≡ it.first = it.cut ∙ ap (λ (l : List Rec). it.first ++ l) left ∙ append-nil it.first in
       let writes = took.grown options [] live [] stands in
       let file = ended.file options [] live history writes in
-      let all = subst (λ (a : Result Unit Stop). Ends options [] live.held (state (store_of last)).held history (numbers w.blocks w.bytes) a) (ap answer_of closed) file.0 in
+      let all = subst (λ (a : Result Unit Stop). Ends options [] live.held (state (store_of last)).held history (numbers w.blocks w.bytes) a) (ap end_answer closed) file.0 in
       let none = no_last sure (cuts options.chunk history).waiting (sym all.1 ∙ ended.counted ∙ (writes.0.going is).0.blocks) in
       ap (λ (l : List Rec). (cuts options.chunk l).pieces) (sym whole) ∙ sym (append-nil sure) ∙ ap (λ (l : List Piece). sure ++ l) (sym none)
-  sure_all (phases.Stopped stop) is it left ended closed = absurd (subst (λ (a : Result Unit Stop). OnErr a ⊥) (sym (ap answer_of closed) ∙ (ended.kept stop is).0) tt)
+  sure_all (phases.Stopped stop) is it left ended closed = absurd (subst (λ (a : Result Unit Stop). OnErr a ⊥) (sym (ap end_answer closed) ∙ (ended.kept stop is).0) tt)
   sure_all phases.Ended is it left ended closed = absurd left
 
   -- no block was appended at the end
-  sure_blocks_are : (it : PutsFirst (seen_before tells size (state (store_of first))) options [] history given (bytes_of mid) (phase_of mid))
-      → EndsOn (seen_store state tells size) mid last None (numbers_of w) (answer_of w.end) → AreBlocks tells options live history w given
+  sure_blocks_are : (it : PutsFirst (seen_before tells size (state (store_of first))) options [] history given (planned_bytes mid) (phase_of mid))
+      → EndsOn (seen_store state tells size) mid last None (written_numbers w) (end_answer w.end) → AreBlockEntries tells options live history w given
   sure_blocks_are it ended =
       let gives = it.entries_are in
       let grow = pieces_grow options.chunk it.first it.behind in
@@ -103,12 +103,12 @@ module _ {L X : Type 0} (state : L → LiveState) (tells : X → Option (List �
       }
 
   -- a last block was
-  last_blocks_are : (it : PutsFirst (seen_before tells size (state (store_of first))) options [] history given (bytes_of mid) (phase_of mid)) (e : Entry X)
-      → EndsOn (seen_store state tells size) mid last (Some e) (numbers_of w) (answer_of w.end) → AreBlocks tells options live history w (given ++ e ∷ [])
+  last_blocks_are : (it : PutsFirst (seen_before tells size (state (store_of first))) options [] history given (planned_bytes mid) (phase_of mid)) (e : Entry X)
+      → EndsOn (seen_store state tells size) mid last (Some e) (written_numbers w) (end_answer w.end) → AreBlockEntries tells options live history w (given ++ e ∷ [])
   last_blocks_are it e ended =
       let seen = seen_before tells size (state (store_of first)) in
       let writes = took.grown options [] live [] stands in
-      let on = still_going state tells size mid last e (numbers_of w) (answer_of w.end) (phase_of mid) refl writes.0.unended ended in
+      let on = still_going state tells size mid last e (written_numbers w) (end_answer w.end) (phase_of mid) refl writes.0.unended ended in
       let none : it.behind ≡ [] = subst (λ (p : Phase). IsLeft p it.behind) on it.left in
       let whole : history ≡ it.first = it.cut ∙ ap (λ (l : List Rec). it.first ++ l) none ∙ append-nil it.first in
       let all = subst (λ (l : List Rec). GivesEntries seen options [] l given) (sym whole) it.entries_are in
@@ -117,7 +117,7 @@ module _ {L X : Type 0} (state : L → LiveState) (tells : X → Option (List �
       let gives = ended.last_is options [] live history writes in
       let file = ended.file options [] live history writes in
       let waiting = (cuts options.chunk history).waiting in
-      let stand = all_stand options [] live.held (state (store_of last)).held history waiting (blocks_of mid) w.blocks w.bytes (answer_of w.end) gives.0 (writes.0.going on).0.blocks ended.counted file.0 in
+      let stand = all_stand options [] live.held (state (store_of last)).held history waiting (blocks_of mid) w.blocks w.bytes (end_answer w.end) gives.0 (writes.0.going on).0.blocks ended.counted file.0 in
       let at = length (written_of options history) in
       record {
         pieces = pieces_of options.chunk history;
@@ -138,7 +138,7 @@ module _ {L X : Type 0} (state : L → LiveState) (tells : X → Option (List �
         all = λ closed. refl;
       }
 
-  pub first_blocks_are : (closing : Option (Entry X)) → EndsOn (seen_store state tells size) mid last closing (numbers_of w) (answer_of w.end) → AreBlocks tells options live history w (given ++ at_most_one closing)
+  pub first_blocks_are : (closing : Option (Entry X)) → EndsOn (seen_store state tells size) mid last closing (written_numbers w) (end_answer w.end) → AreBlockEntries tells options live history w (given ++ at_most_one closing)
   first_blocks_are None ended =
-      subst (λ (l : List (Entry X)). AreBlocks tells options live history w l) (sym (append-nil given)) (sure_blocks_are (took.front going options [] live [] stands) ended)
+      subst (λ (l : List (Entry X)). AreBlockEntries tells options live history w l) (sym (append-nil given)) (sure_blocks_are (took.front going options [] live [] stands) ended)
   first_blocks_are (Some e) ended = last_blocks_are (took.front going options [] live [] stands) e ended

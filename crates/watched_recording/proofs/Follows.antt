@@ -22,11 +22,11 @@ use Rattle.chunk_writer.specs.declared.phase.Phase.TheVariants as phases
 use Rattle.chunk_writer.specs.declared.scribe.Scribe.{Scribe}
 use Rattle.chunk_writer.specs.declared.tape.Written.{Written}
 use Rattle.chunk_writer.specs.Limits.{Holds}
-use Rattle.chunk_writer.specs.Scribes.{GivesEntries, store_of, phase_of, blocks_of, bytes_of}
+use Rattle.chunk_writer.specs.Scribes.{GivesEntries, store_of, phase_of, blocks_of, planned_bytes}
 use Rattle.chunk_writer.specs.Tapes.{PutsFirst, IsLeft, seen_store, TakesOn, EndsOn, takes_on}
 use Rattle.recorder.proofs.EntriesFollow.{entries_follow}
 use Rattle.recorder.proofs.EntriesGathered.{entries_gathered}
-use Rattle.watched_recording.specs.Publishing.{Board, IsKnown, GivesTo, Publishing, IsNew, empty_board, held_in}
+use Rattle.watched_recording.specs.Publishing.{Board, KnowsLack, GivesTo, Publishing, IsNewPublishing, empty_board, entries_held}
 use Rattle.watched_recording.proofs.Ends.{all_stand}
 
 each_of : {X : Type 0} (P : X → Type 0) (xs : List X) → All P xs → Each P xs
@@ -63,14 +63,14 @@ module _ {L X : Type 0} (state : L → LiveState) (tells : X → Option (List �
 
 module _ {L X : Type 0} (state : L → LiveState) (tells : X → Option (List ℕ)) (size : X → ℕ) (first : Publishing L X) (now later : Scribe L) where
   -- of a tape that was new, and took these records in several calls
-  pub taken_follow : (taken records : List Rec) (one other : List (Entry X)) → IsNew state first → TakesOn (seen_store state tells size) first.scribe now taken one → TakesOn (seen_store state tells size) now later records other
-      → Holds (blocks_of later) (bytes_of later) → Numbered (taken ++ records) → All IsKept taken → All IsKept records → EntriesFollow tells (one ++ other)
+  pub taken_follow : (taken records : List Rec) (one other : List (Entry X)) → IsNewPublishing state first → TakesOn (seen_store state tells size) first.scribe now taken one → TakesOn (seen_store state tells size) now later records other
+      → Holds (blocks_of later) (planned_bytes later) → Numbered (taken ++ records) → All IsKept taken → All IsKept records → EntriesFollow tells (one ++ other)
   taken_follow taken records one other new took takes holds numbered kept more =
       let all = takes_on (seen_store state tells size) first.scribe now later taken records one other took takes in
-      first_follow tells size (state (store_of first.scribe)) new.options new.size new.chunked new.size_is (taken ++ records) (one ++ other) (bytes_of later) (phase_of later) numbered
+      first_follow tells size (state (store_of first.scribe)) new.options new.size new.chunked new.size_is (taken ++ records) (one ++ other) (planned_bytes later) (phase_of later) numbered
       (each_of IsKept (taken ++ records) (All-append IsKept taken records kept more)) holds.small (all.front new.going new.options [] new.opened [] new.writes)
 
-  pub last_follows : (taken : List Rec) (one : List (Entry X)) (last : Entry X) (written : Written) (end : Result Unit Stop) → IsNew state first → TakesOn (seen_store state tells size) first.scribe now taken one
+  pub last_follows : (taken : List Rec) (one : List (Entry X)) (last : Entry X) (written : Written) (end : Result Unit Stop) → IsNewPublishing state first → TakesOn (seen_store state tells size) first.scribe now taken one
       → EndsOn (seen_store state tells size) now later (Some last) written end → (phase_of now ≡ phases.Ended → ⊥) → Numbered taken → All IsKept taken → EntriesFollow tells (one ++ last ∷ [])
   last_follows taken one last written end new took ended unended numbered kept =
       let options = new.options in
@@ -95,16 +95,16 @@ module _ {L X : Type 0} (state : L → LiveState) (tells : X → Option (List �
 -- ---- the board of a tape that was new
 
 module _ {X : Type 0} (first now : Board X) (given : List (Entry X)) (empty : first ≡ empty_board) (gives : GivesTo first now given) where
-  pub known_since : IsKnown now
-  known_since = gives.known (subst (λ (b : Board X). IsKnown b) (sym empty) (record { short = refl; all = λ is. (refl, refl) }))
+  pub known_since : KnowsLack now
+  known_since = gives.known (subst (λ (b : Board X). KnowsLack b) (sym empty) (record { short = refl; all = λ is. (refl, refl) }))
 
   pub unsealed_since : end_of now.directory.shown ≡ None
   unsealed_since = gives.unsealed (subst (λ (b : Board X). end_of b.directory.shown ≡ None) (sym empty) refl)
 
   -- where none were lost the directory has all that was given
-  pub held_since : now.lost ≡ false → held_in now.directory ≡ given
-  held_since is = sym (append-nil (held_in now.directory)) ∙ ap (λ (l : List (Entry X)). held_in now.directory ++ l) (sym (gives.whole is)) ∙ gives.held
-      ∙ ap (λ (b : Board X). held_in b.directory ++ given) empty
+  pub held_since : now.lost ≡ false → entries_held now.directory ≡ given
+  held_since is = sym (append-nil (entries_held now.directory)) ∙ ap (λ (l : List (Entry X)). entries_held now.directory ++ l) (sym (gives.whole is)) ∙ gives.held
+      ∙ ap (λ (b : Board X). entries_held b.directory ++ given) empty
 
   -- where memory didn't lack readers find it
   pub all_since : now.short ≡ false → entries_of now.directory.shown ≡ given

@@ -4,11 +4,11 @@ use Rattle.std.specs.Prelude.{Bool, true, false}
 use Rattle.std.proofs.lemmas.Bool.{false≢true}
 use Rattle.live_entry.specs.declared.entry.Entry.{Entry}
 use Rattle.live_directory.specs.declared.front.Added.{Added}
-use Rattle.live_directory.specs.Published.{added, entries_of, end_of}
+use Rattle.live_directory.specs.Published.{added_batch, entries_of, end_of}
 use Rattle.live_directory.specs.Writing.{DirectoryState, Publishes, Defers}
-use Rattle.watched_recording.specs.Publishing.{Board, IsKnown, GivesTo, held_in}
+use Rattle.watched_recording.specs.Publishing.{Board, KnowsLack, GivesTo, entries_held}
 
-entries_more : {X : Type 0} (history : List (Added X)) (entries : List (Entry X)) → entries_of (history ++ added entries None ∷ []) ≡ entries_of history ++ entries
+entries_more : {X : Type 0} (history : List (Added X)) (entries : List (Entry X)) → entries_of (history ++ added_batch entries None ∷ []) ≡ entries_of history ++ entries
 entries_more [] entries = append-nil entries
 entries_more (a ∷ more) entries = ap (λ (l : List (Entry _)). a.entries ++ l) (entries_more more entries) ∙ sym (append_assoc a.entries (entries_of more) entries)
 
@@ -18,14 +18,14 @@ board directory short lost = record { directory = directory; short = short; lost
 pub gives_same : {X : Type 0} (before now : Board X) (one other : List (Entry X)) → one ≡ other → GivesTo before now one → GivesTo before now other
 gives_same before now one other is gives = subst (λ (l : List (Entry _)). GivesTo before now l) is gives
 
-module _ {X : Type 0} (before now : DirectoryState X) (short lost : Bool) (entries : List (Entry X)) (none : short ≡ false) (known : IsKnown (board before short lost)) where
+module _ {X : Type 0} (before now : DirectoryState X) (short lost : Bool) (entries : List (Entry X)) (none : short ≡ false) (known : KnowsLack (board before short lost)) where
   unlost : lost ≡ true → ⊥
   unlost is = false≢true (sym (known.all none).0 ∙ is)
 
   pub published_so : (note : List (Added X)) → Publishes before now entries note → GivesTo (board before short lost) (board now short lost) entries
   published_so note done = record {
     missing = [];
-    held = append-nil (held_in now) ∙ ap (λ (l : List (Entry X)). entries_of now.shown ++ l) done.pending ∙ append-nil (entries_of now.shown) ∙ ap (λ (h : List (Added X)). entries_of h) done.shown ∙ entries_more before.shown entries
+    held = append-nil (entries_held now) ∙ ap (λ (l : List (Entry X)). entries_of now.shown ++ l) done.pending ∙ append-nil (entries_of now.shown) ∙ ap (λ (h : List (Added X)). entries_of h) done.shown ∙ entries_more before.shown entries
         ∙ ap (λ (l : List (Entry X)). l ++ entries) (sym (append-nil (entries_of before.shown)) ∙ ap (λ (l : List (Entry X)). entries_of before.shown ++ l) (sym (known.all none).1));
     whole = λ is. refl;
     stays = λ is. absurd (unlost is);
@@ -36,7 +36,7 @@ module _ {X : Type 0} (before now : DirectoryState X) (short lost : Bool) (entri
   pub deferred_so : Defers before now entries → GivesTo (board before short lost) (board now true lost) entries
   deferred_so done = record {
     missing = [];
-    held = append-nil (held_in now) ∙ ap (λ (h : List (Added X)). entries_of h ++ now.pending) done.shown ∙ ap (λ (l : List (Entry X)). entries_of before.shown ++ l) done.pending
+    held = append-nil (entries_held now) ∙ ap (λ (h : List (Added X)). entries_of h ++ now.pending) done.shown ∙ ap (λ (l : List (Entry X)). entries_of before.shown ++ l) done.pending
         ∙ sym (append_assoc (entries_of before.shown) before.pending entries);
     whole = λ is. refl;
     stays = λ is. absurd (unlost is);

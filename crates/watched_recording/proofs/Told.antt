@@ -22,16 +22,16 @@ use Rattle.chunk_writer.specs.declared.phase.Phase.TheVariants as phases
 use Rattle.chunk_writer.specs.declared.scribe.Scribe.{Scribe}
 use Rattle.chunk_writer.specs.Limits.{Holds}
 use Rattle.chunk_writer.specs.Stops.{numbers, StopsAt, StopCause, Cause}
-use Rattle.chunk_writer.specs.Scribes.{Writes, store_of, phase_of, blocks_of, bytes_of}
+use Rattle.chunk_writer.specs.Scribes.{WritesHistory, store_of, phase_of, blocks_of, planned_bytes}
 use Rattle.chunk_writer.specs.Tapes.{KeepsCause, seen_store}
 use Rattle.chunk_writer.proofs.Planned.{length-front}
 use Rattle.recorder.specs.declared.options.RecordOptions.{RecordOptions}
 use Rattle.recorder.specs.declared.report.Report.{Report}
 use Rattle.recorder.specs.declared.report.WriterReport.{WriterReport}
-use Rattle.recorder.specs.Recorded.{answer_of, sides, WriterRecorded}
-use Rattle.recorder.specs.Onto.{IsAll, IsReported, numbers_of}
-use Rattle.watched_recording.specs.Publishing.{GivesTo, Publishing, PublishesOn, PublishesEnd, empty_board, held_in, gives_on}
-use Rattle.watched_recording.specs.Watched.{AreBlocks, RecordedBeside}
+use Rattle.recorder.specs.Recorded.{end_answer, sides, WriterRecorded}
+use Rattle.recorder.specs.Onto.{IsAll, IsReported, written_numbers}
+use Rattle.watched_recording.specs.Publishing.{GivesTo, Publishing, PublishesOn, PublishesEnd, empty_board, entries_held, gives_on}
+use Rattle.watched_recording.specs.Watched.{AreBlockEntries, RecordedBeside}
 use Rattle.watched_recording.proofs.Follows.{held_since}
 use Rattle.watched_recording.proofs.Given.{board}
 use Rattle.watched_recording.proofs.FirstBlocks.{first_blocks_are}
@@ -50,7 +50,7 @@ pub told_at_seal : {X E : Type 0} (before now : DirectoryState X) (end : End) (r
     → MatchResult r (λ n. Seals before now end n) (λ e. StaysUnsealed before now) → IfSome told (λ n. (entries_of n ≡ []) × (end_of n ≡ Some end))
 told_at_seal before now end (Ok n) told is empty seals =
     subst (λ (o : Option (List (Added _))). IfSome o (λ n. (entries_of n ≡ []) × (end_of n ≡ Some end))) (sym is) (
-      ap (λ (h : List (Added _)). entries_of h) seals.note_is ∙ seals.entries ∙ ap (λ (d : DirectoryState _). held_in d) empty,
+      ap (λ (h : List (Added _)). entries_of h) seals.note_is ∙ seals.entries ∙ ap (λ (d : DirectoryState _). entries_held d) empty,
       ap (λ (h : List (Added _)). end_of h) seals.note_is ∙ seals.sealed,
     )
 told_at_seal before now end (Err why) told is empty seals = subst (λ (o : Option (List (Added _))). IfSome o (λ n. (entries_of n ≡ []) × (end_of n ≡ Some end))) (sym is) tt
@@ -89,29 +89,29 @@ module _ {L : Type 0} (state : L → LiveState) where
   cause_since mid last before phases.Ended end is kept goes stays = absurd kept
 
   -- a scribe that has taken nothing has the bytes of the front
-  front_holds : (options : FileOptions) (live : LiveState) (first : Scribe L) → length options.profile ≤ content_limit → Writes state options [] live [] first → phase_of first ≡ phases.Going
-      → Holds (blocks_of first) (bytes_of first)
+  front_holds : (options : FileOptions) (live : LiveState) (first : Scribe L) → length options.profile ≤ content_limit → WritesHistory state options [] live [] first → phase_of first ≡ phases.Going
+      → Holds (blocks_of first) (planned_bytes first)
   front_holds options live first short stands going =
       let plans = (stands.0.going going).0 in
       let none : blocks_of first ≡ 0 = plans.blocks in
-      let bytes : bytes_of first ≡ length (front options.profile ++ []) = plans.bytes in
+      let bytes : planned_bytes first ≡ length (front options.profile ++ []) = plans.bytes in
       let within = front_within options short in
       record { few = omega (arith, none); small = omega (arith, bytes, within) }
 
 -- ---- a tape that was new
 
 module _ {L X : Type 0} (state : L → LiveState) (tells : X → Option (List ℕ)) (size : X → ℕ) (first mid last : Publishing L X) (history : List Rec) (given : List (Entry X)) (closing : Option (Entry X)) (w : WriterReport)
-    (empty : first.board ≡ empty_board) (grown : PublishesOn (seen_store state tells size) first mid history given) (ended : PublishesEnd (seen_store state tells size) mid last closing (numbers_of w) (answer_of w.end)) where
+    (empty : first.board ≡ empty_board) (grown : PublishesOn (seen_store state tells size) first mid history given) (ended : PublishesEnd (seen_store state tells size) mid last closing (written_numbers w) (end_answer w.end)) where
   gives_all : GivesTo first.board last.board (grown.given ++ at_most_one ended.given)
   gives_all = gives_on first.board mid.board last.board grown.given (at_most_one ended.given) grown.published ended.published
 
-  module _ (options : RecordOptions) (live : LiveState) (stands : Writes state options.file [] live [] first.scribe) (going : phase_of first.scribe ≡ phases.Going) where
+  module _ (options : RecordOptions) (live : LiveState) (stands : WritesHistory state options.file [] live [] first.scribe) (going : phase_of first.scribe ≡ phases.Going) where
     scribe_recorded : (state (store_of first.scribe)).faults ≡ live.faults → IsAll history w → WriterRecorded options.file live (state (store_of last.scribe)) history w
     scribe_recorded still all =
         let took = grown.took in
         let closed = ended.ended in
         let file = closed.file options.file [] live history (took.grown options.file [] live [] stands) in
-        let cause = cause_since state mid.scribe last.scribe (state (store_of first.scribe)).faults (phase_of mid.scribe) (answer_of w.end) refl (took.cause going) closed.cause
+        let cause = cause_since state mid.scribe last.scribe (state (store_of first.scribe)).faults (phase_of mid.scribe) (end_answer w.end) refl (took.cause going) closed.cause
         (λ stop is. let kept = closed.kept stop is in (kept.0, kept.2)) in
         record {
           records = all.records;
@@ -119,24 +119,24 @@ module _ {L X : Type 0} (state : L → LiveState) (tells : X → Option (List �
           within = closed.within;
           begun = inl file.1;
           through = file.2;
-          cause = subst (λ (n : ℕ). Cause {X = Unit {0}} n (state (store_of last.scribe)).faults (answer_of w.end)) still cause;
+          cause = subst (λ (n : ℕ). Cause {X = Unit {0}} n (state (store_of last.scribe)).faults (end_answer w.end)) still cause;
         }
 
     -- a note of the seal tells the first blocks, since none were lost
-    told_blocks : length options.file.profile ≤ content_limit → (n : List (Added X)) → entries_of n ≡ held_in last.board.directory → last.board.lost ≡ false → AreBlocks tells options.file live history w (entries_of n)
+    told_blocks : length options.file.profile ≤ content_limit → (n : List (Added X)) → entries_of n ≡ entries_held last.board.directory → last.board.lost ≡ false → AreBlockEntries tells options.file live history w (entries_of n)
     told_blocks short n entries whole =
         let holds = grown.within (front_holds state options.file live first.scribe short stands going) in
         let held = held_since first.board last.board (grown.given ++ at_most_one ended.given) empty gives_all whole in
-        subst (λ (l : List (Entry X)). AreBlocks tells options.file live history w l) (sym (entries ∙ held))
+        subst (λ (l : List (Entry X)). AreBlockEntries tells options.file live history w l) (sym (entries ∙ held))
         (first_blocks_are state tells size options.file live first.scribe mid.scribe last.scribe history grown.given w stands going grown.took grown.counted holds ended.given ended.ended)
 
 module _ {L X : Type 0} (state : L → LiveState) (tells : X → Option (List ℕ)) (options : RecordOptions) (sources now : List SourceState) (live : LiveState) (store : L) (report : Report) (note : Option (List (Added X))) where
   -- the writer took a history, and the directory told its blocks at the seal
   pub tape_beside : (size : X → ℕ) (first mid last : Publishing L X) (history : List Rec) (given : List (Entry X)) (closing : Option (Entry X)) → first.board ≡ empty_board
-      → PublishesOn (seen_store state tells size) first mid history given → PublishesEnd (seen_store state tells size) mid last closing (numbers_of report.writer) (answer_of report.writer.end)
-      → Writes state options.file [] live [] first.scribe → phase_of first.scribe ≡ phases.Going → (state (store_of first.scribe)).faults ≡ live.faults → length options.file.profile ≤ content_limit
+      → PublishesOn (seen_store state tells size) first mid history given → PublishesEnd (seen_store state tells size) mid last closing (written_numbers report.writer) (end_answer report.writer.end)
+      → WritesHistory state options.file [] live [] first.scribe → phase_of first.scribe ≡ phases.Going → (state (store_of first.scribe)).faults ≡ live.faults → length options.file.profile ≤ content_limit
       → IsReported options.limit options.lossless sources now history report → IsAll history report.writer → store ≡ store_of last.scribe
-      → IfSome note (λ n. (entries_of n ≡ held_in last.board.directory) × (end_of n ≡ Some report.writer.end)) → (last.board.lost ≡ true → note ≡ None)
+      → IfSome note (λ n. (entries_of n ≡ entries_held last.board.directory) × (end_of n ≡ Some report.writer.end)) → (last.board.lost ≡ true → note ≡ None)
       → RecordedBeside tells options (sides sources live) (sides now (state store)) report note
   tape_beside size first mid last history given closing empty grown ended stands going still short reported all stored told lost = record {
     recorded = record {
@@ -181,8 +181,8 @@ module _ {L X : Type 0} (state : L → LiveState) (tells : X → Option (List �
         };
         end_is = λ n is. (told_of note n _ is told).1 ∙ ap (λ (w : WriterReport). Some w.end) (sym written);
         blocks_are = λ n is.
-            subst (λ (l : List (Entry X)). AreBlocks tells options.file live [] report.writer l) (sym (told_of note n _ is told).0)
-            (subst (λ (w : WriterReport). AreBlocks tells options.file live [] w []) (sym written) (record {
+            subst (λ (l : List (Entry X)). AreBlockEntries tells options.file live [] report.writer l) (sym (told_of note n _ is told).0)
+            (subst (λ (w : WriterReport). AreBlockEntries tells options.file live [] w []) (sym written) (record {
               pieces = [];
               first = record { more = []; first = refl; within = front_within options.file short };
               each = tt;

@@ -20,7 +20,7 @@ use Rattle.watching.specs.declared.report.WatchReport.{WatchReport}
 use Rattle.watching.specs.Watching.{WatcherState, WatchedSince, new_watcher}
 use Rattle.watching.proofs.Steps.{new_watched}
 use Rattle.watched_recording.specs.declared.seats.Unviewed.{Unviewed}
-use Rattle.watched_recording.specs.Watched.{RecordedBeside, IsUnviewed, Watch, WatchTells, IsWatched, AsksView, AsksViews, Told, RecordedWatched, LeftState, SeatRuns, SeatEnds, SeatMade, SeatsMade, SeatsEnd}
+use Rattle.watched_recording.specs.Watched.{RecordedBeside, IsUnviewed, Watch, WatchTells, IsWatched, AsksView, AsksViews, SeenWatching, RecordedWatched, LeftState, SeatRuns, SeatEnds, SeatMade, SeatsMade, SeatsEnd}
 
 -- ---- lists
 
@@ -120,7 +120,7 @@ module _ {X K : Type 0} (tells : X → Option (List ℕ)) (state : K → SinkSta
   told_unsealed None sealed is not_sealed = refl
   told_unsealed (Some note) sealed is not_sealed = absurd (cc (is, not_sealed))
 
-  pub watched_so : (options : RecordOptions) (before now : Sides) (viewed : LiveState) (sinks : List K) (seats ran : List Seat) (report r : Report) (it : Told) → Some report ≡ Some r
+  pub watched_so : (options : RecordOptions) (before now : Sides) (viewed : LiveState) (sinks : List K) (seats ran : List Seat) (report r : Report) (it : SeenWatching) → Some report ≡ Some r
       → it.handed ≡ map state sinks → (sinks ≡ [] → ⊥) → SeatsMade state range before.live sinks viewed seats → InStep (SeatRuns tells) seats ran → SeatsEnd tells state told ran it.sinks it.views it.reports
       → RecordedBeside tells options (sides before.sources viewed) now report told → it.sealed ≡ is_some told → RecordedWatched tells options range before now r it
   watched_so options before now viewed sinks seats ran report r it is handed some made runs ends recorded sealed =
@@ -152,7 +152,7 @@ module _ {X : Type 0} (tells : X → Option (List ℕ)) where
     blocks_are = λ note is. absurd (cc is);
   }
 
-  pub alone_so : (options : RecordOptions) (range : Range) (sources : List SourceState) (live : LiveState) (now : Sides) (r : Report) (it : Told)
+  pub alone_so : (options : RecordOptions) (range : Range) (sources : List SourceState) (live : LiveState) (now : Sides) (r : Report) (it : SeenWatching)
       → Recorded options (sides sources live) now r → it.handed ≡ [] → it.sinks ≡ it.handed → it.views ≡ [] → it.reports ≡ [] → it.sealed ≡ true
       → RecordedWatched tells options range (sides sources live) now r it
   alone_so options range sources live now r it recorded none same views reports sealed = record {

@@ -17,8 +17,8 @@ use Rattle.recorder.specs.Recorded.{Sides}
 use Rattle.watching.specs.declared.report.WatchEnd.{WatchEnd}
 use Rattle.watching.specs.declared.report.WatchEnd.TheVariants as watch_ends
 use Rattle.watching.specs.Text.{sealed_by, WatchText, WatchPart}
-use Rattle.watching.specs.Watching.{Written, unwritten, written_by, IsQuiet, HasFailed, Takes}
-use Rattle.watched_recording.specs.Watched.{Watch, Told, RecordedWatched}
+use Rattle.watching.specs.Watching.{Written, unwritten, written_by, IsQuiet, HasFailed, TakesSuchText}
+use Rattle.watched_recording.specs.Watched.{Watch, SeenWatching, RecordedWatched}
 
 -- Up to its n-th block the file of this history has so many messages of the range, and these are their lines.
 pub record FrontReplay (options : FileOptions) (range : Range) (history : List Rec) (n count : ℕ) (text : List ℕ) : Type 0 where
@@ -34,24 +34,24 @@ pub record FrontReplay (options : FileOptions) (range : Range) (history : List R
 -- A watcher that ended so has written this of the file of the history: all, or a first part where its sink or its view
 -- failed or memory lacked. It never ends without an end to tell, nor for what it read.
 abbrev pub WritesOfFile : FileOptions → Range → List Rec → WriterReport → Written → Written → WatchEnd → Type 0
-WritesOfFile options range history w before now watch_ends.Whole = IsQuiet before now × Takes (WatchText (FrontReplay options range history) w.blocks now.fronts (sealed_by w.end)) before.sink.took now.sink.took
+WritesOfFile options range history w before now watch_ends.Whole = IsQuiet before now × TakesSuchText (WatchText (FrontReplay options range history) w.blocks now.fronts (sealed_by w.end)) before.sink.took now.sink.took
 WritesOfFile options range history w before now watch_ends.Unsealed = ⊥
-WritesOfFile options range history w before now (watch_ends.Fault faults) = HasFailed before now faults × Takes (WatchPart (FrontReplay options range history) w.blocks now.fronts (sealed_by w.end)) before.sink.took now.sink.took
+WritesOfFile options range history w before now (watch_ends.Fault faults) = HasFailed before now faults × TakesSuchText (WatchPart (FrontReplay options range history) w.blocks now.fronts (sealed_by w.end)) before.sink.took now.sink.took
 WritesOfFile options range history w before now (watch_ends.Flaw rule offset) = ⊥
-WritesOfFile options range history w before now watch_ends.Memory = IsQuiet before now × Takes (WatchPart (FrontReplay options range history) w.blocks now.fronts (sealed_by w.end)) before.sink.took now.sink.took
+WritesOfFile options range history w before now watch_ends.Memory = IsQuiet before now × TakesSuchText (WatchPart (FrontReplay options range history) w.blocks now.fronts (sealed_by w.end)) before.sink.took now.sink.took
 
 -- by the failures of its view; one that got no view has written nothing
-abbrev pub TellsFile : FileOptions → Range → List Rec → WriterReport → Watch → Option ℕ → Type 0
-TellsFile options range history w it (Some failures) = WritesOfFile options range history w (unwritten it.before 0) (written_by it.now failures it.report) it.report.end
-TellsFile options range history w it None = it.now ≡ it.before
+abbrev pub TellsWatchFile : FileOptions → Range → List Rec → WriterReport → Watch → Option ℕ → Type 0
+TellsWatchFile options range history w it (Some failures) = WritesOfFile options range history w (unwritten it.before 0) (written_by it.now failures it.report) it.report.end
+TellsWatchFile options range history w it None = it.now ≡ it.before
 
 abbrev pub IsWatchedFile : FileOptions → Range → List Rec → WriterReport → Watch → Type 0
-IsWatchedFile options range history w it = TellsFile options range history w it it.view
+IsWatchedFile options range history w it = TellsWatchFile options range history w it it.view
 
 -- Where a recording in chunks was sealed, and its store told what it held before, each watcher wrote of the file of the
 -- history: the line of a front is that of the file up to that block, and the lines of the end are those of all its blocks.
 abbrev pub WatchFilesAreTold : {X : Type 0} → (X → Option (List ℕ)) → Type 0
-WatchFilesAreTold {X} tells = (options : RecordOptions) (range : Range) (before now : Sides) (r : Report) (told : Told)
+WatchFilesAreTold {X} tells = (options : RecordOptions) (range : Range) (before now : Sides) (r : Report) (told : SeenWatching)
     → (it : RecordedWatched tells options range before now r told) → AreReadable options.file → (size : ℕ) → options.file.chunk ≡ Some size
     → (held : List ℕ) → before.live.held ≡ Some held → told.sealed ≡ true
     → Each (IsWatchedFile options.file range it.recorded.recorded.history r.writer) it.watches

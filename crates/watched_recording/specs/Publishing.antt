@@ -15,7 +15,7 @@ use Rattle.chunk_writer.specs.declared.phase.Phase.TheVariants as phases
 use Rattle.chunk_writer.specs.declared.scribe.Scribe.{Scribe}
 use Rattle.chunk_writer.specs.declared.tape.Written.{Written}
 use Rattle.chunk_writer.specs.Limits.{Holds}
-use Rattle.chunk_writer.specs.Scribes.{Writes, phase_of, blocks_of, bytes_of}
+use Rattle.chunk_writer.specs.Scribes.{WritesHistory, phase_of, blocks_of, planned_bytes}
 use Rattle.chunk_writer.specs.Tapes.{SeenStore, TakesOn, EndsOn, takes_none, takes_on}
 
 -- ---- what was published
@@ -31,11 +31,11 @@ abbrev pub empty_board : {X : Type 0} → Board X
 empty_board = record { directory = empty_directory; short = false; lost = false }
 
 -- all entries of a directory, behind those that readers find those that are pending
-abbrev pub held_in : {X : Type 0} → DirectoryState X → List (Entry X)
-held_in d = entries_of d.shown ++ d.pending
+abbrev pub entries_held : {X : Type 0} → DirectoryState X → List (Entry X)
+entries_held d = entries_of d.shown ++ d.pending
 
 -- the tape knows whether memory lacked, and where it didn't readers find all entries that were given
-pub record IsKnown {X : Type 0} (b : Board X) : Type 0 where
+pub record KnowsLack {X : Type 0} (b : Board X) : Type 0 where
   pub short : b.short ≡ b.directory.short
   pub all : b.short ≡ false → (b.lost ≡ false) × (b.directory.pending ≡ [])
 
@@ -43,11 +43,11 @@ pub record IsKnown {X : Type 0} (b : Board X) : Type 0 where
 -- lost, and those are the last.
 pub record GivesTo {X : Type 0} (before now : Board X) (given : List (Entry X)) : Type 0 where
   pub missing : List (Entry X)
-  pub held : held_in now.directory ++ missing ≡ held_in before.directory ++ given
+  pub held : entries_held now.directory ++ missing ≡ entries_held before.directory ++ given
   pub whole : now.lost ≡ false → missing ≡ []
   pub stays : before.lost ≡ true → (now.directory ≡ before.directory) × (now.lost ≡ true)
   pub unsealed : end_of before.directory.shown ≡ None → end_of now.directory.shown ≡ None
-  pub known : IsKnown before → IsKnown now
+  pub known : KnowsLack before → KnowsLack now
 
 pub gives_none : {X : Type 0} (b : Board X) → GivesTo b b []
 gives_none b = record {
@@ -60,18 +60,18 @@ gives_none b = record {
 }
 
 module _ {X : Type 0} (one two three : Board X) (a b : List (Entry X)) (first : GivesTo one two a) (second : GivesTo two three b) where
-  gives_both : (lost : Bool) → two.lost ≡ lost → (missing : List (Entry X)) × (held_in three.directory ++ missing ≡ held_in one.directory ++ (a ++ b)) × (three.lost ≡ false → missing ≡ [])
+  gives_both : (lost : Bool) → two.lost ≡ lost → (missing : List (Entry X)) × (entries_held three.directory ++ missing ≡ entries_held one.directory ++ (a ++ b)) × (three.lost ≡ false → missing ≡ [])
   gives_both false is =
-      let all : held_in two.directory ≡ held_in one.directory ++ a = sym (append-nil (held_in two.directory)) ∙ ap (λ (l : List (Entry X)). held_in two.directory ++ l) (sym (first.whole is)) ∙ first.held in (
+      let all : entries_held two.directory ≡ entries_held one.directory ++ a = sym (append-nil (entries_held two.directory)) ∙ ap (λ (l : List (Entry X)). entries_held two.directory ++ l) (sym (first.whole is)) ∙ first.held in (
         second.missing,
-        second.held ∙ ap (λ (l : List (Entry X)). l ++ b) all ∙ append_assoc (held_in one.directory) a b,
+        second.held ∙ ap (λ (l : List (Entry X)). l ++ b) all ∙ append_assoc (entries_held one.directory) a b,
         second.whole,
       )
   gives_both true is =
       let (same, lost) = second.stays is in (
         first.missing ++ b,
-        ap (λ (d : DirectoryState X). held_in d ++ (first.missing ++ b)) same ∙ sym (append_assoc (held_in two.directory) first.missing b)
-            ∙ ap (λ (l : List (Entry X)). l ++ b) first.held ∙ append_assoc (held_in one.directory) a b,
+        ap (λ (d : DirectoryState X). entries_held d ++ (first.missing ++ b)) same ∙ sym (append_assoc (entries_held two.directory) first.missing b)
+            ∙ ap (λ (l : List (Entry X)). l ++ b) first.held ∙ append_assoc (entries_held one.directory) a b,
         λ whole. absurd (false≢true (sym whole ∙ lost)),
       )
 
@@ -102,11 +102,11 @@ publishing scribe directory short lost = record { scribe = scribe; board = recor
 
 -- A scribe that has taken nothing yet, of a file in chunks without extras, and a directory without blocks. What is seen of a
 -- store is handed in.
-pub record IsNew {L X : Type 0} (state : L → LiveState) (p : Publishing L X) : Type 0 where
+pub record IsNewPublishing {L X : Type 0} (state : L → LiveState) (p : Publishing L X) : Type 0 where
   pub options : FileOptions
   pub size : ℕ
   pub opened : LiveState
-  pub writes : Writes state options [] opened [] p.scribe
+  pub writes : WritesHistory state options [] opened [] p.scribe
   pub chunked : options.chunk ≡ Some size
   pub size_is : (1 ≤ size) × (size ≤ chunk_size_limit)
   pub going : phase_of p.scribe ≡ phases.Going
@@ -119,7 +119,7 @@ pub record PublishesOn {L X : Type 0} (seen : SeenStore L X) (before now : Publi
   pub took : TakesOn seen before.scribe now.scribe records given
   pub published : GivesTo before.board now.board given
   pub counted : blocks_of now.scribe ≡ blocks_of before.scribe + length given
-  pub within : Holds (blocks_of before.scribe) (bytes_of before.scribe) → Holds (blocks_of now.scribe) (bytes_of now.scribe)
+  pub within : Holds (blocks_of before.scribe) (planned_bytes before.scribe) → Holds (blocks_of now.scribe) (planned_bytes now.scribe)
   pub none : entries ≡ []
 
 -- The scribe ended its file, and its last entry was published.

@@ -30,7 +30,7 @@ use Rattle.watched_recording.specs.declared.seats.Unviewed.{Unviewed}
 -- ---- what was told
 
 -- The entries are those of the first blocks of the history, as many as the writer reports: where it closed, of all.
-pub record AreBlocks {X : Type 0} (tells : X → Option (List ℕ)) (options : FileOptions) (before : LiveState) (history : List Rec) (w : WriterReport) (entries : List (Entry X)) : Type 0 where
+pub record AreBlockEntries {X : Type 0} (tells : X → Option (List ℕ)) (options : FileOptions) (before : LiveState) (history : List Rec) (w : WriterReport) (entries : List (Entry X)) : Type 0 where
   pub pieces : List Piece
   pub first : AreFirst options history pieces
   pub each : AllZip (IsEntryThere tells) (blocks_from (length (front options.profile)) pieces) entries
@@ -44,15 +44,15 @@ pub record AreBlocks {X : Type 0} (tells : X → Option (List ℕ)) (options : F
 pub record RecordedBeside {X : Type 0} (tells : X → Option (List ℕ)) (options : RecordOptions) (before now : Sides) (r : Report) (told : Option (List (Added X))) : Type 0 where
   pub recorded : Recorded options before now r
   pub end_is : (note : List (Added X)) → told ≡ Some note → end_of note ≡ Some r.writer.end
-  pub blocks_are : (note : List (Added X)) → told ≡ Some note → AreBlocks tells options.file before.live recorded.history r.writer (entries_of note)
+  pub blocks_are : (note : List (Added X)) → told ≡ Some note → AreBlockEntries tells options.file before.live recorded.history r.writer (entries_of note)
 
 -- ---- a watcher
 
 -- Since it was new, a watcher has written this of the blocks that were told at the seal; without one, of those that a reader
 -- of its own held.
-abbrev pub WritesAll : {X : Type 0} → (X → Option (List ℕ)) → Option (List (Added X)) → WatcherState X → Written → Type 0
-WritesAll tells (Some note) first written = (end : End) → end_of note ≡ Some end → Watches tells first.range (entries_of note) (sealed_by end) first.written written
-WritesAll {X} tells None first written = (reader : ReaderState X) × EndsUnsealed tells first reader written
+abbrev pub WatcherWrites : {X : Type 0} → (X → Option (List ℕ)) → Option (List (Added X)) → WatcherState X → Written → Type 0
+WatcherWrites tells (Some note) first written = (end : End) → end_of note ≡ Some end → Watches tells first.range (entries_of note) (sealed_by end) first.written written
+WatcherWrites {X} tells None first written = (reader : ReaderState X) × EndsUnsealed tells first reader written
 
 -- a watcher whose view was refused has nothing to report but the count of the store
 pub record IsUnviewed (faults : ℕ) (report : WatchReport) : Type 0 where
@@ -69,7 +69,7 @@ pub record Watch : Type 0 where
 
 -- it wrote all that it had to; or it got no view, and its sink is as it was
 abbrev pub WatchTells : {X : Type 0} → (X → Option (List ℕ)) → Range → Option (List (Added X)) → SinkState → SinkState → Option ℕ → WatchReport → Type 0
-WatchTells tells range told before now (Some failures) report = WritesAll tells told (new_watcher unread range before 0) (written_by now failures report)
+WatchTells tells range told before now (Some failures) report = WatcherWrites tells told (new_watcher unread range before 0) (written_by now failures report)
 WatchTells tells range told before now None report = now ≡ before
 
 abbrev pub IsWatched : {X : Type 0} → (X → Option (List ℕ)) → Range → Option (List (Added X)) → Watch → Type 0
@@ -97,7 +97,7 @@ pub record AreWatches (watches : List Watch) (before now : List SinkState) (view
 
 -- What is seen of a recording beside its feeds, its store and its report: the sinks as they were handed in and as they came
 -- back, the failures of the views that were made, and the reports on the watchers.
-pub record Told : Type 0 where
+pub record SeenWatching : Type 0 where
   pub handed : List SinkState
   pub sinks : List SinkState
   pub views : List ℕ
@@ -106,7 +106,7 @@ pub record Told : Type 0 where
 
 -- What a recording with watchers came to: the store was asked for their views first, and what the recording did is said from
 -- there on; each watcher wrote of what was told at the seal. It is told as unsealed only where there are watchers and no seal.
-pub record RecordedWatched {X : Type 0} (tells : X → Option (List ℕ)) (options : RecordOptions) (range : Range) (before now : Sides) (r : Report) (told : Told) : Type 0 where
+pub record RecordedWatched {X : Type 0} (tells : X → Option (List ℕ)) (options : RecordOptions) (range : Range) (before now : Sides) (r : Report) (told : SeenWatching) : Type 0 where
   pub watches : List Watch
   pub are : AreWatches watches told.handed told.sinks told.views told.reports
   pub viewed : LiveState
@@ -138,7 +138,7 @@ SeatRuns tells (Err none) now = now ≡ Err none
 
 -- a watcher has finished, and this is what is left of it; of a sink without one the sink
 abbrev pub SeatEnds : {X K : Type 0} → (X → Option (List ℕ)) → (K → SinkState) → Option (List (Added X)) → Result (WatcherState X) (Unviewed K) → SinkState → Option ℕ → WatchReport → Type 0
-SeatEnds {X} tells state told (Ok last) now (Some failures) report = (first : WatcherState X) → WatchedSince tells first last → WritesAll tells told first (written_by now failures report)
+SeatEnds {X} tells state told (Ok last) now (Some failures) report = (first : WatcherState X) → WatchedSince tells first last → WatcherWrites tells told first (written_by now failures report)
 SeatEnds tells state told (Ok last) now None report = ⊥
 SeatEnds tells state told (Err none) now (Some failures) report = ⊥
 SeatEnds tells state told (Err none) now None report = (now ≡ state none.sink) × IsUnviewed none.faults report

@@ -9,8 +9,8 @@ ghost use Rattle.live_directory.specs.Published.{entries_of, end_of};
 ghost use Rattle.live_directory.specs.Writing.{empty_directory};
 ghost use Rattle.chunk_writer.specs.declared.phase.Phase.TheVariants as phases;
 ghost use Rattle.chunk_writer.specs.Stops.{numbers, StopsAt, StopCause};
-ghost use Rattle.chunk_writer.specs.Scribes.{Writes, store_of, phase_of};
-ghost use Rattle.watched_recording.specs.Publishing.{IsKnown, GivesTo, IsNew, held_in, publishing};
+ghost use Rattle.chunk_writer.specs.Scribes.{WritesHistory, store_of, phase_of};
+ghost use Rattle.watched_recording.specs.Publishing.{KnowsLack, GivesTo, IsNewPublishing, entries_held, publishing};
 
 use chunk_writer::{Finished, Phase, Scribe, Taken, Tape, Written};
 use live_directory::{Directory, Naming, Note};
@@ -73,11 +73,11 @@ impl<'d, L: LiveStore, J: Naming, R: Wait> PublishingTape<'d, L, J, R> {
         requires profile { length options.now.profile ≤ content_limit }
         requires empty { directory.old ≡ empty_directory }
         requires room { (room.items ≡ []) × (1 ≤ vec_capacity room) }
-        ensures stands { IfOk result (λ t. Writes L.state options.now [] (L.state live) [] t.scribe × (phase_of t.scribe ≡ phases.Going)) }
+        ensures stands { IfOk result (λ t. WritesHistory L.state options.now [] (L.state live) [] t.scribe × (phase_of t.scribe ≡ phases.Going)) }
         ensures still { IfOk result (λ t. (L.state (store_of t.scribe)).faults ≡ (L.state live).faults) }
         ensures empty { IfOk result (λ t. (t.directory.now ≡ empty_directory) × (t.short ≡ false) × (t.lost ≡ false)) }
         ensures room { IfOk result (λ t. (t.room.items ≡ []) × (1 ≤ vec_capacity t.room)) }
-        ensures unused { IfOk result (λ t. IsNew L.state (publishing t.scribe t.directory.now t.short t.lost)) }
+        ensures unused { IfOk result (λ t. IsNewPublishing L.state (publishing t.scribe t.directory.now t.short t.lost)) }
         ensures refused { IfErr result (λ e. (extras : List Top) (history : List Rec) → StopsAt options.now extras history (L.state live).held (L.state e.0).held e.1 (numbers 0 0)) }
         ensures cause { IfErr result (λ e. StopCause (L.state live).faults (L.state e.0).faults e.1) }
     {
@@ -102,7 +102,7 @@ impl<'d, L: LiveStore, J: Naming, R: Wait> PublishingTape<'d, L, J, R> {
     pub fn seal(self, end: End) -> Sealed<L, J>
         requires unsealed { end_of self.directory.now.shown ≡ None }
         ensures store { result.live ≡ store_of self.entry.scribe }
-        ensures told { IfSome result.note (λ note. (entries_of note ≡ held_in self.entry.directory.now) × (end_of note ≡ Some end)) }
+        ensures told { IfSome result.note (λ note. (entries_of note ≡ entries_held self.entry.directory.now) × (end_of note ≡ Some end)) }
         ensures lost { self.entry.lost ≡ true → result.note ≡ None }
     {
         let PublishingTape {
@@ -129,7 +129,7 @@ impl<'d, L: LiveStore, J: Naming, R: Wait> PublishingTape<'d, L, J, R> {
 
     // Publishes these entries, if there are any, behind those that were given before.
     fn publish(&mut self, entries: Vec<Entry<L::Extent>>)
-        requires known { IsKnown (record { directory = self.old.directory.now; short = self.old.short; lost = self.old.lost }) }
+        requires known { KnowsLack (record { directory = self.old.directory.now; short = self.old.short; lost = self.old.lost }) }
         requires unsealed { end_of self.old.directory.now.shown ≡ None }
         requires follow { self.old.short ≡ false → EntriesFollow (λ e. L.Extent.tells e) (entries_of self.old.directory.now.shown ++ entries.items) }
         ensures gives { GivesTo (record { directory = self.old.directory.now; short = self.old.short; lost = self.old.lost }) (record { directory = self.new.directory.now; short = self.new.short; lost = self.new.lost }) entries.items }
@@ -159,11 +159,11 @@ impl<'d, L: LiveStore, J: Naming, R: Wait> Tape for PublishingTape<'d, L, J, R> 
 
     ghost use Rattle.std.specs.Prelude.{refl, ◌≡◌, ◌≤◌, [], vec_capacity};
     ghost use Rattle.std.proofs.Common.{◌∙◌};
-    ghost use Rattle.chunk_writer.specs.Scribes.{store_of, phase_of, blocks_of, bytes_of};
+    ghost use Rattle.chunk_writer.specs.Scribes.{store_of, phase_of, blocks_of, planned_bytes};
     ghost use Rattle.chunk_writer.specs.Tapes.{MeetsLimit, seen_store};
-    ghost use Rattle.watched_recording.specs.Publishing.{PublishesOn, PublishesEnd, IsNew, publishing, publishes_none, publishes_on};
+    ghost use Rattle.watched_recording.specs.Publishing.{PublishesOn, PublishesEnd, IsNewPublishing, publishing, publishes_none, publishes_on};
 
-    ghost is_new = { λ t. IsNew L.state (publishing t.scribe t.directory.now t.short t.lost) × (t.room.items ≡ []) × (1 ≤ vec_capacity t.room) };
+    ghost is_new = { λ t. IsNewPublishing L.state (publishing t.scribe t.directory.now t.short t.lost) × (t.room.items ≡ []) × (1 ≤ vec_capacity t.room) };
 
     ghost grows = { λ before after records entries. (after.directory.ghost_name ≡ before.directory.ghost_name) × (after.room ≡ before.room)
         × PublishesOn (seen_store L.state (λ e. L.Extent.tells e) (λ e. L.Extent.size e)) (publishing before.scribe before.directory.now before.short before.lost) (publishing after.scribe after.directory.now after.short after.lost) records entries };
@@ -175,7 +175,7 @@ impl<'d, L: LiveStore, J: Naming, R: Wait> Tape for PublishingTape<'d, L, J, R> 
 
     ghost phase = { λ t. phase_of t.scribe };
 
-    ghost numbers = { λ t. record { blocks = blocks_of t.scribe; bytes = bytes_of t.scribe } };
+    ghost numbers = { λ t. record { blocks = blocks_of t.scribe; bytes = planned_bytes t.scribe } };
 
     ghost failures = { λ t. (L.state (store_of t.scribe)).faults };
 

@@ -12,24 +12,24 @@ use Rattle.live_entry.specs.declared.entry.Entry.{Entry}
 use Rattle.live_entry.specs.Following.{IsStored}
 use Rattle.live_directory.specs.declared.front.Added.{Added}
 use Rattle.live_directory.specs.declared.front.Front.{Front}
-use Rattle.live_directory.specs.Published.{entries_of, end_of, front_of, AtLeast}
+use Rattle.live_directory.specs.Published.{entries_of, end_of, published_front, AtLeast}
 use Rattle.live_directory.specs.Reading.{ReaderState, Learns, Refreshes}
 use Rattle.live_directory.proofs.Beginnings.{prefix_trans, prefix_whole}
 use Rattle.live_directory.proofs.Histories.{entries_of-append}
 use Rattle.watching.specs.declared.report.WatchEnd.{WatchEnd}
 use Rattle.watching.specs.declared.report.WatchEnd.TheVariants as watch_ends
-use Rattle.watching.specs.Text.{Ending, undecided, sealed_by, unsealed, IsFrontLineOf, FrontsTextOf, IsEndTextOf, WatchTextOf, replays_of, Begun, none_more, of_front, of_end, WatchPartOf, unsealed_line}
-use Rattle.watching.specs.Watching.{Written, WatcherState, IsQuiet, IsUntold, Takes, WritesTo, Watches, Holds, WatchedSince, EndsUnsealed, MayFollow}
-use Rattle.watching.specs.Putting.{Sides, sides, IsPartOf, PutsAll, Puts, PutsBytes}
+use Rattle.watching.specs.Text.{SealState, undecided, sealed_by, unsealed, IsFrontLineOf, FrontsTextOf, IsEndTextOf, WatchTextOf, replays_of, BeginsLine, none_more, of_front, of_end, WatchPartOf, unsealed_line}
+use Rattle.watching.specs.Watching.{Written, WatcherState, IsQuiet, IsUntold, TakesSuchText, WritesTo, Watches, HoldsAllSealed, WatchedSince, EndsUnsealed, MayFollow}
+use Rattle.watching.specs.Putting.{SinkAndView, sink_and_view, IsPartOf, PutsAll, PutsPiece, PutsBytes}
 use Rattle.watching.proofs.Fronts.{fronts_lift, line_lift, fronts_more, no_fronts}
 use Rattle.watching.proofs.Taking.{takes_more, takes_as, takes_none, takes_bytes, takes_part}
 
 -- ---- pieces
 
-abbrev BegunOf : {X : Type 0} → (X → Option (List ℕ)) → Range → List (Entry X) → List ℕ → Ending → List ℕ → Type 0
-BegunOf tells range entries = Begun (replays_of tells range entries) (length entries)
+abbrev BegunOf : {X : Type 0} → (X → Option (List ℕ)) → Range → List (Entry X) → List ℕ → SealState → List ℕ → Type 0
+BegunOf tells range entries = BeginsLine (replays_of tells range entries) (length entries)
 
-part_begins : {X : Type 0} (tells : X → Option (List ℕ)) (range : Range) (entries : List (Entry X)) (fronts : List ℕ) (ending : Ending) (told part : List ℕ) → FrontsTextOf tells range entries fronts told → BegunOf tells range entries fronts ending part
+part_begins : {X : Type 0} (tells : X → Option (List ℕ)) (range : Range) (entries : List (Entry X)) (fronts : List ℕ) (ending : SealState) (told part : List ℕ) → FrontsTextOf tells range entries fronts told → BegunOf tells range entries fronts ending part
     → WatchPartOf tells range entries fronts ending (told ++ part)
 part_begins tells range entries fronts ending told part f b = record { told = told; part = part; fronts_are = f; begun = b; text_is = refl }
 
@@ -38,34 +38,34 @@ module _ {X : Type 0} (tells : X → Option (List ℕ)) (range : Range) where
   quiet_on first old new q sink view = record { sink = sink ∙ q.sink; view = view ∙ q.view }
 
   -- only the fronts so far
-  no_more : (entries : List (Entry X)) (ending : Ending) (fronts : List ℕ) (first old : Option (List ℕ)) → Takes (FrontsTextOf tells range entries fronts) first old → Takes (WatchPartOf tells range entries fronts ending) first old
+  no_more : (entries : List (Entry X)) (ending : SealState) (fronts : List ℕ) (first old : Option (List ℕ)) → TakesSuchText (FrontsTextOf tells range entries fronts) first old → TakesSuchText (WatchPartOf tells range entries fronts ending) first old
   no_more entries ending fronts first old took =
       takes_as (FrontsTextOf tells range entries fronts) (WatchPartOf tells range entries fronts ending) first old
       (λ t f. subst (WatchPartOf tells range entries fronts ending) (append-nil t) (part_begins tells range entries fronts ending t [] f (none_more refl))) took
 
-  left_as : (entries : List (Entry X)) (ending : Ending) (first old new : Written) → Takes (FrontsTextOf tells range entries old.fronts) first.sink.took old.sink.took → new.sink ≡ old.sink → new.fronts ≡ old.fronts
-      → Takes (WatchPartOf tells range entries new.fronts ending) first.sink.took new.sink.took
+  left_as : (entries : List (Entry X)) (ending : SealState) (first old new : Written) → TakesSuchText (FrontsTextOf tells range entries old.fronts) first.sink.took old.sink.took → new.sink ≡ old.sink → new.fronts ≡ old.fronts
+      → TakesSuchText (WatchPartOf tells range entries new.fronts ending) first.sink.took new.sink.took
   left_as entries ending first old new took same fronts_are =
-      subst (λ (ns : List ℕ). Takes (WatchPartOf tells range entries ns ending) first.sink.took new.sink.took) (sym fronts_are)
-      (subst (λ (s : SinkState). Takes (WatchPartOf tells range entries old.fronts ending) first.sink.took s.took) (sym same) (no_more entries ending old.fronts first.sink.took old.sink.took took))
+      subst (λ (ns : List ℕ). TakesSuchText (WatchPartOf tells range entries ns ending) first.sink.took new.sink.took) (sym fronts_are)
+      (subst (λ (s : SinkState). TakesSuchText (WatchPartOf tells range entries old.fronts ending) first.sink.took s.took) (sym same) (no_more entries ending old.fronts first.sink.took old.sink.took took))
 
-  begun_as : (entries : List (Entry X)) (ending : Ending) (fronts : List ℕ) (P : List ℕ → Type 0) (told : List ℕ) → ((told part piece : List ℕ) → FrontsTextOf tells range entries fronts told → P piece → IsPrefix part piece → BegunOf tells range entries fronts ending part)
+  begun_as : (entries : List (Entry X)) (ending : SealState) (fronts : List ℕ) (P : List ℕ → Type 0) (told : List ℕ) → ((told part piece : List ℕ) → FrontsTextOf tells range entries fronts told → P piece → IsPrefix part piece → BegunOf tells range entries fronts ending part)
       → FrontsTextOf tells range entries fronts told → (t : List ℕ) → IsPartOf P t → BegunOf tells range entries fronts ending t
   begun_as entries ending fronts P told begins f t (inl none) = none_more none
   begun_as entries ending fronts P told begins f t (inr (piece, p, prefix)) = begins told t piece f p prefix
 
   -- a piece that wasn't written whole
-  stopped : (entries : List (Entry X)) (ending : Ending) (first old new : Written) (P : List ℕ → Type 0) (why : WatchEnd) → ((told part piece : List ℕ) → FrontsTextOf tells range entries old.fronts told → P piece → IsPrefix part piece → BegunOf tells range entries old.fronts ending part)
-      → IsQuiet first old → Takes (FrontsTextOf tells range entries old.fronts) first.sink.took old.sink.took → Puts tells entries P (sides old.sink old.failures) (sides new.sink new.failures) (Err why) → new.fronts ≡ old.fronts
+  stopped : (entries : List (Entry X)) (ending : SealState) (first old new : Written) (P : List ℕ → Type 0) (why : WatchEnd) → ((told part piece : List ℕ) → FrontsTextOf tells range entries old.fronts told → P piece → IsPrefix part piece → BegunOf tells range entries old.fronts ending part)
+      → IsQuiet first old → TakesSuchText (FrontsTextOf tells range entries old.fronts) first.sink.took old.sink.took → PutsPiece tells entries P (sink_and_view old.sink old.failures) (sink_and_view new.sink new.failures) (Err why) → new.fronts ≡ old.fronts
       → WritesTo tells range entries ending first new (Some why)
   stopped entries ending first old new P why begins quiet took (inl failed) fronts_are =
       let fails = failed.0 in
-      let all : Takes (WatchPartOf tells range entries old.fronts ending) first.sink.took new.sink.took =
+      let all : TakesSuchText (WatchPartOf tells range entries old.fronts ending) first.sink.took new.sink.took =
       takes_more (FrontsTextOf tells range entries old.fronts) (IsPartOf P) (WatchPartOf tells range entries old.fronts ending) first.sink.took old.sink.took new.sink.took
       (λ s t f p. part_begins tells range entries old.fronts ending s t f (begun_as entries ending old.fronts P s begins f t p)) took failed.1 in
       subst (λ (w : WatchEnd). WritesTo tells range entries ending first new (Some w)) (sym fails.why_is) (
         inl (subst (λ (n : ℕ). RisesOnce n new.sink.faults) quiet.sink fails.rises, refl, fails.view ∙ quiet.view),
-        subst (λ (ns : List ℕ). Takes (WatchPartOf tells range entries ns ending) first.sink.took new.sink.took) (sym fronts_are) all,
+        subst (λ (ns : List ℕ). TakesSuchText (WatchPartOf tells range entries ns ending) first.sink.took new.sink.took) (sym fronts_are) all,
       )
   stopped entries ending first old new P (watch_ends.Fault faults) begins quiet took (inr lacks) fronts_are =
       let same : new.sink ≡ old.sink = lacks.0 in (
@@ -98,7 +98,7 @@ module _ {X : Type 0} (tells : X → Option (List ℕ)) where
   }
 
   goes_on : (first now : WatcherState X) → WatchedSince tells first now → now.written.end ≡ None
-      → IsQuiet first.written now.written × Takes (FrontsTextOf tells first.range now.reader.entries now.written.fronts) first.written.sink.took now.written.sink.took
+      → IsQuiet first.written now.written × TakesSuchText (FrontsTextOf tells first.range now.reader.entries now.written.fronts) first.written.sink.took now.written.sink.took
   goes_on first now w none = subst (λ (e : Option WatchEnd). WritesTo tells first.range now.reader.entries w.ending first.written now.written e) none w.watches
 
   -- its reader holds more
@@ -134,15 +134,15 @@ module _ {X : Type 0} (tells : X → Option (List ℕ)) where
 
   -- the line of a front was written
   pub front_written : (first old new : WatcherState X) (entries : List (Entry X)) (n : ℕ) → WatchedSince tells first old → old.written.end ≡ None → new.reader ≡ old.reader → new.range ≡ old.range → entries ≡ old.reader.entries
-      → MayFollow old.written.fronts n → n ≡ length entries → PutsAll (IsFrontLineOf tells old.range entries (length entries)) (sides old.written.sink old.written.failures) (sides new.written.sink new.written.failures)
+      → MayFollow old.written.fronts n → n ≡ length entries → PutsAll (IsFrontLineOf tells old.range entries (length entries)) (sink_and_view old.written.sink old.written.failures) (sink_and_view new.written.sink new.written.failures)
       → new.written.fronts ≡ old.written.fronts ++ n ∷ [] → new.written.end ≡ None → WatchedSince tells first new
   front_written first old new entries n w none reader_is range_is entries_are follows n_is puts fronts_are goes =
       let g = goes_on first old w none in
-      let line : Takes (IsFrontLineOf tells first.range old.reader.entries n) old.written.sink.took new.written.sink.took =
+      let line : TakesSuchText (IsFrontLineOf tells first.range old.reader.entries n) old.written.sink.took new.written.sink.took =
       takes_as (IsFrontLineOf tells old.range entries (length entries)) (IsFrontLineOf tells first.range old.reader.entries n) old.written.sink.took new.written.sink.took
       (λ t is. subst (λ (es : List (Entry X)). IsFrontLineOf tells first.range es n t) entries_are
       (subst (λ (r : Range). IsFrontLineOf tells r entries n t) w.range (subst (λ (k : ℕ). IsFrontLineOf tells old.range entries k t) (sym n_is) is))) puts.takes in
-      let all : Takes (FrontsTextOf tells first.range old.reader.entries (old.written.fronts ++ n ∷ [])) first.written.sink.took new.written.sink.took =
+      let all : TakesSuchText (FrontsTextOf tells first.range old.reader.entries (old.written.fronts ++ n ∷ [])) first.written.sink.took new.written.sink.took =
       takes_more (FrontsTextOf tells first.range old.reader.entries old.written.fronts) (IsFrontLineOf tells first.range old.reader.entries n) (FrontsTextOf tells first.range old.reader.entries (old.written.fronts ++ n ∷ []))
       first.written.sink.took old.written.sink.took new.written.sink.took
       (λ s t f is. fronts_more tells first.range old.reader.entries old.written.fronts s n t follows f is) g.1 line in
@@ -153,19 +153,19 @@ module _ {X : Type 0} (tells : X → Option (List ℕ)) where
         watches =
             subst (λ (e : Option WatchEnd). WritesTo tells first.range new.reader.entries undecided first.written new.written e) (sym goes) (
               quiet_on tells first.range first.written old.written new.written g.0 puts.sink puts.view,
-              subst (λ (ns : List ℕ). Takes (FrontsTextOf tells first.range new.reader.entries ns) first.written.sink.took new.written.sink.took) (sym fronts_are)
-                  (subst (λ (r : ReaderState X). Takes (FrontsTextOf tells first.range r.entries (old.written.fronts ++ n ∷ [])) first.written.sink.took new.written.sink.took) (sym reader_is) all),
+              subst (λ (ns : List ℕ). TakesSuchText (FrontsTextOf tells first.range new.reader.entries ns) first.written.sink.took new.written.sink.took) (sym fronts_are)
+                  (subst (λ (r : ReaderState X). TakesSuchText (FrontsTextOf tells first.range r.entries (old.written.fronts ++ n ∷ [])) first.written.sink.took new.written.sink.took) (sym reader_is) all),
             );
       }
 
   -- or wasn't
   pub front_refused : (first old new : WatcherState X) (entries : List (Entry X)) (n : ℕ) (why : WatchEnd) → WatchedSince tells first old → old.written.end ≡ None → new.reader ≡ old.reader → new.range ≡ old.range → entries ≡ old.reader.entries
-      → MayFollow old.written.fronts n → n ≡ length entries → Puts tells entries (IsFrontLineOf tells old.range entries (length entries)) (sides old.written.sink old.written.failures) (sides new.written.sink new.written.failures) (Err why)
+      → MayFollow old.written.fronts n → n ≡ length entries → PutsPiece tells entries (IsFrontLineOf tells old.range entries (length entries)) (sink_and_view old.written.sink old.written.failures) (sink_and_view new.written.sink new.written.failures) (Err why)
       → new.written.fronts ≡ old.written.fronts → new.written.end ≡ Some why → WatchedSince tells first new
   front_refused first old new entries n why w none reader_is range_is entries_are follows n_is puts fronts_are ended =
       let g = goes_on first old w none in
-      let here : Puts tells old.reader.entries (IsFrontLineOf tells old.range old.reader.entries (length old.reader.entries)) (sides old.written.sink old.written.failures) (sides new.written.sink new.written.failures) (Err why) =
-      subst (λ (es : List (Entry X)). Puts tells es (IsFrontLineOf tells old.range es (length es)) (sides old.written.sink old.written.failures) (sides new.written.sink new.written.failures) (Err why)) entries_are puts in
+      let here : PutsPiece tells old.reader.entries (IsFrontLineOf tells old.range old.reader.entries (length old.reader.entries)) (sink_and_view old.written.sink old.written.failures) (sink_and_view new.written.sink new.written.failures) (Err why) =
+      subst (λ (es : List (Entry X)). PutsPiece tells es (IsFrontLineOf tells old.range es (length es)) (sink_and_view old.written.sink old.written.failures) (sink_and_view new.written.sink new.written.failures) (Err why)) entries_are puts in
       let n_here : n ≡ length old.reader.entries = n_is ∙ ap length entries_are in
       let stops : WritesTo tells first.range old.reader.entries undecided first.written new.written (Some why) =
       stopped tells first.range old.reader.entries undecided first.written old.written new.written (IsFrontLineOf tells old.range old.reader.entries (length old.reader.entries)) why
@@ -183,45 +183,45 @@ module _ {X : Type 0} (tells : X → Option (List ℕ)) where
 
   -- the end was written
   pub end_written : (first old new : WatcherState X) (entries : List (Entry X)) (end : End) → WatchedSince tells first old → old.written.end ≡ None → new.reader ≡ old.reader → new.range ≡ old.range → entries ≡ old.reader.entries
-      → Holds old.reader (sealed_by end) → PutsAll (IsEndTextOf tells old.range entries (sealed_by end)) (sides old.written.sink old.written.failures) (sides new.written.sink new.written.failures)
+      → HoldsAllSealed old.reader (sealed_by end) → PutsAll (IsEndTextOf tells old.range entries (sealed_by end)) (sink_and_view old.written.sink old.written.failures) (sink_and_view new.written.sink new.written.failures)
       → new.written.fronts ≡ old.written.fronts → new.written.end ≡ Some watch_ends.Whole → WatchedSince tells first new
   end_written first old new entries end w none reader_is range_is entries_are holds puts fronts_are ended =
       let g = goes_on first old w none in
-      let text : Takes (IsEndTextOf tells first.range old.reader.entries (sealed_by end)) old.written.sink.took new.written.sink.took =
-      subst (λ (es : List (Entry X)). Takes (IsEndTextOf tells first.range es (sealed_by end)) old.written.sink.took new.written.sink.took) entries_are
-      (subst (λ (r : Range). Takes (IsEndTextOf tells r entries (sealed_by end)) old.written.sink.took new.written.sink.took) w.range puts.takes) in
-      let all : Takes (WatchTextOf tells first.range old.reader.entries old.written.fronts (sealed_by end)) first.written.sink.took new.written.sink.took =
+      let text : TakesSuchText (IsEndTextOf tells first.range old.reader.entries (sealed_by end)) old.written.sink.took new.written.sink.took =
+      subst (λ (es : List (Entry X)). TakesSuchText (IsEndTextOf tells first.range es (sealed_by end)) old.written.sink.took new.written.sink.took) entries_are
+      (subst (λ (r : Range). TakesSuchText (IsEndTextOf tells r entries (sealed_by end)) old.written.sink.took new.written.sink.took) w.range puts.takes) in
+      let all : TakesSuchText (WatchTextOf tells first.range old.reader.entries old.written.fronts (sealed_by end)) first.written.sink.took new.written.sink.took =
       takes_more (FrontsTextOf tells first.range old.reader.entries old.written.fronts) (IsEndTextOf tells first.range old.reader.entries (sealed_by end)) (WatchTextOf tells first.range old.reader.entries old.written.fronts (sealed_by end))
       first.written.sink.took old.written.sink.took new.written.sink.took
       (λ s t f is. record { told = s; last = t; fronts_are = f; last_is = is; text_is = refl }) g.1 text in
       record {
         range = range_is ∙ w.range;
         ending = sealed_by end;
-        holds = subst (λ (r : ReaderState X). Holds r (sealed_by end)) (sym reader_is) holds;
+        holds = subst (λ (r : ReaderState X). HoldsAllSealed r (sealed_by end)) (sym reader_is) holds;
         watches =
             subst (λ (e : Option WatchEnd). WritesTo tells first.range new.reader.entries (sealed_by end) first.written new.written e) (sym ended) (
               quiet_on tells first.range first.written old.written new.written g.0 puts.sink puts.view,
               (end, refl),
-              subst (λ (ns : List ℕ). Takes (WatchTextOf tells first.range new.reader.entries ns (sealed_by end)) first.written.sink.took new.written.sink.took) (sym fronts_are)
-                  (subst (λ (r : ReaderState X). Takes (WatchTextOf tells first.range r.entries old.written.fronts (sealed_by end)) first.written.sink.took new.written.sink.took) (sym reader_is) all),
+              subst (λ (ns : List ℕ). TakesSuchText (WatchTextOf tells first.range new.reader.entries ns (sealed_by end)) first.written.sink.took new.written.sink.took) (sym fronts_are)
+                  (subst (λ (r : ReaderState X). TakesSuchText (WatchTextOf tells first.range r.entries old.written.fronts (sealed_by end)) first.written.sink.took new.written.sink.took) (sym reader_is) all),
             );
       }
 
   pub end_refused : (first old new : WatcherState X) (entries : List (Entry X)) (end : End) (why : WatchEnd) → WatchedSince tells first old → old.written.end ≡ None → new.reader ≡ old.reader → new.range ≡ old.range → entries ≡ old.reader.entries
-      → Holds old.reader (sealed_by end) → Puts tells entries (IsEndTextOf tells old.range entries (sealed_by end)) (sides old.written.sink old.written.failures) (sides new.written.sink new.written.failures) (Err why)
+      → HoldsAllSealed old.reader (sealed_by end) → PutsPiece tells entries (IsEndTextOf tells old.range entries (sealed_by end)) (sink_and_view old.written.sink old.written.failures) (sink_and_view new.written.sink new.written.failures) (Err why)
       → new.written.fronts ≡ old.written.fronts → new.written.end ≡ Some why → WatchedSince tells first new
   end_refused first old new entries end why w none reader_is range_is entries_are holds puts fronts_are ended =
       let g = goes_on first old w none in
-      let here : Puts tells old.reader.entries (IsEndTextOf tells first.range old.reader.entries (sealed_by end)) (sides old.written.sink old.written.failures) (sides new.written.sink new.written.failures) (Err why) =
-      subst (λ (r : Range). Puts tells old.reader.entries (IsEndTextOf tells r old.reader.entries (sealed_by end)) (sides old.written.sink old.written.failures) (sides new.written.sink new.written.failures) (Err why)) w.range
-      (subst (λ (es : List (Entry X)). Puts tells es (IsEndTextOf tells old.range es (sealed_by end)) (sides old.written.sink old.written.failures) (sides new.written.sink new.written.failures) (Err why)) entries_are puts) in
+      let here : PutsPiece tells old.reader.entries (IsEndTextOf tells first.range old.reader.entries (sealed_by end)) (sink_and_view old.written.sink old.written.failures) (sink_and_view new.written.sink new.written.failures) (Err why) =
+      subst (λ (r : Range). PutsPiece tells old.reader.entries (IsEndTextOf tells r old.reader.entries (sealed_by end)) (sink_and_view old.written.sink old.written.failures) (sink_and_view new.written.sink new.written.failures) (Err why)) w.range
+      (subst (λ (es : List (Entry X)). PutsPiece tells es (IsEndTextOf tells old.range es (sealed_by end)) (sink_and_view old.written.sink old.written.failures) (sink_and_view new.written.sink new.written.failures) (Err why)) entries_are puts) in
       let stops : WritesTo tells first.range old.reader.entries (sealed_by end) first.written new.written (Some why) =
       stopped tells first.range old.reader.entries (sealed_by end) first.written old.written new.written (IsEndTextOf tells first.range old.reader.entries (sealed_by end)) why
       (λ told part piece f is prefix. of_end piece is prefix) g.0 g.1 here fronts_are in
       record {
         range = range_is ∙ w.range;
         ending = sealed_by end;
-        holds = subst (λ (r : ReaderState X). Holds r (sealed_by end)) (sym reader_is) holds;
+        holds = subst (λ (r : ReaderState X). HoldsAllSealed r (sealed_by end)) (sym reader_is) holds;
         watches =
             subst (λ (e : Option WatchEnd). WritesTo tells first.range new.reader.entries (sealed_by end) first.written new.written e) (sym ended)
             (subst (λ (r : ReaderState X). WritesTo tells first.range r.entries (sealed_by end) first.written new.written (Some why)) (sym reader_is) stops);
@@ -237,10 +237,10 @@ module _ {X : Type 0} (tells : X → Option (List ℕ)) where
       let all : entries_of now.known ≡ now.entries = ap entries_of r.known ∙ sym r.entries in
       subst (λ (es : List (Entry X)). IsPrefix before.entries es) all (subst (λ (es : List (Entry X)). IsPrefix es (entries_of now.known)) (sym held) (entries_prefix (take n before.known) now.known part))
 
-  held_on : (ending : Ending) (before now : ReaderState X) → Learns before now → Holds before ending → Holds now ending
+  held_on : (ending : SealState) (before now : ReaderState X) → Learns before now → HoldsAllSealed before ending → HoldsAllSealed now ending
   held_on undecided before now l holds = tt
   held_on (sealed_by end) before now l holds =
-      let same : front_of now.known ≡ front_of before.known = l.rises.stays end holds.1 in
+      let same : published_front now.known ≡ published_front before.known = l.rises.stays end holds.1 in
       let blocks : length (entries_of now.known) ≡ length (entries_of before.known) = ap (λ (f : Front). f.blocks) same in
       let all : entries_of before.known ≡ entries_of now.known = prefix_whole (entries_of before.known) (entries_of now.known) (entries_prefix before.known now.known l.grows) (omega (arith, blocks)) in
       (l.held ∙ holds.0 ∙ all, ap (λ (f : Front). f.end) same ∙ holds.1)
@@ -264,12 +264,12 @@ module _ {X : Type 0} (tells : X → Option (List ℕ)) where
       let parts = zip_parts (IsStored tells) few p.0 stored (subst (λ (es : List (Entry X)). AllZip (IsStored tells) es stored) (sym p.1) told) in
       untold parts.0 parts.3
 
-  begun_lift : (range : Range) (few more : List (Entry X)) (fronts : List ℕ) (ending : Ending) (part : List ℕ) → IsPrefix few more → BegunOf tells range few fronts undecided part → BegunOf tells range more fronts ending part
+  begun_lift : (range : Range) (few more : List (Entry X)) (fronts : List ℕ) (ending : SealState) (part : List ℕ) → IsPrefix few more → BegunOf tells range few fronts undecided part → BegunOf tells range more fronts ending part
   begun_lift range few more fronts ending part p (none_more none) = none_more none
   begun_lift range few more fronts ending part p (of_front n line rises is prefix) = of_front n line rises (line_lift tells range few more n line p is) prefix
   begun_lift range few more fronts ending part p (of_end line is prefix) = absurd is
 
-  part_lift : (range : Range) (few more : List (Entry X)) (fronts : List ℕ) (ending : Ending) (text : List ℕ) → IsPrefix few more → WatchPartOf tells range few fronts undecided text → WatchPartOf tells range more fronts ending text
+  part_lift : (range : Range) (few more : List (Entry X)) (fronts : List ℕ) (ending : SealState) (text : List ℕ) → IsPrefix few more → WatchPartOf tells range few fronts undecided text → WatchPartOf tells range more fronts ending text
   part_lift range few more fronts ending text p w = record {
     told = w.told;
     part = w.part;
@@ -278,12 +278,12 @@ module _ {X : Type 0} (tells : X → Option (List ℕ)) where
     text_is = w.text_is;
   }
 
-  parts_lift : (range : Range) (few more : List (Entry X)) (fronts : List ℕ) (ending : Ending) (old new : Option (List ℕ)) → IsPrefix few more → Takes (WatchPartOf tells range few fronts undecided) old new → Takes (WatchPartOf tells range more fronts ending) old new
+  parts_lift : (range : Range) (few more : List (Entry X)) (fronts : List ℕ) (ending : SealState) (old new : Option (List ℕ)) → IsPrefix few more → TakesSuchText (WatchPartOf tells range few fronts undecided) old new → TakesSuchText (WatchPartOf tells range more fronts ending) old new
   parts_lift range few more fronts ending old new p took =
       takes_as (WatchPartOf tells range few fronts undecided) (WatchPartOf tells range more fronts ending) old new (λ t is. part_lift range few more fronts ending t p is) took
 
   -- as long as nothing is decided, what was written is of any longer list too
-  writes_lift : (range : Range) (few more : List (Entry X)) (ending : Ending) (first now : Written) (e : Option WatchEnd) → IsPrefix few more → WritesTo tells range few undecided first now e → WritesTo tells range more ending first now e
+  writes_lift : (range : Range) (few more : List (Entry X)) (ending : SealState) (first now : Written) (e : Option WatchEnd) → IsPrefix few more → WritesTo tells range few undecided first now e → WritesTo tells range more ending first now e
   writes_lift range few more ending first now None p w =
       (w.0, takes_as (FrontsTextOf tells range few now.fronts) (FrontsTextOf tells range more now.fronts) first.sink.took now.sink.took (λ t f. fronts_lift tells range few more now.fronts t p f) w.1)
   writes_lift range few more ending first now (Some watch_ends.Whole) p w = absurd (cc (w.1.1))
@@ -292,7 +292,7 @@ module _ {X : Type 0} (tells : X → Option (List ℕ)) where
   writes_lift range few more ending first now (Some (watch_ends.Flaw rule offset)) p w = (w.0, untold_lift few more p w.1, parts_lift range few more now.fronts ending first.sink.took now.sink.took p w.2)
   writes_lift range few more ending first now (Some watch_ends.Memory) p w = (w.0, parts_lift range few more now.fronts ending first.sink.took now.sink.took p w.1)
 
-  decides : (range : Range) (reader : ReaderState X) (all : List (Entry X)) (ending : Ending) (end : End) (first now : Written) (e : Option WatchEnd) → Holds reader ending → IsPrefix reader.entries all → entries_of reader.known ≡ all → end_of reader.known ≡ Some end
+  decides : (range : Range) (reader : ReaderState X) (all : List (Entry X)) (ending : SealState) (end : End) (first now : Written) (e : Option WatchEnd) → HoldsAllSealed reader ending → IsPrefix reader.entries all → entries_of reader.known ≡ all → end_of reader.known ≡ Some end
       → WritesTo tells range reader.entries ending first now e → WritesTo tells range all (sealed_by end) first now e
   decides range reader all undecided end first now e holds p are is w = writes_lift range reader.entries all (sealed_by end) first now e p w
   decides range reader all (sealed_by other) end first now e holds p are is w =
@@ -302,10 +302,10 @@ module _ {X : Type 0} (tells : X → Option (List ℕ)) where
 
   -- It was written of all that the note of a seal has.
   pub finished : (first now : WatcherState X) (note : List (Added X)) (end : End) (n : ℕ) → WatchedSince tells first now → now.reader.entries ≡ entries_of (take n now.reader.known) → IsPrefix note now.reader.known
-      → AtLeast (front_of note) (front_of now.reader.known) → end_of note ≡ Some end → Watches tells first.range (entries_of note) (sealed_by end) first.written now.written
+      → AtLeast (published_front note) (published_front now.reader.known) → end_of note ≡ Some end → Watches tells first.range (entries_of note) (sealed_by end) first.written now.written
   finished first now note end n w held p least is =
       let known = now.reader.known in
-      let front_same : front_of known ≡ front_of note = least.stays end is in
+      let front_same : published_front known ≡ published_front note = least.stays end is in
       let blocks : length (entries_of known) ≡ length (entries_of note) = ap (λ (f : Front). f.blocks) front_same in
       let same : entries_of note ≡ entries_of known = prefix_whole (entries_of note) (entries_of known) (entries_prefix note known p) (omega (arith, blocks)) in
       let ended : end_of known ≡ Some end = ap (λ (f : Front). f.end) front_same ∙ is in
@@ -314,7 +314,7 @@ module _ {X : Type 0} (tells : X → Option (List ℕ)) where
       subst (λ (es : List (Entry X)). WritesTo tells first.range es (sealed_by end) first.written now.written now.written.end) (sym same)
       (decides first.range now.reader (entries_of known) w.ending end first.written now.written now.written.end w.holds first_ones refl ended w.watches)
 
-  pub least_on : (a b c : List (Added X)) → AtLeast (front_of a) (front_of b) → AtLeast (front_of b) (front_of c) → AtLeast (front_of a) (front_of c)
+  pub least_on : (a b c : List (Added X)) → AtLeast (published_front a) (published_front b) → AtLeast (published_front b) (published_front c) → AtLeast (published_front a) (published_front c)
   least_on a b c one two = record {
     blocks = omega (arith, one.blocks, two.blocks);
     stays = λ end is.
@@ -335,8 +335,8 @@ module _ {X : Type 0} (tells : X → Option (List ℕ)) where
       → new.end ≡ Some watch_ends.Unsealed → EndsUnsealed tells first old.reader new
   unsealed_written first old new w none puts view fronts_are ended =
       let g = goes_on first old w none in
-      let text : Takes (IsEndTextOf tells first.range old.reader.entries unsealed) old.written.sink.took new.sink.took = takes_bytes (IsEndTextOf tells first.range old.reader.entries unsealed) old.written.sink.took new.sink.took unsealed_line refl puts.1 in
-      let all : Takes (WatchTextOf tells first.range old.reader.entries old.written.fronts unsealed) first.written.sink.took new.sink.took =
+      let text : TakesSuchText (IsEndTextOf tells first.range old.reader.entries unsealed) old.written.sink.took new.sink.took = takes_bytes (IsEndTextOf tells first.range old.reader.entries unsealed) old.written.sink.took new.sink.took unsealed_line refl puts.1 in
+      let all : TakesSuchText (WatchTextOf tells first.range old.reader.entries old.written.fronts unsealed) first.written.sink.took new.sink.took =
       takes_more (FrontsTextOf tells first.range old.reader.entries old.written.fronts) (IsEndTextOf tells first.range old.reader.entries unsealed) (WatchTextOf tells first.range old.reader.entries old.written.fronts unsealed)
       first.written.sink.took old.written.sink.took new.sink.took
       (λ s t f is. record { told = s; last = t; fronts_are = f; last_is = is; text_is = refl }) g.1 text in
@@ -347,7 +347,7 @@ module _ {X : Type 0} (tells : X → Option (List ℕ)) where
             subst (λ (e : Option WatchEnd). WritesTo tells first.range old.reader.entries unsealed first.written new e) (sym ended) (
               quiet_on tells first.range first.written old.written new g.0 puts.0 view,
               refl,
-              subst (λ (ns : List ℕ). Takes (WatchTextOf tells first.range old.reader.entries ns unsealed) first.written.sink.took new.sink.took) (sym fronts_are) all,
+              subst (λ (ns : List ℕ). TakesSuchText (WatchTextOf tells first.range old.reader.entries ns unsealed) first.written.sink.took new.sink.took) (sym fronts_are) all,
             );
       }
 
@@ -367,10 +367,10 @@ module _ {X : Type 0} (tells : X → Option (List ℕ)) where
 
 -- ---- pieces made of bytes
 
-pub piece_written : (P : List ℕ → Type 0) (before now : Sides) (bytes : List ℕ) → P bytes → now.failures ≡ before.failures → PutsBytes before.sink now.sink bytes (Ok tt) → PutsAll P before now
+pub piece_written : (P : List ℕ → Type 0) (before now : SinkAndView) (bytes : List ℕ) → P bytes → now.failures ≡ before.failures → PutsBytes before.sink now.sink bytes (Ok tt) → PutsAll P before now
 piece_written P before now bytes p view puts = record { sink = puts.0; view = view; takes = takes_bytes P before.sink.took now.sink.took bytes p puts.1 }
 
-pub piece_refused : {X : Type 0} (tells : X → Option (List ℕ)) (entries : List (Entry X)) (P : List ℕ → Type 0) (before now : Sides) (bytes : List ℕ) (why : WatchEnd) → P bytes → now.failures ≡ before.failures → PutsBytes before.sink now.sink bytes (Err why)
-    → Puts tells entries P before now (Err why)
+pub piece_refused : {X : Type 0} (tells : X → Option (List ℕ)) (entries : List (Entry X)) (P : List ℕ → Type 0) (before now : SinkAndView) (bytes : List ℕ) (why : WatchEnd) → P bytes → now.failures ≡ before.failures → PutsBytes before.sink now.sink bytes (Err why)
+    → PutsPiece tells entries P before now (Err why)
 piece_refused tells entries P before now bytes why p view puts =
     inl (record { rises = puts.0; why_is = puts.1; view = view }, takes_part P before.sink.took now.sink.took bytes p puts.2)

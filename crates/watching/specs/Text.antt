@@ -82,13 +82,13 @@ pub record FrontsText (replays : ℕ → ℕ → List ℕ → Type 0) (blocks : 
 -- ---- the end
 
 -- whether blocks may still come, and how their writer ended, where it said so
-pub data Ending : Type 0 where
-  undecided : Ending
-  sealed_by : End → Ending
-  unsealed : Ending
+pub data SealState : Type 0 where
+  undecided : SealState
+  sealed_by : End → SealState
+  unsealed : SealState
 
 -- the line of the end with the lines of the replay of all blocks; or that there is none
-abbrev pub IsEndText : (ℕ → ℕ → List ℕ → Type 0) → ℕ → Ending → List ℕ → Type 0
+abbrev pub IsEndText : (ℕ → ℕ → List ℕ → Type 0) → ℕ → SealState → List ℕ → Type 0
 IsEndText replays blocks undecided text = ⊥
 IsEndText replays blocks (sealed_by end) text = (count : ℕ) × (lines : List ℕ) × replays blocks count lines × (text ≡ end_line end blocks count ++ lines)
 IsEndText replays blocks unsealed text = text ≡ unsealed_line
@@ -96,7 +96,7 @@ IsEndText replays blocks unsealed text = text ≡ unsealed_line
 -- ---- the whole
 
 -- the lines of these fronts, and the end
-pub record WatchText (replays : ℕ → ℕ → List ℕ → Type 0) (blocks : ℕ) (fronts : List ℕ) (ending : Ending) (text : List ℕ) : Type 0 where
+pub record WatchText (replays : ℕ → ℕ → List ℕ → Type 0) (blocks : ℕ) (fronts : List ℕ) (ending : SealState) (text : List ℕ) : Type 0 where
   pub told : List ℕ
   pub last : List ℕ
   pub fronts_are : FrontsText replays blocks fronts told
@@ -104,17 +104,17 @@ pub record WatchText (replays : ℕ → ℕ → List ℕ → Type 0) (blocks : �
   pub text_is : text ≡ told ++ last
 
 -- a first part of the line of one more front, or of the end, or nothing
-pub data Begun (replays : ℕ → ℕ → List ℕ → Type 0) (blocks : ℕ) (fronts : List ℕ) (ending : Ending) (part : List ℕ) : Type 0 where
-  none_more : part ≡ [] → Begun replays blocks fronts ending part
-  of_front : (n : ℕ) (line : List ℕ) → Doubles 0 (fronts ++ n ∷ []) → IsFrontLine replays blocks n line → IsPrefix part line → Begun replays blocks fronts ending part
-  of_end : (line : List ℕ) → IsEndText replays blocks ending line → IsPrefix part line → Begun replays blocks fronts ending part
+pub data BeginsLine (replays : ℕ → ℕ → List ℕ → Type 0) (blocks : ℕ) (fronts : List ℕ) (ending : SealState) (part : List ℕ) : Type 0 where
+  none_more : part ≡ [] → BeginsLine replays blocks fronts ending part
+  of_front : (n : ℕ) (line : List ℕ) → Doubles 0 (fronts ++ n ∷ []) → IsFrontLine replays blocks n line → IsPrefix part line → BeginsLine replays blocks fronts ending part
+  of_end : (line : List ℕ) → IsEndText replays blocks ending line → IsPrefix part line → BeginsLine replays blocks fronts ending part
 
 -- the lines of these fronts, and a first part of what may stand behind them
-pub record WatchPart (replays : ℕ → ℕ → List ℕ → Type 0) (blocks : ℕ) (fronts : List ℕ) (ending : Ending) (text : List ℕ) : Type 0 where
+pub record WatchPart (replays : ℕ → ℕ → List ℕ → Type 0) (blocks : ℕ) (fronts : List ℕ) (ending : SealState) (text : List ℕ) : Type 0 where
   pub told : List ℕ
   pub part : List ℕ
   pub fronts_are : FrontsText replays blocks fronts told
-  pub begun : Begun replays blocks fronts ending part
+  pub begun : BeginsLine replays blocks fronts ending part
   pub text_is : text ≡ told ++ part
 
 -- ---- the same of the blocks of these entries
@@ -125,11 +125,11 @@ IsFrontLineOf tells range entries = IsFrontLine (replays_of tells range entries)
 abbrev pub FrontsTextOf : {X : Type 0} → (X → Option (List ℕ)) → Range → List (Entry X) → List ℕ → List ℕ → Type 0
 FrontsTextOf tells range entries = FrontsText (replays_of tells range entries) (length entries)
 
-abbrev pub IsEndTextOf : {X : Type 0} → (X → Option (List ℕ)) → Range → List (Entry X) → Ending → List ℕ → Type 0
+abbrev pub IsEndTextOf : {X : Type 0} → (X → Option (List ℕ)) → Range → List (Entry X) → SealState → List ℕ → Type 0
 IsEndTextOf tells range entries = IsEndText (replays_of tells range entries) (length entries)
 
-abbrev pub WatchTextOf : {X : Type 0} → (X → Option (List ℕ)) → Range → List (Entry X) → List ℕ → Ending → List ℕ → Type 0
+abbrev pub WatchTextOf : {X : Type 0} → (X → Option (List ℕ)) → Range → List (Entry X) → List ℕ → SealState → List ℕ → Type 0
 WatchTextOf tells range entries = WatchText (replays_of tells range entries) (length entries)
 
-abbrev pub WatchPartOf : {X : Type 0} → (X → Option (List ℕ)) → Range → List (Entry X) → List ℕ → Ending → List ℕ → Type 0
+abbrev pub WatchPartOf : {X : Type 0} → (X → Option (List ℕ)) → Range → List (Entry X) → List ℕ → SealState → List ℕ → Type 0
 WatchPartOf tells range entries = WatchPart (replays_of tells range entries) (length entries)

@@ -11,7 +11,7 @@ use Rattle.live_directory.specs.Reading.{ReaderState}
 use Rattle.watching.specs.declared.report.WatchEnd.{WatchEnd}
 use Rattle.watching.specs.declared.report.WatchReport.{WatchReport}
 use Rattle.watching.specs.declared.report.WatchEnd.TheVariants as watch_ends
-use Rattle.watching.specs.Text.{Ending, undecided, sealed_by, unsealed, Doubles, FrontsTextOf, WatchTextOf, WatchPartOf}
+use Rattle.watching.specs.Text.{SealState, undecided, sealed_by, unsealed, Doubles, FrontsTextOf, WatchTextOf, WatchPartOf}
 
 -- The fronts whose lines were written, why the watcher ended, if it did, and what is seen of its sink and its view.
 pub record Written : Type 0 where
@@ -58,36 +58,36 @@ IsUntold tells entries = (stored : List Stored) → AllZip (IsStored tells) entr
 -- ---- what was written
 
 -- where the sink tells what it took, such a text stands behind that now
-abbrev pub Takes : (List ℕ → Type 0) → Option (List ℕ) → Option (List ℕ) → Type 0
-Takes P old new = (before : List ℕ) → old ≡ Some before → (text : List ℕ) × P text × (new ≡ Some (before ++ text))
+abbrev pub TakesSuchText : (List ℕ → Type 0) → Option (List ℕ) → Option (List ℕ) → Type 0
+TakesSuchText P old new = (before : List ℕ) → old ≡ Some before → (text : List ℕ) × P text × (new ≡ Some (before ++ text))
 
 -- Since then, when there were no fronts and no end, this was written of these blocks.
-abbrev pub WritesTo : {X : Type 0} → (X → Option (List ℕ)) → Range → List (Entry X) → Ending → Written → Written → Option WatchEnd → Type 0
-WritesTo tells range entries ending before now None = IsQuiet before now × Takes (FrontsTextOf tells range entries now.fronts) before.sink.took now.sink.took
-WritesTo tells range entries ending before now (Some watch_ends.Whole) = IsQuiet before now × ((end : End) × (ending ≡ sealed_by end)) × Takes (WatchTextOf tells range entries now.fronts ending) before.sink.took now.sink.took
-WritesTo tells range entries ending before now (Some watch_ends.Unsealed) = IsQuiet before now × (ending ≡ unsealed) × Takes (WatchTextOf tells range entries now.fronts ending) before.sink.took now.sink.took
-WritesTo tells range entries ending before now (Some (watch_ends.Fault faults)) = HasFailed before now faults × Takes (WatchPartOf tells range entries now.fronts ending) before.sink.took now.sink.took
-WritesTo tells range entries ending before now (Some (watch_ends.Flaw rule offset)) = IsQuiet before now × IsUntold tells entries × Takes (WatchPartOf tells range entries now.fronts ending) before.sink.took now.sink.took
-WritesTo tells range entries ending before now (Some watch_ends.Memory) = IsQuiet before now × Takes (WatchPartOf tells range entries now.fronts ending) before.sink.took now.sink.took
+abbrev pub WritesTo : {X : Type 0} → (X → Option (List ℕ)) → Range → List (Entry X) → SealState → Written → Written → Option WatchEnd → Type 0
+WritesTo tells range entries ending before now None = IsQuiet before now × TakesSuchText (FrontsTextOf tells range entries now.fronts) before.sink.took now.sink.took
+WritesTo tells range entries ending before now (Some watch_ends.Whole) = IsQuiet before now × ((end : End) × (ending ≡ sealed_by end)) × TakesSuchText (WatchTextOf tells range entries now.fronts ending) before.sink.took now.sink.took
+WritesTo tells range entries ending before now (Some watch_ends.Unsealed) = IsQuiet before now × (ending ≡ unsealed) × TakesSuchText (WatchTextOf tells range entries now.fronts ending) before.sink.took now.sink.took
+WritesTo tells range entries ending before now (Some (watch_ends.Fault faults)) = HasFailed before now faults × TakesSuchText (WatchPartOf tells range entries now.fronts ending) before.sink.took now.sink.took
+WritesTo tells range entries ending before now (Some (watch_ends.Flaw rule offset)) = IsQuiet before now × IsUntold tells entries × TakesSuchText (WatchPartOf tells range entries now.fronts ending) before.sink.took now.sink.took
+WritesTo tells range entries ending before now (Some watch_ends.Memory) = IsQuiet before now × TakesSuchText (WatchPartOf tells range entries now.fronts ending) before.sink.took now.sink.took
 
-abbrev pub Watches : {X : Type 0} → (X → Option (List ℕ)) → Range → List (Entry X) → Ending → Written → Written → Type 0
+abbrev pub Watches : {X : Type 0} → (X → Option (List ℕ)) → Range → List (Entry X) → SealState → Written → Written → Type 0
 Watches tells range entries ending before now = WritesTo tells range entries ending before now now.end
 
 -- the reader holds all blocks of a directory that was sealed so, as far as the ending says so
-abbrev pub Holds : {X : Type 0} → ReaderState X → Ending → Type 0
-Holds reader undecided = Unit {0}
-Holds reader (sealed_by end) = (reader.entries ≡ entries_of reader.known) × (end_of reader.known ≡ Some end)
-Holds reader unsealed = ⊥
+abbrev pub HoldsAllSealed : {X : Type 0} → ReaderState X → SealState → Type 0
+HoldsAllSealed reader undecided = Unit {0}
+HoldsAllSealed reader (sealed_by end) = (reader.entries ≡ entries_of reader.known) × (end_of reader.known ≡ Some end)
+HoldsAllSealed reader unsealed = ⊥
 
 -- Since it was new, this watcher has written of the blocks that its reader holds.
 pub record WatchedSince {X : Type 0} (tells : X → Option (List ℕ)) (first now : WatcherState X) : Type 0 where
   pub range : now.range ≡ first.range
-  pub ending : Ending
-  pub holds : Holds now.reader ending
+  pub ending : SealState
+  pub holds : HoldsAllSealed now.reader ending
   pub watches : Watches tells first.range now.reader.entries ending first.written now.written
 
 -- The same of one whose directory wasn't sealed.
 pub record EndsUnsealed {X : Type 0} (tells : X → Option (List ℕ)) (first : WatcherState X) (reader : ReaderState X) (now : Written) : Type 0 where
-  pub ending : Ending
-  pub known : (ending ≡ unsealed) ⊎ Holds reader ending
+  pub ending : SealState
+  pub known : (ending ≡ unsealed) ⊎ HoldsAllSealed reader ending
   pub watches : Watches tells first.range reader.entries ending first.written now

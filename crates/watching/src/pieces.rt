@@ -3,7 +3,7 @@ ghost use Rattle.std.specs.Prelude.{◌≡◌, ◌++◌, length, IfOk, MatchResu
 ghost use Rattle.live_entry.specs.Following.{EntriesFollow};
 ghost use Rattle.watching.specs.Text.{sealed_by, unsealed, unsealed_line, IsReplayText, IsFrontLineOf, IsEndTextOf};
 ghost use Rattle.live_replay.specs.Answering.{RefusesReplay};
-ghost use Rattle.watching.specs.Putting.{sides, IsEndedBy, Lacks, Puts, PutsBytes};
+ghost use Rattle.watching.specs.Putting.{sink_and_view, IsEndedBy, MakingFails, PutsPiece, PutsBytes};
 
 use crate::lines::{line_of_end, line_of_front};
 use crate::report::WatchEnd;
@@ -48,7 +48,7 @@ fn replay<X: Extent, V: LiveView<X>>(
     ensures replays { IfOk result (λ all. IsReplayText X.tells range entries.now all.count all.text) }
     ensures cause { MatchResult result
         (λ _. V.failures view.new ≡ V.failures view.old)
-        (λ why. Lacks X.tells entries.now (V.failures view.old) (V.failures view.new) why) }
+        (λ why. MakingFails X.tells entries.now (V.failures view.old) (V.failures view.new) why) }
 {
     let kept = match replay_blocks(alloc, entries, view, range) {
         Ok(kept) => kept,
@@ -117,7 +117,7 @@ pub(crate) fn put_front<X: Extent, V: LiveView<X>, K: Sink>(
     sink: &mut K,
 ) -> Result<(), WatchEnd>
     requires { EntriesFollow X.tells entries.now }
-    ensures { Puts X.tells entries.now (IsFrontLineOf X.tells range entries.now (length entries.now)) (sides (K.state sink.old) (V.failures view.old)) (sides (K.state sink.new) (V.failures view.new)) result }
+    ensures { PutsPiece X.tells entries.now (IsFrontLineOf X.tells range entries.now (length entries.now)) (sink_and_view (K.state sink.old) (V.failures view.old)) (sink_and_view (K.state sink.new) (V.failures view.new)) result }
 {
     let Replayed { count, text } = match replay(alloc, entries, view, range) {
         Ok(all) => all,
@@ -140,7 +140,7 @@ pub(crate) fn put_end<X: Extent, V: LiveView<X>, K: Sink>(
     end: End,
 ) -> Result<(), WatchEnd>
     requires { EntriesFollow X.tells entries.now }
-    ensures { Puts X.tells entries.now (IsEndTextOf X.tells range entries.now (sealed_by end)) (sides (K.state sink.old) (V.failures view.old)) (sides (K.state sink.new) (V.failures view.new)) result }
+    ensures { PutsPiece X.tells entries.now (IsEndTextOf X.tells range entries.now (sealed_by end)) (sink_and_view (K.state sink.old) (V.failures view.old)) (sink_and_view (K.state sink.new) (V.failures view.new)) result }
 {
     let Replayed { count, mut text } = match replay(alloc, entries, view, range) {
         Ok(all) => all,

@@ -3,11 +3,11 @@ ghost use Rattle.std.specs.Prelude.{◌≡◌, ◌⊎◌, ◌∷◌, ◌++◌, [
 ghost use mathlib.Core.List.{IsPrefix};
 ghost use Rattle.mcap_io.specs.Outside.{RisesOnce};
 ghost use Rattle.mcap_model.specs.declared.ends.End.{End as Last};
-ghost use Rattle.live_directory.specs.Published.{entries_of, end_of, front_of, AtLeast};
+ghost use Rattle.live_directory.specs.Published.{entries_of, end_of, published_front, AtLeast};
 ghost use Rattle.watching.specs.declared.report.WatchEnd.{WatchEnd};
 ghost use Rattle.watching.specs.declared.report.WatchEnd.TheVariants as watch_ends;
 ghost use Rattle.watching.specs.Text.{sealed_by, Doubles};
-ghost use Rattle.watching.specs.Watching.{WatcherState, new_watcher, written_by, MayFollow, Holds, Watches, WatchedSince, EndsUnsealed};
+ghost use Rattle.watching.specs.Watching.{WatcherState, new_watcher, written_by, MayFollow, HoldsAllSealed, Watches, WatchedSince, EndsUnsealed};
 
 use crate::pieces::{put_end, put_front, put_unsealed};
 use crate::report::{WatchEnd, WatchReport};
@@ -114,7 +114,7 @@ impl<X: Extent, J: Naming, V: LiveView<X>, K: Sink> Watcher<X, J, V, K> {
     // Writes the end, and the lines of all blocks.
     fn write_end(&mut self, alloc: Global, end: End)
         requires goes_on { self.old.written.end ≡ None }
-        requires holds { Holds self.old.reader (sealed_by end) }
+        requires holds { HoldsAllSealed self.old.reader (sealed_by end) }
         ensures since { (first : WatcherState X) → WatchedSince X.tells first self.old → WatchedSince X.tells first self.new }
         ensures reader { self.new.reader ≡ self.old.reader }
         ensures ended { self.new.written.end ≡ None → ⊥ }
@@ -138,7 +138,7 @@ impl<X: Extent, J: Naming, V: LiveView<X>, K: Sink> Watcher<X, J, V, K> {
         requires goes_on { self.old.written.end ≡ None }
         ensures since { (first : WatcherState X) → WatchedSince X.tells first self.old → WatchedSince X.tells first self.new }
         ensures knows { IsPrefix self.old.reader.known self.new.reader.known }
-        ensures rises { AtLeast (front_of self.old.reader.known) (front_of self.new.reader.known) }
+        ensures rises { AtLeast (published_front self.old.reader.known) (published_front self.new.reader.known) }
         ensures ended { (end : Last) → end_of self.old.reader.known ≡ Some end → self.new.written.end ≡ None → ⊥ }
     {
         // What the reader holds are first entries of what it knows.
@@ -220,7 +220,7 @@ impl<X: Extent, J: Naming, V: LiveView<X>, K: Sink> Watcher<X, J, V, K> {
         ensures since { (first : WatcherState X) → WatchedSince X.tells first self.old → WatchedSince X.tells first self.new }
         ensures stays { self.new.written ≡ self.old.written }
         ensures learnt { IsPrefix note.now self.new.reader.known }
-        ensures rises { AtLeast (front_of note.now) (front_of self.new.reader.known) }
+        ensures rises { AtLeast (published_front note.now) (published_front self.new.reader.known) }
     {
         self.reader.learn(note);
     }
@@ -231,7 +231,7 @@ impl<X: Extent, J: Naming, V: LiveView<X>, K: Sink> Watcher<X, J, V, K> {
         ensures since { (first : WatcherState X) → WatchedSince X.tells first self.old → WatchedSince X.tells first self.new }
         ensures stays { (why : WatchEnd) → self.old.written.end ≡ Some why → self.new.written ≡ self.old.written }
         ensures knows { IsPrefix self.old.reader.known self.new.reader.known }
-        ensures rises { AtLeast (front_of self.old.reader.known) (front_of self.new.reader.known) }
+        ensures rises { AtLeast (published_front self.old.reader.known) (published_front self.new.reader.known) }
         ensures ended { self.new.written.end ≡ Some result }
     {
         match self.end {

@@ -1,10 +1,10 @@
 use Rattle.std.proofs.Common.{◌-◌, ◌≤◌}
-use Rattle.mcap_scan.specs.Scanning.{offset_of}
+use Rattle.mcap_scan.specs.Scanning.{next_offset}
 use Rattle.chunk_survey.proofs.Surveyed.{NotedSoFar}
 use Rattle.chunk_survey.proofs.surveying.survey_source.Given as goal
 
 abbrev pub decreases-records : goal.decreases-records
-decreases-records g l = 1099511627776 - offset_of l.reader
+decreases-records g l = 1099511627776 - next_offset l.reader
 
 abbrev pub invariant-records : goal.invariant-records
-invariant-records g l = NotedSoFar l.reader (g.S.Source.state l.fn.source) (g.S.Source.state l.source) l.spans.items × (offset_of l.reader ≤ 1099511627776) × g.S.Source.stays l.fn.source l.source
+invariant-records g l = NotedSoFar l.reader (g.S.Source.state l.fn.source) (g.S.Source.state l.source) l.spans.items × (next_offset l.reader ≤ 1099511627776) × g.S.Source.stays l.fn.source l.source

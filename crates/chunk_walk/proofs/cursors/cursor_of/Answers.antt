@@ -5,7 +5,7 @@ use Rattle.std.proofs.lemmas.Bool.{both_ways, eqb-true}
 use Rattle.chunk_walk.specs.declared.answers.WalkRefused.{WalkRefused}
 use Rattle.record_walk.specs.declared.heads.MessageHead.{MessageHead}
 use Rattle.record_walk.specs.Heads.{heads_in}
-use Rattle.chunk_walk.specs.Heads.{AreWithin}
+use Rattle.chunk_walk.specs.Heads.{AreInSpan}
 use Rattle.chunk_walk.specs.Cursors.{MakesCursor}
 use Rattle.chunk_walk.proofs.Fitting.{listed_apart, unfit_empty, unfit_many, unfit_outside}
 use Rattle.chunk_walk.proofs.cursors.cursor_of.Goals as goal
@@ -46,5 +46,5 @@ returns-then-not-are_within c =
       refl,
       refl,
       unfit_outside span bytes sorted same (λ within.
-          both_ways c.are_within.result c.if-not-are_within.true (c.are_within.ensures.1 (subst (AreWithin span) (sym c.deref.ensures.value) within))),
+          both_ways c.are_within.result c.if-not-are_within.true (c.are_within.ensures.1 (subst (AreInSpan span) (sym c.deref.ensures.value) within))),
     )

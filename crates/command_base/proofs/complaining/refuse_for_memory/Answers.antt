@@ -1,6 +1,6 @@
-use Rattle.command_base.specs.Texts.{line_of}
+use Rattle.command_base.specs.Texts.{trouble_line}
 use Rattle.command_base.proofs.complaining.refuse_for_memory.Goals as goal
 
 pub returns : goal.returns
-unfolding line_of
+unfolding trouble_line
 returns g c = c.tell.ensures

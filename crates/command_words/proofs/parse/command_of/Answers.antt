@@ -5,7 +5,7 @@ use Rattle.std.specs.declared.result.Result.{Result}
 use Rattle.std.proofs.lemmas.Result.{IfErr-weaker}
 use Rattle.clap.specs.Words.{Row}
 use Rattle.command_words.specs.Items.{Word}
-use Rattle.command_words.specs.Commands.{Behind, command_name, file_synopsis, synopsis_of, told_with, verb_of}
+use Rattle.command_words.specs.Commands.{WordsMean, command_name, file_synopsis, synopsis_of, told_with, verb_of}
 use Rattle.command_words.specs.Matches.{IsReading, rows_found}
 use Rattle.command_words.specs.declared.command.Command.{Command}
 use Rattle.command_words.specs.declared.command.WordsRefused.{WordsRefused}
@@ -18,17 +18,17 @@ use Rattle.command_words.proofs.parse.command_of.Goals as goal
 
 -- what is promised of a verb
 abbrev Gives : List Row → Result Command WordsRefused → Verb → Type 0
-Gives rows result v = (words : List Word) → IsReading (synopsis_of v) words rows → IfOk result (λ command. Behind words command × (verb_of command ≡ v))
+Gives rows result v = (words : List Word) → IsReading (synopsis_of v) words rows → IfOk result (λ command. WordsMean words command × (verb_of command ≡ v))
 
 abbrev Refuses : List Row → Result Command WordsRefused → Verb → Type 0
-Refuses rows result v = (words : List Word) → IsReading (synopsis_of v) words rows → IfErr result (λ refused. refused ≡ BadWords → (command : Command) → verb_of command ≡ v → Behind words command → ⊥)
+Refuses rows result v = (words : List Word) → IsReading (synopsis_of v) words rows → IfErr result (λ refused. refused ≡ BadWords → (command : Command) → verb_of command ≡ v → WordsMean words command → ⊥)
 
 pub returns-in-Record-clause-command : goal.returns-in-Record-clause-command
 returns-in-Record-clause-command c = subst (Gives (rows_found c.args.found.now) c.record_of.result) (sym c.in-Record.is) c.record_of.ensures.command
 
 pub returns-in-Record-clause-bad : goal.returns-in-Record-clause-bad
 returns-in-Record-clause-bad c = subst (Refuses (rows_found c.args.found.now) c.record_of.result) (sym c.in-Record.is)
-    (λ words reading. IfErr-weaker c.record_of.result _ _ (λ refused bad why. of_verb verb.Record (λ command. Behind words command → ⊥)
+    (λ words reading. IfErr-weaker c.record_of.result _ _ (λ refused bad why. of_verb verb.Record (λ command. WordsMean words command → ⊥)
     (λ out feeds file limit lossless range watchers. bad why out feeds (told_with file limit lossless range watchers))) (c.record_of.ensures.bad words reading))
 
 pub returns-in-Ok-clause-command : goal.returns-in-Ok-clause-command
@@ -41,7 +41,7 @@ pub returns-in-Err-clause-bad : goal.returns-in-Err-clause-bad
 returns-in-Err-clause-bad c = λ words reading why command same.
     let what = c.in-OfFile.what in
     let here = subst (λ (v : Verb). IsReading (synopsis_of v) words (rows_found c.args.found.now)) c.in-OfFile.is reading in
-    of_verb (verb.OfFile what) (λ command. Behind words command → ⊥)
+    of_verb (verb.OfFile what) (λ command. WordsMean words command → ⊥)
     (λ file is. let named = of_named_file (file_synopsis (command_name what)) words (rows_found c.args.found.now) here file (command_name what, refl) is in c.in-Err.ensures.bad why file named.0 named.1) command
     (subst (λ (v : Verb). verb_of command ≡ v) c.in-OfFile.is same)
 
@@ -50,25 +50,25 @@ returns-in-Cat-clause-command c = subst (Gives (rows_found c.args.found.now) c.c
 
 pub returns-in-Cat-clause-bad : goal.returns-in-Cat-clause-bad
 returns-in-Cat-clause-bad c = subst (Refuses (rows_found c.args.found.now) c.cat_of.result) (sym c.in-Cat.is)
-    (λ words reading. IfErr-weaker c.cat_of.result _ _ (λ refused bad why. of_verb verb.Cat (λ command. Behind words command → ⊥) (bad why)) (c.cat_of.ensures.bad words reading))
+    (λ words reading. IfErr-weaker c.cat_of.result _ _ (λ refused bad why. of_verb verb.Cat (λ command. WordsMean words command → ⊥) (bad why)) (c.cat_of.ensures.bad words reading))
 
 pub returns-in-Recover-clause-command : goal.returns-in-Recover-clause-command
 returns-in-Recover-clause-command c = subst (Gives (rows_found c.args.found.now) c.recover_of.result) (sym c.in-Recover.is) c.recover_of.ensures.command
 
 pub returns-in-Recover-clause-bad : goal.returns-in-Recover-clause-bad
 returns-in-Recover-clause-bad c = subst (Refuses (rows_found c.args.found.now) c.recover_of.result) (sym c.in-Recover.is)
-    (λ words reading. IfErr-weaker c.recover_of.result _ _ (λ refused bad why. of_verb verb.Recover (λ command. Behind words command → ⊥) (bad why)) (c.recover_of.ensures.bad words reading))
+    (λ words reading. IfErr-weaker c.recover_of.result _ _ (λ refused bad why. of_verb verb.Recover (λ command. WordsMean words command → ⊥) (bad why)) (c.recover_of.ensures.bad words reading))
 
 pub returns-in-Merge-clause-command : goal.returns-in-Merge-clause-command
 returns-in-Merge-clause-command c = subst (Gives (rows_found c.args.found.now) c.merge_of.result) (sym c.in-Merge.is) c.merge_of.ensures.command
 
 pub returns-in-Merge-clause-bad : goal.returns-in-Merge-clause-bad
 returns-in-Merge-clause-bad c = subst (Refuses (rows_found c.args.found.now) c.merge_of.result) (sym c.in-Merge.is)
-    (λ words reading. IfErr-weaker c.merge_of.result _ _ (λ refused bad why. of_verb verb.Merge (λ command. Behind words command → ⊥) (bad why)) (c.merge_of.ensures.bad words reading))
+    (λ words reading. IfErr-weaker c.merge_of.result _ _ (λ refused bad why. of_verb verb.Merge (λ command. WordsMean words command → ⊥) (bad why)) (c.merge_of.ensures.bad words reading))
 
 pub returns-in-Generate-clause-command : goal.returns-in-Generate-clause-command
 returns-in-Generate-clause-command c = subst (Gives (rows_found c.args.found.now) c.generate_of.result) (sym c.in-Generate.is) c.generate_of.ensures.command
 
 pub returns-in-Generate-clause-bad : goal.returns-in-Generate-clause-bad
 returns-in-Generate-clause-bad c = subst (Refuses (rows_found c.args.found.now) c.generate_of.result) (sym c.in-Generate.is)
-    (λ words reading. IfErr-weaker c.generate_of.result _ _ (λ refused bad why. of_verb verb.Generate (λ command. Behind words command → ⊥) (bad why)) (c.generate_of.ensures.bad words reading))
+    (λ words reading. IfErr-weaker c.generate_of.result _ _ (λ refused bad why. of_verb verb.Generate (λ command. WordsMean words command → ⊥) (bad why)) (c.generate_of.ensures.bad words reading))

@@ -3,7 +3,7 @@ use Rattle.std.proofs.Common.{◌≡◌, Err, None, Some, refl, subst}
 use Rattle.std.specs.Prelude.{IfErr}
 use Rattle.std.specs.declared.result.Result.{Result}
 use Rattle.std.proofs.lemmas.Result.{IfOk-weaker}
-use Rattle.command_words.specs.Commands.{Behind, name_of, verb_of}
+use Rattle.command_words.specs.Commands.{WordsMean, name_of, verb_of}
 use Rattle.command_words.specs.Matches.{rows_found}
 use Rattle.command_words.specs.declared.command.Command.{Command}
 use Rattle.command_words.specs.declared.command.WordsRefused.{WordsRefused}
@@ -36,7 +36,7 @@ returns-in-Some-named_verb-clause-bad c = λ words read why.
     let same = one_name c.in-Some-named_verb.verb read.verb names in
     let reading = read_behind words c.args.found.now read c.in-Some-named_verb.verb (rows_found c.in-Some.below.now) same (cc) in
     read_bad words c.args.found.now read c.in-Some-named_verb.verb same
-    (refused_by c.command_of.result (λ refused. refused ≡ BadWords → (command : Command) → verb_of command ≡ c.in-Some-named_verb.verb → Behind read.rest command → ⊥) why (c.command_of.ensures.bad read.rest reading) refl)
+    (refused_by c.command_of.result (λ refused. refused ≡ BadWords → (command : Command) → verb_of command ≡ c.in-Some-named_verb.verb → WordsMean read.rest command → ⊥) why (c.command_of.ensures.bad read.rest reading) refl)
 
 pub returns-in-None-clause-bad : goal.returns-in-None-clause-bad
 returns-in-None-clause-bad c = λ words read why command is.

@@ -6,7 +6,7 @@ use Rattle.mcap_scan.proofs.Refused.{refusal_stands}
 use Rattle.record_walk.specs.Walking.{FlatStands, placed_at, ahead_of}
 use Rattle.feed_lane.specs.Pass.{no_calls}
 use Rattle.feed_lane.specs.Lanes.{messages}
-use Rattle.feed_lane.specs.Steps.{AreKnown, Counts, passed_among}
+use Rattle.feed_lane.specs.Steps.{AreKnown, CountsUp, passed_among}
 use Rattle.feed_lane.specs.Feeds.{Reports}
 use Rattle.feed_lane.proofs.Walking.{waits_next, given_passed}
 use Rattle.feed_lane.proofs.Keeping.{keeps_listed, unknown}
@@ -58,7 +58,7 @@ records-preserved g c =
             let w = i.0.3 limit since in
             let one = c.in-Ok-take.ensures.taken _ w.0 w.1 in
             let taken = one.3 (flat tops) (tops_of ahead) (length (messages (tops_of given))) (ready lane w.0 was tops s.more given s.grown w.3) known_now waits in
-            let counts = subst (λ (n : ℕ). Counts n c.take.new.self.passed (passed_among (p.top ∷ []))) w.3.passed_are c.in-Ok-take.ensures.passed.2 in
+            let counts = subst (λ (n : ℕ). CountsUp n c.take.new.self.passed (passed_among (p.top ∷ []))) w.3.passed_are c.in-Ok-take.ensures.passed.2 in
             (one.0, one.1, one.2 ∙ w.2, fed c.take.new.self one.0 tops given p ahead good s.last here.all taken counts),
       ),
       g.S.Source.stays_on _ _ _ i.1 c.in-Record.ensures.stays,

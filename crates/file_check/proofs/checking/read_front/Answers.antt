@@ -4,7 +4,7 @@ use Rattle.mcap_io.specs.Outside.{SourceState}
 use Rattle.mcap_io.specs.StoreSources.{front_left}
 use Rattle.store_front.specs.Fronts.{WasRead}
 use Rattle.store_front.proofs.Lent.{front_read}
-use Rattle.file_check.specs.Reading.{Reads}
+use Rattle.file_check.specs.Reading.{ReadsSection}
 use Rattle.file_check.specs.Checking.{SectionAsks}
 use Rattle.file_check.proofs.Fronted.{front_asks}
 use Rattle.file_check.proofs.checking.read_front.Goals as goal
@@ -13,7 +13,7 @@ pub returns-clause-reads : goal.returns-clause-reads
 returns-clause-reads g c =
     let source = c.read_section.new.source in
     let now : SourceState = record { left = front_left (g.T.Store.state source.store.now).bytes source.next source.len; faults = source.failures } in
-    (now, subst (λ (s : SourceState). Reads s now c.read_section.result) c.new-source.ensures.state c.read_section.ensures.reads)
+    (now, subst (λ (s : SourceState). ReadsSection s now c.read_section.result) c.new-source.ensures.state c.read_section.ensures.reads)
 
 pub returns-clause-asks : goal.returns-clause-asks
 returns-clause-asks g c =
@@ -25,6 +25,6 @@ returns-clause-asks g c =
     let now : SourceState = record { left = front_left new.bytes source.next source.len; faults = source.failures } in
     let len : source.len ≡ c.args.end = stays.1 ∙ made.len in
     let was : WasRead old new source.next c.args.end source.failures = front_read g.T.Store c.args.store.now c.args.end c.new-source.result source made.now made.len made.faults made.asked stays in
-    let reads = subst (λ (s : SourceState). Reads s now c.read_section.result) made.state c.read_section.ensures.reads in
+    let reads = subst (λ (s : SourceState). ReadsSection s now c.read_section.result) made.state c.read_section.ensures.reads in
     let asks : SectionAsks old c.args.end new.asked c.read_section.result = front_asks old new now source.next c.args.end c.read_section.result was (ap (λ n. front_left new.bytes source.next n) len) reads in
     subst (λ (n : ℕ). SectionAsks old c.args.end n c.read_section.result) (search rules) asks

@@ -6,7 +6,7 @@ use Rattle.mcap_scan.proofs.Scanning.{good_stand, lacks_behind}
 use Rattle.record_walk.specs.Walking.{placed_at, ahead_of, FlatStands}
 use Rattle.file_check.specs.declared.reading.SectionRefused.{SectionRefused}
 use Rattle.file_check.specs.Gathering.{RecordGathered}
-use Rattle.file_check.specs.Reading.{Reads}
+use Rattle.file_check.specs.Reading.{ReadsSection}
 use Rattle.file_check.proofs.ReadOut.{read_so_far}
 use Rattle.file_check.proofs.Taken.{is_next, stand_before, gathered_all, some_read}
 use Rattle.file_check.proofs.reading.take_records.Goals as goal
@@ -64,7 +64,7 @@ returns-in-Err-clause-takes g c =
     let flat = c.advance.new.self in
     let s = c.in-Record.ensures.steps before i.0.1.0 i.0.0 i.0.1.1 in
     let stands = s.stands in
-    subst (λ (why : SectionRefused). Reads before now (Err why)) (sym c.lacked.ensures) (s.tops, lacks_behind flat.reader before now s.tops s.going stands.stands)
+    subst (λ (why : SectionRefused). ReadsSection before now (Err why)) (sym c.lacked.ensures) (s.tops, lacks_behind flat.reader before now s.tops s.going stands.stands)
 
 pub returns-in-Err-clause-stays : goal.returns-in-Err-clause-stays
 returns-in-Err-clause-stays g c = g.S.Source.stays_on _ _ _ c.records.invariant.1 c.in-Record.ensures.stays

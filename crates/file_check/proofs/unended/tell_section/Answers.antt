@@ -1,14 +1,14 @@
 use Rattle.std.proofs.Common.{subst, sym, Err}
 use Rattle.file_check.specs.declared.reading.SectionRefused.{SectionRefused}
-use Rattle.file_check.specs.Reading.{Reads}
-use Rattle.file_check.specs.Checking.{front_of, RefusedCause}
+use Rattle.file_check.specs.Reading.{ReadsSection}
+use Rattle.file_check.specs.Checking.{checked_front, RefusedCause}
 use Rattle.file_check.proofs.Refusing.{index_read_cut}
 use Rattle.file_check.proofs.CutTold.{index_is_told}
 use Rattle.file_check.proofs.unended.tell_section.Goals as goal
 
 pub returns-in-Scan-clause-tells : goal.returns-in-Scan-clause-tells
 returns-in-Scan-clause-tells g c = λ old now same reads file told ended.
-    c.tell_scan.ensures.tells old now same (subst (λ (w : SectionRefused). Reads (front_of old c.args.len) now (Err w)) c.in-Scan.is reads) file told ended
+    c.tell_scan.ensures.tells old now same (subst (λ (w : SectionRefused). ReadsSection (checked_front old c.args.len) now (Err w)) c.in-Scan.is reads) file told ended
 
 pub returns-in-Scan-clause-cause : goal.returns-in-Scan-clause-cause
 returns-in-Scan-clause-cause g c =
@@ -16,14 +16,14 @@ returns-in-Scan-clause-cause g c =
 
 pub returns-in-Index-clause-tells : goal.returns-in-Index-clause-tells
 returns-in-Index-clause-tells g c = λ old now same reads file told ended.
-    let wrong = subst (λ (w : SectionRefused). Reads (front_of old c.args.len) now (Err w)) c.in-Index.is reads in
+    let wrong = subst (λ (w : SectionRefused). ReadsSection (checked_front old c.args.len) now (Err w)) c.in-Index.is reads in
     index_read_cut old now (g.T.Store.state c.args.store.now).bytes file c.args.len c.in-Index.offset wrong.0 same told ended wrong.1
 
 pub returns-in-Scan-clause-cut : goal.returns-in-Scan-clause-cut
 returns-in-Scan-clause-cut g c = λ old now same reads file told size.
-    c.tell_scan.ensures.cut old now same (subst (λ (w : SectionRefused). Reads (front_of old c.args.len) now (Err w)) c.in-Scan.is reads) file told size
+    c.tell_scan.ensures.cut old now same (subst (λ (w : SectionRefused). ReadsSection (checked_front old c.args.len) now (Err w)) c.in-Scan.is reads) file told size
 
 pub returns-in-Index-clause-cut : goal.returns-in-Index-clause-cut
 returns-in-Index-clause-cut g c = λ old now same reads file told size.
-    let wrong = subst (λ (w : SectionRefused). Reads (front_of old c.args.len) now (Err w)) c.in-Index.is reads in
+    let wrong = subst (λ (w : SectionRefused). ReadsSection (checked_front old c.args.len) now (Err w)) c.in-Index.is reads in
     index_is_told old now (g.T.Store.state c.args.store.now).bytes file c.args.len c.in-Index.offset wrong.0 same told size wrong.1

@@ -1,7 +1,7 @@
 use Rattle.std.proofs.Common.{◌+◌, take, sym, subst}
 use Rattle.rec_data.specs.Parsed.{channel_fields}
 use Rattle.mcap_model.specs.Fields.{IsChannel}
-use Rattle.file_commands.specs.Writing.{AreIds}
+use Rattle.file_commands.specs.Writing.{ShowIds}
 use Rattle.file_commands.proofs.Shown.{ids_more}
 use Rattle.file_commands.proofs.channels.channel_ids.Goals as goal
 
@@ -9,5 +9,5 @@ pub channels-preserved : goal.channels-preserved
 channels-preserved c =
     let channels = c.args.loaded.now.channels in
     let given = c.channel.ensures in
-    subst (AreIds IsChannel (take (c.channels.i + 1) channels)) (sym c.in-Ok.ensures.items)
+    subst (ShowIds IsChannel (take (c.channels.i + 1) channels)) (sym c.in-Ok.ensures.items)
     (ids_more IsChannel channels c.channels.ids.items c.channels.i given.0 c.channel.result.id (channel_fields c.channel.result) given.1 given.2 c.channels.invariant)

@@ -4,7 +4,7 @@ use Rattle.json.specs.Json.{Json, string}
 use Rattle.json.specs.Tree.{json_tokens}
 use Rattle.file_commands.specs.Counts.{told_count}
 use Rattle.file_commands.specs.Json.{count_value, number_value}
-use Rattle.file_commands.specs.Writing.{Adds}
+use Rattle.file_commands.specs.Writing.{AddsTokens}
 use Rattle.file_commands.proofs.Added.{adds_more, object_ends, member_tokens}
 use Rattle.file_commands.proofs.channels.put_channel.Goals as goal
 
@@ -14,8 +14,8 @@ returns c = λ counts holds.
     let channel = c.args.channel.now in
     let less : channel.id < 65536 = omega arith in
     let count : c.told.result ≡ told_count counts channel.id = c.told.ensures ∙ holds channel.id less in
-    let counted : Adds c.open_object.new.out c.put_count.new.out (key (codes "count") ∷ json_tokens (count_value (told_count counts channel.id))) =
-    subst (λ (n : Option ℕ). Adds c.open_object.new.out c.put_count.new.out (key (codes "count") ∷ json_tokens (count_value n))) count c.in_ok-put_count.ensures in
+    let counted : AddsTokens c.open_object.new.out c.put_count.new.out (key (codes "count") ∷ json_tokens (count_value (told_count counts channel.id))) =
+    subst (λ (n : Option ℕ). AddsTokens c.open_object.new.out c.put_count.new.out (key (codes "count") ∷ json_tokens (count_value n))) count c.in_ok-put_count.ensures in
     let m1 : List ℕ × Json = (codes "count", count_value (told_count counts channel.id)) in
     let m2 : List ℕ × Json = (codes "encoding", string channel.message_encoding.now) in
     let m3 : List ℕ × Json = (codes "id", number_value channel.id) in

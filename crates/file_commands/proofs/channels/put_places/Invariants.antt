@@ -6,9 +6,9 @@ use Rattle.rec_data.specs.Fields.{ChannelFields}
 use Rattle.mcap_model.specs.Fields.{IsChannel}
 use Rattle.file_commands.specs.Counts.{IsCountTable}
 use Rattle.file_commands.specs.Json.{channel_value}
-use Rattle.file_commands.specs.Writing.{Adds, ShownAt}
+use Rattle.file_commands.specs.Writing.{AddsTokens, ShownAt}
 use Rattle.file_commands.proofs.channels.put_places.Given as goal
 
 abbrev pub invariant-places : goal.invariant-places
 invariant-places l = (shown : List (ℕ × ChannelFields)) × AllZip (ShownAt IsChannel l.loaded.channels) (take l.i l.places) shown
-    × ((counts : List (ℕ × ℕ)) → IsCountTable counts l.table → Adds l.fn.out l.out (begin_array ∷ flat_map (λ c. json_tokens (channel_value counts c)) shown))
+    × ((counts : List (ℕ × ℕ)) → IsCountTable counts l.table → AddsTokens l.fn.out l.out (begin_array ∷ flat_map (λ c. json_tokens (channel_value counts c)) shown))

@@ -5,7 +5,7 @@ use Rattle.json.specs.Json.{string}
 use Rattle.json.specs.Token.{begin_array}
 use Rattle.json.specs.Tree.{json_tokens}
 use Rattle.file_commands.specs.Json.{names_value}
-use Rattle.file_commands.specs.Writing.{Adds}
+use Rattle.file_commands.specs.Writing.{AddsTokens}
 use Rattle.file_commands.proofs.Added.{adds_more, array_ends}
 use Rattle.file_commands.proofs.Named.{Key, name_of, next_name, last_name}
 use Rattle.file_commands.proofs.names.put_all.Goals as goal
@@ -25,5 +25,5 @@ returns c =
     let (done, is, adds) = c.names.invariant in
     let none : c.names.name-iterator ≡ [] = rest_all deref c.names.name-iterator c.next.new.self c.next.result c.in-None.is c.next.ensures.steps in
     let all = last_name (map name_of c.args.names.now.keys) done c.names.name-iterator is none in
-    subst (λ (l : List (List ℕ)). Adds c.args.out.now c.close_array.new.out (json_tokens (names_value l))) (sym all)
+    subst (λ (l : List (List ℕ)). AddsTokens c.args.out.now c.close_array.new.out (json_tokens (names_value l))) (sym all)
     (array_ends string c.args.out.now c.names.out c.close_array.new.out done adds c.in_ok-close_array.ensures)

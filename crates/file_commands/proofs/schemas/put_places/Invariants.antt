@@ -5,9 +5,9 @@ use Rattle.json.specs.Tree.{json_tokens}
 use Rattle.rec_data.specs.Fields.{SchemaFields}
 use Rattle.mcap_model.specs.Fields.{IsSchema}
 use Rattle.file_commands.specs.Json.{schema_value}
-use Rattle.file_commands.specs.Writing.{Adds, ShownAt}
+use Rattle.file_commands.specs.Writing.{AddsTokens, ShownAt}
 use Rattle.file_commands.proofs.schemas.put_places.Given as goal
 
 abbrev pub invariant-places : goal.invariant-places
 invariant-places l = (shown : List (ℕ × SchemaFields)) × AllZip (ShownAt IsSchema l.loaded.schemas) (take l.i l.places) shown
-    × Adds l.fn.out l.out (begin_array ∷ flat_map (λ s. json_tokens (schema_value s)) shown)
+    × AddsTokens l.fn.out l.out (begin_array ∷ flat_map (λ s. json_tokens (schema_value s)) shown)

@@ -1,7 +1,7 @@
 use Rattle.std.proofs.Common.{◌+◌, take, sym, subst}
 use Rattle.rec_data.specs.Parsed.{schema_fields}
 use Rattle.mcap_model.specs.Fields.{IsSchema}
-use Rattle.file_commands.specs.Writing.{AreIds}
+use Rattle.file_commands.specs.Writing.{ShowIds}
 use Rattle.file_commands.proofs.Shown.{ids_more}
 use Rattle.file_commands.proofs.schemas.schema_ids.Goals as goal
 
@@ -9,5 +9,5 @@ pub schemas-preserved : goal.schemas-preserved
 schemas-preserved c =
     let schemas = c.args.loaded.now.schemas in
     let given = c.schema.ensures in
-    subst (AreIds IsSchema (take (c.schemas.i + 1) schemas)) (sym c.in-Ok.ensures.items)
+    subst (ShowIds IsSchema (take (c.schemas.i + 1) schemas)) (sym c.in-Ok.ensures.items)
     (ids_more IsSchema schemas c.schemas.ids.items c.schemas.i given.0 c.schema.result.id (schema_fields c.schema.result) given.1 given.2 c.schemas.invariant)

@@ -1,6 +1,6 @@
 -- The line is put together from the left.
 use Rattle.std.proofs.Common.{◌≡◌, List, ℕ, [], ◌++◌, append_assoc, codes}
-use Rattle.file_commands.specs.Check.{counts_line, number_text}
+use Rattle.file_commands.specs.Check.{counts_line, named_number}
 use Rattle.file_commands.proofs.verdict.line_of_counts.Goals as goal
 
 joined : (l0 l1 l2 l3 l4 l5 l6 l7 l8 k a b c d e f n : List ℕ) → l0 ≡ [] → l1 ≡ l0 ++ k → l2 ≡ l1 ++ a → l3 ≡ l2 ++ b → l4 ≡ l3 ++ c → l5 ≡ l4 ++ d → l6 ≡ l5 ++ e → l7 ≡ l6 ++ f → l8 ≡ l7 ++ n
@@ -11,6 +11,6 @@ pub returns : goal.returns
 unfolding counts_line
 returns c =
     let n = c.args.counts in
-    joined _ _ _ _ _ _ _ _ c.push_text-2.new.self c.args.kind.now (number_text (codes " messages=") n.messages) (number_text (codes " channels=") n.channels) (number_text (codes " schemas=") n.schemas)
-    (number_text (codes " chunks=") n.chunks) (number_text (codes " attachments=") n.attachments) (number_text (codes " metadata=") n.metadata) (codes "\n") c.new-line.ensures c.push_text.ensures.text c.push_named.ensures.text c.push_named-2.ensures.text c.push_named-3.ensures.text
+    joined _ _ _ _ _ _ _ _ c.push_text-2.new.self c.args.kind.now (named_number (codes " messages=") n.messages) (named_number (codes " channels=") n.channels) (named_number (codes " schemas=") n.schemas)
+    (named_number (codes " chunks=") n.chunks) (named_number (codes " attachments=") n.attachments) (named_number (codes " metadata=") n.metadata) (codes "\n") c.new-line.ensures c.push_text.ensures.text c.push_named.ensures.text c.push_named-2.ensures.text c.push_named-3.ensures.text
     c.push_named-4.ensures.text c.push_named-5.ensures.text c.push_named-6.ensures.text c.push_text-2.ensures.text

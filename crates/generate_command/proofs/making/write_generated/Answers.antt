@@ -2,7 +2,7 @@ use Rattle.std.proofs.Common.{◌≡◌, vec_len, length, refl, ap, arith}
 use Rattle.std.proofs.lemmas.List.{length-map}
 use Rattle.std.proofs.lemmas.List.FromFn.{length-map-range_with_len}
 use Rattle.generated_feed.specs.contracts.feed.GeneratedFeedSource.TheImpl as it
-use Rattle.generate_command.specs.Making.{source_of, sources_of}
+use Rattle.generate_command.specs.Making.{generated_source, sources_of}
 use Rattle.generate_command.proofs.Stores.{nothing_written}
 use Rattle.generate_command.proofs.making.write_generated.Goals as goal
 
@@ -10,7 +10,7 @@ pub write_feeds-requires-clause-few : goal.write_feeds-requires-clause-few
 write_feeds-requires-clause-few g c κs within =
     let feeds = c.in-Ok.feeds in
     let few = c.requires.few in
-    let many : vec_len feeds ≡ c.args.numbers.feeds = omega (arith, ap length c.in-Ok.ensures, length-map feeds.items it.ghosts.state, length-map-range_with_len (source_of c.args.numbers) 0 c.args.numbers.feeds, feeds.ok) in
+    let many : vec_len feeds ≡ c.args.numbers.feeds = omega (arith, ap length c.in-Ok.ensures, length-map feeds.items it.ghosts.state, length-map-range_with_len (generated_source c.args.numbers) 0 c.args.numbers.feeds, feeds.ok) in
     (omega (arith, many, few.0), omega (arith, many, few.1))
 
 pub returns-in-Err-clause-written : goal.returns-in-Err-clause-written

@@ -5,7 +5,7 @@ use Rattle.rec_index.specs.Records.{ShowsMessageIndex}
 use Rattle.mcap_model.specs.Tops.{Top, inner_tops}
 use Rattle.mcap_model.specs.Whole.{AreEntries, BelongsTo}
 use Rattle.mcap_model.specs.Made.{top}
-use Rattle.index_check.specs.Behind.{IsOpen}
+use Rattle.index_check.specs.Behind.{IsChunkOpen}
 use Rattle.index_check.specs.Messages.{HoldsMessages}
 use Rattle.index_check.proofs.Answering.{if_ok}
 use Rattle.index_check.proofs.Followers.{index_belongs, belongs_index}
@@ -24,7 +24,7 @@ returns c =
     let channel = c.args.index.now.channel_id in
     let entries = c.args.index.now.entries in
     if_ok (λ (right : Bool). (records : List Top) → HoldsMessages records messages → IsTrue right ↔ AreEntries records channel entries)
-    (λ (right : Bool). (before : List Top) (content : List ℕ) → IsOpen before messages channels → ShowsMessageIndex content channel entries → IsTrue right ↔ BelongsTo before (top 7 content))
+    (λ (right : Bool). (before : List Top) (content : List ℕ) → IsChunkOpen before messages channels → ShowsMessageIndex content channel entries → IsTrue right ↔ BelongsTo before (top 7 content))
     c.are_entries.result c.are_entries.ensures
     (λ right is before content o shows.
     let judged = is (inner_tops o.chunk) o.holds in (

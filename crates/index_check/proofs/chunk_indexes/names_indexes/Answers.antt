@@ -1,7 +1,7 @@
 use Rattle.std.proofs.Common.{ap, length, false, refl, sym, subst, inl, inr, ◌∙◌}
 use Rattle.std.proofs.lemmas.Bool.{both_ways}
 use Rattle.std.proofs.lemmas.List.{nil_from_length}
-use Rattle.index_check.specs.Chunks.{AreNoted, AreNamed}
+use Rattle.index_check.specs.Chunks.{AreNoted, NamesAllNotes}
 use Rattle.index_check.proofs.chunk_indexes.names_indexes.Goals as goal
 
 pub returns-then-count-eq0 : goal.returns-then-count-eq0
@@ -31,10 +31,10 @@ returns c = (
   λ e. inr (
     c.if-index-note.false,
     subst (AreNoted c.args.index.now.message_index_offsets) c.deref.ensures.value (c.are_noted.ensures.0 c.if-not-are_noted.false),
-    subst (AreNamed c.args.index.now.message_index_offsets) c.deref-2.ensures.value (c.are_named.ensures.0 e),
+    subst (NamesAllNotes c.args.index.now.message_index_offsets) c.deref-2.ensures.value (c.are_named.ensures.0 e),
   ),
   λ names. elim names [
     | inl none ↦ absurd (c.if-count-eq0.false (c.count.ensures.count ∙ ap length none))
-    | inr told ↦ c.are_named.ensures.1 (subst (AreNamed c.args.index.now.message_index_offsets) (sym c.deref-2.ensures.value) told.2)
+    | inr told ↦ c.are_named.ensures.1 (subst (NamesAllNotes c.args.index.now.message_index_offsets) (sym c.deref-2.ensures.value) told.2)
   ],
 )

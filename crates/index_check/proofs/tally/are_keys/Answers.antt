@@ -1,7 +1,7 @@
 use Rattle.std.proofs.Common.{◌<◌, ℕ, length, false, refl, arith}
 use Rattle.std.proofs.lemmas.Bool.{both_ways}
 use Rattle.mcap_model.proofs.Places.{at_read, at_within}
-use Rattle.index_check.specs.Tally.{HasKey}
+use Rattle.index_check.specs.Tally.{HasChannelCount}
 use Rattle.index_check.proofs.Apart.{front_more}
 use Rattle.index_check.proofs.tally.are_keys.Goals as goal
 
@@ -16,7 +16,7 @@ returns-then-not-maps_entry c = (
 pub counts-preserved : goal.counts-preserved
 counts-preserved c =
     let within : c.counts.i < length c.args.counts.now = omega (arith, c.counts-test.true) in
-    front_more (λ (entry : ℕ × ℕ). HasKey c.args.map.now entry.0) c.args.counts.now c.counts.i _ c.counts.invariant (at_read c.args.counts.now c.counts.i _ within) (c.maps_entry.ensures.0 c.if-not-maps_entry.false)
+    front_more (λ (entry : ℕ × ℕ). HasChannelCount c.args.map.now entry.0) c.args.counts.now c.counts.i _ c.counts.invariant (at_read c.args.counts.now c.counts.i _ within) (c.maps_entry.ensures.0 c.if-not-maps_entry.false)
 
 pub returns : goal.returns
 returns c = (

@@ -1,6 +1,6 @@
 use Rattle.std.proofs.Common.{ℕ, List, ◌+◌, drop, refl, subst, inl, inr, ◌∙◌, arith}
 use Rattle.std.proofs.lemmas.List.{take_all, length-drop}
-use Rattle.indexed_replay.specs.Steps.{Adds}
+use Rattle.indexed_replay.specs.Steps.{AddsEachOnce}
 use Rattle.indexed_replay.specs.Chunks.{spot_of, IsLedAmong, NamesCost}
 use Rattle.indexed_replay.proofs.Standing.{astray_shown, astray_asked}
 use Rattle.mcap_model.proofs.Places.{at_none}
@@ -111,7 +111,7 @@ pub returns-clause-told : goal.returns-clause-told
 returns-clause-told g c = λ file told size knows ends.
     let i = c.names.invariant in
     let whole = take_all c.names.i c.args.index.now.message_index_offsets (omega arith) in
-    subst (λ (l : List (ℕ × ℕ)). Adds (IsLedAmong file c.args.request.now c.args.index.now.chunk_start_offset l) (kept_in c.args.shown.now) (kept_in c.names.shown)) whole (i.shows file told size knows)
+    subst (λ (l : List (ℕ × ℕ)). AddsEachOnce (IsLedAmong file c.args.request.now c.args.index.now.chunk_start_offset l) (kept_in c.args.shown.now) (kept_in c.names.shown)) whole (i.shows file told size knows)
 
 pub returns-clause-asks : goal.returns-clause-asks
 returns-clause-asks g c = λ file cost ends told size stands are.

@@ -3,7 +3,7 @@ use Rattle.std.proofs.lemmas.List.{length-drop, length-take-le}
 use Rattle.rec_data.specs.Parsed.{message_fields}
 use Rattle.rec_data.specs.Records.{ShowsMessage}
 use Rattle.time_player.specs.Keeping.{kept_in, shown_with}
-use Rattle.indexed_replay.specs.Steps.{IsFound, LacksRecord, place_in}
+use Rattle.indexed_replay.specs.Steps.{IsLedByEntry, LacksRecord, place_in}
 use Rattle.indexed_replay.proofs.Adding.{adds_found}
 use Rattle.indexed_replay.proofs.Filling.{over_found}
 use Rattle.indexed_replay.proofs.Messaging.{lacks_record, lacks_same, found, front_shown, on_channel}
@@ -57,7 +57,7 @@ returns-then-size-len-clause-told g c = λ file told size.
     let many : length payload ≡ len - 22 = length-take-le (len - 22) behind (omega (arith, length-drop (c.in-Some-checked_add.at + 31) file, front.whole, front.long, long)) in
     inr (
       refl,
-      over_found (IsFound file c.args.spot.chunk c.args.spot.channel c.args.entry) file s (kept_in c.args.shown.now)
+      over_found (IsLedByEntry file c.args.spot.chunk c.args.spot.channel c.args.entry) file s (kept_in c.args.shown.now)
           (found file c.read_front.new.out payload c.in-Some-checked_add.at c.in-Ok-Whole.head.op len c.args.spot.chunk c.args.spot.channel c.args.entry m s place front long c.if-head-ne-MESSAGE.false
           (subst (λ (n : ℕ). ShowsMessage (drop 9 c.read_front.new.out) n m) c.if-message-spot.false shows) c.if-message-time.false refl (on_channel s c.args.spot.channel c.if-message-spot.false))
           (omega (arith, many, fits.exact, fits.within, size, c.data_len.ensures)),

@@ -1,14 +1,14 @@
 use Rattle.std.proofs.Common.{◌+◌, ◌/◌, true, false, sym, subst, arith}
 use Rattle.mcap_model.specs.Places.{At}
 use Rattle.id_table.specs.Ids as tables
-use Rattle.mcap_merge.specs.Inputs.{tops_of}
+use Rattle.mcap_merge.specs.Inputs.{read_tops}
 use Rattle.mcap_merge.proofs.Sources.{used_sized, mark_read}
 use Rattle.mcap_merge.proofs.SeenContents.{ContentsSeen, contents_none, contents_more, contents_same, contents_all, contents_lack}
 use Rattle.mcap_merge.proofs.checking.check_ids.Goals as goal
 use Rattle.mcap_merge.proofs.checking.check_ids.Goals.{then-index+in-Ok-enter_channel, else-index}
 
 pub channels-init : goal.channels-init
-channels-init c = λ reads hold. contents_none (tops_of reads) c.in-Ok.table c.in-Ok.ensures.0 c.in-Ok.ensures.1
+channels-init c = λ reads hold. contents_none (read_tops reads) c.in-Ok.table c.in-Ok.ensures.0 c.in-Ok.ensures.1
 
 pub index-requires : goal.index-requires
 index-requires c =
@@ -36,11 +36,11 @@ channels-preserved c = λ reads hold.
     elim c.if-index.branch [
       | then-index+in-Ok-enter_channel w ↦
           let marked : At input.used.items source true = mark_read input.used.items source c.index.result.now true size there.short c.index.ensures w.if-index.true in
-          subst (λ (t : tables.Ids). ContentsSeen (tops_of reads) (c.channels.place + 1) t) (sym w.table-is)
+          subst (λ (t : tables.IdContents). ContentsSeen (read_tops reads) (c.channels.place + 1) t) (sym w.table-is)
           (contents_more reads c.args.inputs.now c.channels.place number source input c.channels.table w.enter_channel.new.table hold there.place there.short there.input marked (c.channels.invariant reads hold) w.in-Ok-enter_channel.ensures.entered)
       | else-index w ↦
           let unmarked : At input.used.items source false = mark_read input.used.items source c.index.result.now false size there.short c.index.ensures w.if-index.false in
-          subst (λ (t : tables.Ids). ContentsSeen (tops_of reads) (c.channels.place + 1) t) (sym w.table-is)
+          subst (λ (t : tables.IdContents). ContentsSeen (read_tops reads) (c.channels.place + 1) t) (sym w.table-is)
           (contents_same reads c.args.inputs.now c.channels.place number source input c.channels.table hold there.place there.short there.input unmarked (c.channels.invariant reads hold))
     ]
 

@@ -1,4 +1,4 @@
-use Rattle.mcap_merge.specs.Inputs.{tops_of}
+use Rattle.mcap_merge.specs.Inputs.{read_tops}
 use Rattle.mcap_merge.proofs.MergeThere.{prepared}
 use Rattle.mcap_merge.proofs.gathering.prepare.Goals as goal
 
@@ -12,4 +12,4 @@ pub returns-in-Err-clause-refused : goal.returns-in-Err-clause-refused
 returns-in-Err-clause-refused c = λ reads hold.
     let answer = c.id_refusal.ensures in
     let why = c.in-Err.ensures.refused in
-    answer (tops_of reads) (why reads hold)
+    answer (read_tops reads) (why reads hold)

@@ -5,7 +5,7 @@ use Rattle.mcap_model.specs.Places.{At}
 use Rattle.mcap_model.proofs.Places.{at_within, at_read, at_one}
 use Rattle.mcap_merge.specs.declared.input.Input.{Input}
 use Rattle.mcap_model.specs.Merged.{CommonProfile}
-use Rattle.mcap_merge.specs.Inputs.{tops_of}
+use Rattle.mcap_merge.specs.Inputs.{read_tops}
 use Rattle.mcap_merge.proofs.Profiles.{profiles_differ, profiles_same}
 use Rattle.mcap_merge.proofs.profile.common_profile.Goals as goal
 
@@ -15,7 +15,7 @@ returns-then-not-is c =
     let first = get_or inputs 0 c.index-inputs-0.result in
     let x = get_or inputs c.inputs.i c.index-inputs-i.result in
     let differ : x.profile ≡ first.profile → ⊥ = λ e. both_ways c.is.result c.if-not-is.true (c.is.ensures.1 (e ∙ sym c.as_str.ensures.same)) in
-    IfOk-weaker c.copied.result _ _ (λ p is reads hold. subst (CommonProfile (tops_of reads)) (sym is)
+    IfOk-weaker c.copied.result _ _ (λ p is reads hold. subst (CommonProfile (read_tops reads)) (sym is)
     (profiles_differ reads inputs c.inputs.i x first hold (at_read inputs 0 c.index-inputs-0.result c.requires.some) (at_read inputs c.inputs.i c.index-inputs-i.result (omega arith)) differ)) c.copied.ensures
 
 pub inputs-preserved : goal.inputs-preserved
@@ -34,5 +34,5 @@ pub returns : goal.returns
 returns c =
     let inputs = c.args.inputs.now in
     let first = get_or inputs 0 c.index-inputs-0.result in
-    IfOk-weaker c.copied-2.result _ _ (λ p is reads hold. subst (CommonProfile (tops_of reads)) (sym (is ∙ c.as_str-2.ensures.same))
+    IfOk-weaker c.copied-2.result _ _ (λ p is reads hold. subst (CommonProfile (read_tops reads)) (sym (is ∙ c.as_str-2.ensures.same))
     (profiles_same reads inputs first hold (at_read inputs 0 c.index-inputs-0.result c.requires.some) (λ k x at. c.inputs.invariant k x (omega (arith, at_within inputs k x at, c.inputs-test.false)) at))) c.copied-2.ensures

@@ -1,7 +1,7 @@
 use Rattle.std.proofs.Common.{◌∙◌, ◌+◌, ◌/◌, true, false, List, map, sym, ap, subst, arith}
 use Rattle.mcap_model.specs.Places.{At}
 use Rattle.id_table.specs.Ids as tables
-use Rattle.mcap_merge.specs.Inputs.{Read, tops_of, HoldInputs}
+use Rattle.mcap_merge.specs.Inputs.{Read, read_tops, HoldInputs}
 use Rattle.mcap_merge.specs.Schemas.{bare, AreBare}
 use Rattle.mcap_merge.proofs.Sources.{used_sized, mark_read}
 use Rattle.mcap_merge.proofs.SeenSchemas.{SchemasSeen, seen_none, seen_more, seen_same, seen_all, seen_lacks}
@@ -9,7 +9,7 @@ use Rattle.mcap_merge.proofs.schemas.see_schemas.Goals as goal
 use Rattle.mcap_merge.proofs.schemas.see_schemas.Goals.{then-index+in-Ok-enter_of, else-index}
 
 pub channels-init : goal.channels-init
-channels-init c = (c.in-Ok.ensures.1 ∙ sym (ap (map bare) c.in-Ok.ensures.0), λ reads hold. seen_none (tops_of reads) c.in-Ok.table.schemas c.in-Ok.ensures.0)
+channels-init c = (c.in-Ok.ensures.1 ∙ sym (ap (map bare) c.in-Ok.ensures.0), λ reads hold. seen_none (read_tops reads) c.in-Ok.table.schemas c.in-Ok.ensures.0)
 
 pub index-requires : goal.index-requires
 index-requires c =
@@ -37,13 +37,13 @@ channels-preserved c =
     elim c.if-index.branch [
       | then-index+in-Ok-enter_of w ↦
           let marked : At input.used.items source true = mark_read input.used.items source c.index.result.now true size there.short c.index.ensures w.if-index.true in
-          subst (λ (t : tables.Ids). AreBare t × ((reads : List Read) → HoldInputs reads c.args.inputs.now → SchemasSeen (tops_of reads) (c.channels.place + 1) t.schemas)) (sym w.table-is) (
+          subst (λ (t : tables.IdContents). AreBare t × ((reads : List Read) → HoldInputs reads c.args.inputs.now → SchemasSeen (read_tops reads) (c.channels.place + 1) t.schemas)) (sym w.table-is) (
             w.in-Ok-enter_of.ensures.bare,
             λ reads hold. seen_more reads c.args.inputs.now c.channels.place number source input c.channels.table.schemas w.enter_of.new.table.schemas hold there.place there.short there.input marked (c.channels.invariant.1 reads hold) w.in-Ok-enter_of.ensures.entered,
           )
       | else-index w ↦
           let unmarked : At input.used.items source false = mark_read input.used.items source c.index.result.now false size there.short c.index.ensures w.if-index.false in
-          subst (λ (t : tables.Ids). AreBare t × ((reads : List Read) → HoldInputs reads c.args.inputs.now → SchemasSeen (tops_of reads) (c.channels.place + 1) t.schemas)) (sym w.table-is) (
+          subst (λ (t : tables.IdContents). AreBare t × ((reads : List Read) → HoldInputs reads c.args.inputs.now → SchemasSeen (read_tops reads) (c.channels.place + 1) t.schemas)) (sym w.table-is) (
             c.channels.invariant.0,
             λ reads hold. seen_same reads c.args.inputs.now c.channels.place number source input c.channels.table.schemas hold there.place there.short there.input unmarked (c.channels.invariant.1 reads hold),
           )

@@ -5,7 +5,7 @@ use Rattle.rec_data.specs.Parsed.{message_fields}
 use Rattle.mcap_model.specs.Places.{At}
 use Rattle.mcap_model.specs.Walk.{inner_top}
 use Rattle.mcap_model.proofs.Places.{at_read}
-use Rattle.chunk_walk.specs.Pieces.{Files}
+use Rattle.chunk_walk.specs.Pieces.{InputBytes}
 use Rattle.chunk_walk.specs.Stores.{files_of, StoresFit, unasked}
 use Rattle.chunk_walk.specs.Walks.{WalkStands}
 use Rattle.chunk_walk.proofs.Stayed.{stay_on, fit_on, files_stay, leaves_so, leaves_on}
@@ -31,7 +31,7 @@ advance-requires-clause-stands g c =
     let files = files_of olds in
     let was = c.turns.invariant.0 in
     let is = files_stay olds nows c.turns.invariant.3.stay in
-    (was.texts, was.given, subst (λ (f : Files). WalkStands f c.turns.walk was.texts was.given) (sym is) was.stands)
+    (was.texts, was.given, subst (λ (f : InputBytes). WalkStands f c.turns.walk was.texts was.given) (sym is) was.stands)
 
 pub returns-in-Ok-None-clause-all : goal.returns-in-Ok-None-clause-all
 returns-in-Ok-None-clause-all g c =

@@ -1,5 +1,5 @@
 use Rattle.std.proofs.Common.{sym, subst}
-use Rattle.mcap_model.specs.Plain.{IsNamed}
+use Rattle.mcap_model.specs.Plain.{HasDeclaredTopic}
 use Rattle.mcap_model.proofs.NamedTopics.{unnamed, named}
 use Rattle.mcap_model.proofs.topics.add_topic.Goals as goal
 
@@ -9,7 +9,7 @@ returns-in-Err c = λ are there. absurd (unnamed c.args.tables.now.channels c.ar
 pub returns-in-Ok-push : goal.returns-in-Ok-push
 returns-in-Ok-push c = λ are there. (
   c.in-Ok-copied.topic,
-  subst (IsNamed c.args.tables.now.channels c.args.id) (sym c.in-Ok-copied.ensures)
+  subst (HasDeclaredTopic c.args.tables.now.channels c.args.id) (sym c.in-Ok-copied.ensures)
       (named c.args.tables.now.channels c.args.id c.in-Some.content.now _ _ c.in-Some.ensures are c.in-Ok.ensures.shown),
   c.in-Ok-push.ensures.items,
 )

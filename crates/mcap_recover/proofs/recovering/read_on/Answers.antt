@@ -4,7 +4,7 @@ use Rattle.mcap_model.specs.Made.{top}
 use Rattle.mcap_model.specs.Rules.{V6, V10}
 use Rattle.chunk_writer.specs.Stops.{StopCause}
 use Rattle.record_walk.specs.Walking.{IsFlatDone}
-use Rattle.mcap_recover.specs.Keeping.{TakesRecord}
+use Rattle.mcap_recover.specs.Keeping.{AddsOneRecord}
 use Rattle.mcap_recover.proofs.Reading.{repairing_on, stopped_on_it, ended_over, refused_over, frame_held}
 use Rattle.mcap_recover.proofs.recovering.read_on.Goals as goal
 
@@ -40,7 +40,7 @@ records-preserved g c =
     let (some, each, going, still, stays) = c.records.invariant in
     let (options, before, opened, was) = some in
     let undone : IsFlatDone c.records.reader → ⊥ = λ done. (c.in-Record.ensures.over done).2 in
-    let takes = subst (λ (l : List ℕ). TakesRecord g.L.LiveStore.state c.records.k c.keep_record.new.k (top c.in-Record.op l)) c.content.ensures c.in-Ok.ensures.takes in (
+    let takes = subst (λ (l : List ℕ). AddsOneRecord g.L.LiveStore.state c.records.k c.keep_record.new.k (top c.in-Record.op l)) c.content.ensures c.in-Ok.ensures.takes in (
       (options, before, opened, repairing_on g.L.LiveStore.state options before _ _ opened c.records.reader c.advance.new.self c.records.k c.keep_record.new.k c.in-Record.op c.in-Record.place was undone (c.in-Record.ensures.steps before was.tops was.given was.stands) takes),
       λ o b l first. let later = each o b l first in
           repairing_on g.L.LiveStore.state o b _ _ l c.records.reader c.advance.new.self c.records.k c.keep_record.new.k c.in-Record.op c.in-Record.place later undone (c.in-Record.ensures.steps b later.tops later.given later.stands) takes,
@@ -53,7 +53,7 @@ pub returns-in-Err-clause-reads : goal.returns-in-Err-clause-reads
 returns-in-Err-clause-reads g c =
     let (some, each, going, still, stays) = c.records.invariant in
     let undone : IsFlatDone c.records.reader → ⊥ = λ done. (c.in-Record.ensures.over done).2 in
-    let takes = subst (λ (l : List ℕ). TakesRecord g.L.LiveStore.state c.records.k c.keep_record.new.k (top c.in-Record.op l)) c.content.ensures c.in-Err.ensures.takes in
+    let takes = subst (λ (l : List ℕ). AddsOneRecord g.L.LiveStore.state c.records.k c.keep_record.new.k (top c.in-Record.op l)) c.content.ensures c.in-Err.ensures.takes in
     λ o b l first. let later = each o b l first in
     stopped_on_it g.L.LiveStore.state o b _ _ l c.records.reader c.advance.new.self c.records.k c.keep_record.new.k c.in-Record.op c.in-Record.place c.in-Err.stop later undone (c.in-Record.ensures.steps b later.tops later.given later.stands) takes c.in-Err.ensures.stopped
 

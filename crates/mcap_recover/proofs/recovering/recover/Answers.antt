@@ -1,6 +1,6 @@
 -- The new file was ended, or it is said why not.
 use Rattle.std.proofs.Common.{◌≡◌, Err, List, ℕ, [], ◌++◌, refl, sym, ap, subst, ◌∙◌}
-use Rattle.chunk_writer.specs.Scribes.{Writes}
+use Rattle.chunk_writer.specs.Scribes.{WritesHistory}
 use Rattle.chunk_writer.specs.Stops.{StopCause}
 use Rattle.mcap_recover.specs.Recovering.{recovered_options, Recovers}
 use Rattle.mcap_recover.specs.declared.answers.RecoverRefused.TheVariants as refusals
@@ -43,7 +43,7 @@ read_on-requires-clause-some g c =
       begin_repairing g.L.LiveStore.state c.args.chunk c.in-Ok-profile_of.profile before now (g.L.LiveStore.state c.args.store) c.advance-first.new.self c.keeping_of-k.result
           (c.in-Ok-profile_of.ensures before now (c.advance-first.ensures.steps before [] [] (c.in-Ok.ensures before)))
           (record {
-            writes = subst (λ s. Writes g.L.LiveStore.state (recovered_options c.in-Ok-profile_of.profile c.args.chunk) [] (g.L.LiveStore.state c.args.store) [] s) (sym c.keeping_of-k.ensures.scribe) c.in-Ok-open.ensures.stands;
+            writes = subst (λ s. WritesHistory g.L.LiveStore.state (recovered_options c.in-Ok-profile_of.profile c.args.chunk) [] (g.L.LiveStore.state c.args.store) [] s) (sym c.keeping_of-k.ensures.scribe) c.in-Ok-open.ensures.stands;
             counts = λ going. c.keeping_of-k.ensures.counts;
           }),
     )
@@ -58,7 +58,7 @@ returns-in-Ok-ending_of-clause-recovers g c =
     let first = begin_repairing state c.args.chunk c.in-Ok-profile_of.profile before mid opened c.advance-first.new.self c.keeping_of-k.result
     (c.in-Ok-profile_of.ensures before mid (c.advance-first.ensures.steps before [] [] (c.in-Ok.ensures before)))
     (record {
-      writes = subst (λ s. Writes state options [] opened [] s) (sym c.keeping_of-k.ensures.scribe) c.in-Ok-open.ensures.stands;
+      writes = subst (λ s. WritesHistory state options [] opened [] s) (sym c.keeping_of-k.ensures.scribe) c.in-Ok-open.ensures.stands;
       counts = λ going. c.keeping_of-k.ensures.counts;
     }) in
     let begun = ap (λ s. (state s.store).faults) c.keeping_of-k.ensures.scribe ∙ c.in-Ok-open.ensures.still in
@@ -78,7 +78,7 @@ returns-in-Err-ending_of-clause-recovers g c =
     let first = begin_repairing state c.args.chunk c.in-Ok-profile_of.profile before mid opened c.advance-first.new.self c.keeping_of-k.result
     (c.in-Ok-profile_of.ensures before mid (c.advance-first.ensures.steps before [] [] (c.in-Ok.ensures before)))
     (record {
-      writes = subst (λ s. Writes state options [] opened [] s) (sym c.keeping_of-k.ensures.scribe) c.in-Ok-open.ensures.stands;
+      writes = subst (λ s. WritesHistory state options [] opened [] s) (sym c.keeping_of-k.ensures.scribe) c.in-Ok-open.ensures.stands;
       counts = λ going. c.keeping_of-k.ensures.counts;
     }) in
     let begun = ap (λ s. (state s.store).faults) c.keeping_of-k.ensures.scribe ∙ c.in-Ok-open.ensures.still in
@@ -99,7 +99,7 @@ returns-in-Err-read_on-clause-recovers g c =
     let first = begin_repairing state c.args.chunk c.in-Ok-profile_of.profile before mid opened c.advance-first.new.self c.keeping_of-k.result
     (c.in-Ok-profile_of.ensures before mid (c.advance-first.ensures.steps before [] [] (c.in-Ok.ensures before)))
     (record {
-      writes = subst (λ s. Writes state options [] opened [] s) (sym c.keeping_of-k.ensures.scribe) c.in-Ok-open.ensures.stands;
+      writes = subst (λ s. WritesHistory state options [] opened [] s) (sym c.keeping_of-k.ensures.scribe) c.in-Ok-open.ensures.stands;
       counts = λ going. c.keeping_of-k.ensures.counts;
     }) in
     let begun = ap (λ s. (state s.store).faults) c.keeping_of-k.ensures.scribe ∙ c.in-Ok-open.ensures.still in

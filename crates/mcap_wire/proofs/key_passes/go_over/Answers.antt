@@ -2,7 +2,7 @@ use Rattle.std.proofs.Common.{◌≡◌, ◌+◌, ◌++◌, ◌∷◌, ◌<◌, 
 use Rattle.std.proofs.lemmas.List.{take_more, take_all, get_or-take}
 use Rattle.mcap_wire.specs.Maps.{HasKey}
 use Rattle.mcap_wire.specs.PairBytes.{pairs_in}
-use Rattle.mcap_wire.specs.KeyPasses.{TextThere, Sifts, window_room, kept}
+use Rattle.mcap_wire.specs.KeyPasses.{TextThere, Sifts, window_room, kept_places}
 use Rattle.mcap_wire.proofs.TextMaps.{Pair}
 use Rattle.mcap_wire.proofs.PairWalks.{length-pairs_in, nth, key_here, value_here, walked_on}
 use Rattle.mcap_wire.proofs.KeyPassLemmas.{last_pass, pass_up, kept_size}
@@ -60,7 +60,7 @@ pub key_there-requires : goal.key_there-requires
 key_there-requires c =
     let w = c.loop-i.window in
     let full : w.len ≡ window_room = c.loop-i.invariant.1.full c.if-window.true in
-    let lt : 4095 < length (kept w) = omega (arith, full, kept_size w c.loop-i.invariant.1.fits c.loop-i.invariant.1.places) in
+    let lt : 4095 < length (kept_places w) = omega (arith, full, kept_size w c.loop-i.invariant.1.fits c.loop-i.invariant.1.places) in
     subst (TextThere c.args.bytes.now) (get_or-take w.len w.places 4095 0 (omega (arith, full))) (c.loop-i.invariant.1.texts 4095 0 lt)
 
 pub returns-then-window : goal.returns-then-window

@@ -1,6 +1,6 @@
 use Rattle.std.proofs.Common.{◌∷◌, [], ℕ, refl, sym, subst}
 use Rattle.mcap_model.specs.Made.{top}
-use Rattle.message_sums.specs.Reading.{Adds}
+use Rattle.message_sums.specs.Reading.{AddsToSums}
 use Rattle.message_sums.specs.declared.sums.Sums.{Sums}
 use Rattle.message_sums.proofs.Added.{other_kind, message_added, message_absent}
 use Rattle.message_sums.proofs.adding.add_record.Goals as goal
@@ -11,11 +11,11 @@ returns-then-op-ne-MESSAGE c = λ place. other_kind (record { place = place; top
 pub returns-in-Ok : goal.returns-in-Ok
 returns-in-Ok c = λ place.
     let m = c.in-Ok.message in
-    subst (λ (n : ℕ). Adds (record { place = place; top = top n c.args.content.now } ∷ []) c.args.sums.now c.add.new.self) (sym c.if-op-ne-MESSAGE.false)
-    (subst (λ (s : Sums). Adds (record { place = place; top = top 5 c.args.content.now } ∷ []) c.args.sums.now s) (sym c.add.ensures)
+    subst (λ (n : ℕ). AddsToSums (record { place = place; top = top n c.args.content.now } ∷ []) c.args.sums.now c.add.new.self) (sym c.if-op-ne-MESSAGE.false)
+    (subst (λ (s : Sums). AddsToSums (record { place = place; top = top 5 c.args.content.now } ∷ []) c.args.sums.now s) (sym c.add.ensures)
     (message_added place c.args.content.now c.args.sums.now (record { place = place; log_time = m.log_time; publish_time = m.publish_time; channel = m.channel_id; sequence = m.sequence; payload = m.payload.now }) refl c.in-Ok.ensures.shown))
 
 pub returns-in-Err : goal.returns-in-Err
 returns-in-Err c = λ place.
-    subst (λ (n : ℕ). Adds (record { place = place; top = top n c.args.content.now } ∷ []) c.args.sums.now c.args.sums.now) (sym c.if-op-ne-MESSAGE.false)
+    subst (λ (n : ℕ). AddsToSums (record { place = place; top = top n c.args.content.now } ∷ []) c.args.sums.now c.args.sums.now) (sym c.if-op-ne-MESSAGE.false)
     (message_absent place c.args.content.now c.args.sums.now c.in-Err.ensures.none)

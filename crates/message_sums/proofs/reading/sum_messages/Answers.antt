@@ -1,6 +1,6 @@
 use Rattle.std.proofs.Common.{◌∷◌, [], List, ℕ, subst}
 use Rattle.record_walk.specs.Walking.{placed_at}
-use Rattle.message_sums.specs.Reading.{Adds}
+use Rattle.message_sums.specs.Reading.{AddsToSums}
 use Rattle.message_sums.proofs.Summed.{sums_begin, sums_on, sums_end}
 use Rattle.message_sums.proofs.reading.sum_messages.Goals as goal
 
@@ -16,7 +16,7 @@ records-preserved g c =
     let was = c.records.invariant.0 in
     let step = c.in-Record.ensures.steps before was.tops was.given was.stands in
     let place = c.in-Record.place in
-    let adds = subst (λ (l : List ℕ). Adds (placed_at place c.in-Record.op l ∷ []) c.records.sums c.add_record.new.sums) c.content.ensures (c.add_record.ensures place) in (
+    let adds = subst (λ (l : List ℕ). AddsToSums (placed_at place c.in-Record.op l ∷ []) c.records.sums c.add_record.new.sums) c.content.ensures (c.add_record.ensures place) in (
       sums_on c.records.flat c.advance.new.self before (g.S.Source.state c.records.source) (g.S.Source.state c.advance.new.source) c.records.sums c.add_record.new.sums c.in-Record.op place was step adds,
       g.S.Source.stays_on c.args.source.now c.records.source c.advance.new.source c.records.invariant.1 c.in-Record.ensures.stays,
     )

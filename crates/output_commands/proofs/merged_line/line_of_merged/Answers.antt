@@ -1,6 +1,6 @@
 -- The line is put together from the left.
 use Rattle.std.proofs.Common.{◌≡◌, List, ℕ, [], ◌++◌, append_assoc, codes}
-use Rattle.output_commands.specs.Recover.{number_text}
+use Rattle.output_commands.specs.Recover.{number_after_name}
 use Rattle.output_commands.specs.Merge.{merged_line}
 use Rattle.output_commands.proofs.merged_line.line_of_merged.Goals as goal
 
@@ -11,5 +11,5 @@ pub returns : goal.returns
 unfolding merged_line
 returns c =
     let m = c.args.merged in
-    joined _ _ _ _ c.push_text.new.self (number_text (codes "merged inputs=") c.args.inputs) (number_text (codes " messages=") m.messages) (number_text (codes " records=") m.records) (codes "\n")
+    joined _ _ _ _ c.push_text.new.self (number_after_name (codes "merged inputs=") c.args.inputs) (number_after_name (codes " messages=") m.messages) (number_after_name (codes " records=") m.records) (codes "\n")
     c.new-line.ensures c.push_named.ensures.text c.push_named-2.ensures.text c.push_named-3.ensures.text c.push_text.ensures.text

@@ -4,7 +4,7 @@ use Rattle.mcap_io.specs.Outside.{Rose}
 use Rattle.command_base.specs.declared.faults.Counts.{Counts}
 use Rattle.command_base.specs.Ran.{scene}
 use Rattle.output_commands.specs.SomeOutput.{some_failed, PartsShow}
-use Rattle.output_commands.specs.Merge.{ending_of}
+use Rattle.output_commands.specs.Merge.{ending_of_merging}
 use Rattle.output_commands.proofs.SomeOutput.{parts_at, counts_same}
 use Rattle.output_commands.proofs.Merges.{merged}
 use Rattle.output_commands.proofs.merging.merge_file.Goals as goal
@@ -33,5 +33,5 @@ returns g c =
       names = c.merge_names-outcome.ensures;
       takes = c.print_merging.ensures;
       shows = parts_at c.of-before.result _ c.of-now.result _ inputs outcome.inputs_failed.items outcome.out_failed failed c.of-before.ensures.are c.of-now.ensures.are shows;
-      told = c.answer_inputs.ensures (ending_of inputs merging) c.halted_in-halted.ensures (c.is_at_limit-limited.ensures inputs) (c.has_lacked-lacked.ensures inputs);
+      told = c.answer_inputs.ensures (ending_of_merging inputs merging) c.halted_in-halted.ensures (c.is_at_limit-limited.ensures inputs) (c.has_lacked-lacked.ensures inputs);
     })

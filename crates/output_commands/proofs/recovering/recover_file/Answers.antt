@@ -1,6 +1,6 @@
 -- What the calls did is what is promised of the command.
 use Rattle.command_base.specs.Ran.{scene}
-use Rattle.output_commands.specs.Recover.{ending_of}
+use Rattle.output_commands.specs.Recover.{ending_of_recovery}
 use Rattle.output_commands.proofs.OneOutput.{shows_at}
 use Rattle.output_commands.proofs.Recoveries.{recovered}
 use Rattle.output_commands.proofs.recovering.recover_file.Goals as goal
@@ -16,5 +16,5 @@ returns g c =
       names = c.recover_names-restored.ensures;
       takes = c.print_recovery.ensures input;
       shows = shows_at c.of-before.result _ c.of-now.result _ restored.input_failed restored.out_failed c.failures_of-failed.result c.of-before.ensures.are c.of-now.ensures.are c.failures_of-failed.ensures;
-      told = c.answer_output.ensures (ending_of input restored.recovery) c.halt_complaint-halt.ensures (c.is_at_limit-limited.ensures input) (c.has_lacked-lacked.ensures input);
+      told = c.answer_output.ensures (ending_of_recovery input restored.recovery) c.halt_complaint-halt.ensures (c.is_at_limit-limited.ensures input) (c.has_lacked-lacked.ensures input);
     })

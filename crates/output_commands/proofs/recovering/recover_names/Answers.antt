@@ -3,7 +3,7 @@ use Rattle.std.proofs.Common.{◌≡◌, sym, ap, subst, ◌∙◌, Bool, false}
 use Rattle.mcap_io.specs.Outside.{went_well}
 use Rattle.command_base.specs.Ran.{failed_so}
 use Rattle.output_commands.specs.declared.recovering.Recovery.{Recovery}
-use Rattle.output_commands.specs.Recover.{unopened_so, recovery_of, NamesRecovered}
+use Rattle.output_commands.specs.Recover.{unopened_recovery, recovery_of, NamesRecovered}
 use Rattle.output_commands.proofs.Names.{no_input, alone}
 use Rattle.output_commands.proofs.Recoveries.{none_recovered, alone_recovered, both_recovered}
 use Rattle.output_commands.proofs.recovering.recover_names.Goals as goal
@@ -31,7 +31,7 @@ returns-in-Err-live g c =
     let w3 = g.W.World.state c.keep_source-kept.new.self in
     let source_failed : failed_so (went_well kept) source.faults ≡ c.has_failed.result = sym (c.has_failed.ensures ∙ ap (failed_so (went_well kept)) c.faults-faults.ensures) in
     subst (λ (r : Recovery). NamesRecovered chunk input out w0 w3 (record { recovery = r; input_failed = c.has_failed.result; out_failed = failed })) (sym c.unopened-in-Err-live.ensures)
-    (subst (λ (f : Bool). NamesRecovered chunk input out w0 w3 (record { recovery = unopened_so failed; input_failed = f; out_failed = failed })) source_failed
+    (subst (λ (f : Bool). NamesRecovered chunk input out w0 w3 (record { recovery = unopened_recovery failed; input_failed = f; out_failed = failed })) source_failed
     (alone_recovered chunk input out w0 w3 source kept (failed_so (went_well kept) source.faults) failed (alone input out w0 w1 w2 w3 source c.in-Err-live.why kept failed (record {
       opens = c.in-Ok.ensures.opens;
       stands = c.in-Ok.ensures.counts;

@@ -4,7 +4,7 @@ use Rattle.std.specs.List.{flat_map}
 use Rattle.command_base.specs.Texts.{Trouble, output_limit, complained}
 use Rattle.command_base.specs.Ran.{when, told_of, Complains}
 use Rattle.record_command.specs.Record.{ends_of, reports_in}
-use Rattle.record_command.specs.Answer.{flags_of}
+use Rattle.record_command.specs.Answer.{feed_flags}
 use Rattle.record_command.proofs.Due.{four_more, told_behind}
 use Rattle.feed_lane.specs.declared.report.FeedReport.{FeedReport}
 use Rattle.record_command.proofs.answering.answer.Goals as goal
@@ -15,11 +15,11 @@ returns g c =
     let feeds = c.args.feeds.now in
     let failed = c.args.failed in
     let ends = ends_of feeds (reports_in c.args.report.now) in
-    let told = c.feed_complaints-complaints.ensures.troubles ∙ ap (λ (l : List FeedReport). told_of feeds (ends_of feeds l) (flags_of feeds failed) []) c.feed_reports.ensures in
+    let told = c.feed_complaints-complaints.ensures.troubles ∙ ap (λ (l : List FeedReport). told_of feeds (ends_of feeds l) (feed_flags feeds failed) []) c.feed_reports.ensures in
     let limited = c.due_when-2.ensures ∙ ap (λ (b : Bool). when b (output_limit out)) c.has_limit.ensures in
     let items = c.push-4.ensures.items ∙ ap (λ l. l ++ c.due_when-4.result ∷ []) (c.push-3.ensures.items ∙ ap (λ l. l ++ c.due_when-3.result ∷ []) (c.push-2.ensures.items ∙ ap (λ l. l ++ c.due_when-2.result ∷ []) c.push.ensures.items)) in
-    let all = four_more c.feed_complaints-complaints.result.items c.push-4.new.self.items (told_of feeds ends (flags_of feeds failed) []) _ _ _ _ _ _ _ _ told c.due_when.ensures limited c.due_when-3.ensures c.due_when-4.ensures items in
-    let due = ap (flat_map complained) c.as_slice.ensures.value ∙ all ∙ sym (told_behind feeds ends (flags_of feeds failed) _) in
+    let all = four_more c.feed_complaints-complaints.result.items c.push-4.new.self.items (told_of feeds ends (feed_flags feeds failed) []) _ _ _ _ _ _ _ _ told c.due_when.ensures limited c.due_when-3.ensures c.due_when-4.ensures items in
+    let due = ap (flat_map complained) c.as_slice.ensures.value ∙ all ∙ sym (told_behind feeds ends (feed_flags feeds failed) _) in
     record {
       lacked = c.lacks_memory-lacked.result;
       lacks = c.lacks_memory-lacked.ensures;

@@ -2,7 +2,7 @@
 use Rattle.std.proofs.Common.{◌≡◌, ℕ, ◌+◌, ◌∙◌, ◌∷◌, ◌++◌, [], List, Option, ap, sym, drop, rules}
 use Rattle.std.proofs.lemmas.List.{drop_more}
 use Rattle.command_base.specs.declared.complaint.Complaint.{Complaint}
-use Rattle.record_command.specs.Answer.{flags_of}
+use Rattle.record_command.specs.Answer.{feed_flags}
 use Rattle.record_command.proofs.Due.{feed_due, drop_again, told_from}
 use Rattle.record_command.proofs.answering.feed_complaints.Goals as goal
 
@@ -10,7 +10,7 @@ pub feeds-preserved : goal.feeds-preserved
 feeds-preserved c =
     let feeds = c.args.feeds.now in
     let reports = c.args.reports.now in
-    let flags = flags_of feeds c.args.failed in
+    let flags = feed_flags feeds c.args.failed in
     let i = c.feeds.i in
     let next : drop i feeds ≡ c.as_str-name.result.now ∷ drop (i + 1) feeds =
     drop_more feeds i c.index-feeds-i.result c.feeds-test.true ∙ ap (λ (x : List ℕ). x ∷ drop (i + 1) feeds) (sym (c.as_str-name.ensures.same ∙ c.index-feeds-i.is)) in

@@ -1,7 +1,7 @@
 -- One feed more was kept.
 use Rattle.std.proofs.Common.{◌≡◌, ◌∙◌, ◌++◌, ◌∷◌, ◌<◌, [], rules, map, length, get_or, sym, ap, subst, ℕ, List, ◌+◌, vec_len, length-append, arith}
 use Rattle.std.proofs.lemmas.List.{length-map, map-append}
-use Rattle.record_command.specs.Sources.{OneKept}
+use Rattle.record_command.specs.Sources.{SourceKept}
 use Rattle.record_command.proofs.Sources.{KeptSoFar, kept_none, kept_more}
 use Rattle.record_command.proofs.recording.keep_feeds.Goals as goal
 
@@ -28,8 +28,8 @@ sources-preserved g c =
     let index : c.len.result ≡ length (map state c.pop.new.self.items) = at_end ∙ sym same in
     let name : c.as_str.result.now ≡ get_or c.args.feeds.now (length (map state c.pop.new.self.items)) c.index-feeds-len.result =
     c.as_str.ensures.same ∙ c.index-feeds-len.is ∙ ap (λ (n : ℕ). get_or c.args.feeds.now n c.index-feeds-len.result) index in
-    let kept : OneKept (g.W.World.state c.sources.world) (g.W.World.state c.keep_feed-feed_failed.new.world) (get_or c.args.feeds.now (length (map state c.pop.new.self.items)) c.index-feeds-len.result) (state c.in-Some.source) c.keep_feed-feed_failed.result =
-    subst (λ (f : List ℕ). OneKept (g.W.World.state c.sources.world) (g.W.World.state c.keep_feed-feed_failed.new.world) f (state c.in-Some.source) c.keep_feed-feed_failed.result) name c.keep_feed-feed_failed.ensures in
+    let kept : SourceKept (g.W.World.state c.sources.world) (g.W.World.state c.keep_feed-feed_failed.new.world) (get_or c.args.feeds.now (length (map state c.pop.new.self.items)) c.index-feeds-len.result) (state c.in-Some.source) c.keep_feed-feed_failed.result =
+    subst (λ (f : List ℕ). SourceKept (g.W.World.state c.sources.world) (g.W.World.state c.keep_feed-feed_failed.new.world) f (state c.in-Some.source) c.keep_feed-feed_failed.result) name c.keep_feed-feed_failed.ensures in
     record {
       kept = subst (λ l. KeptSoFar (g.W.World.state c.args.world.now) (g.W.World.state c.keep_feed-feed_failed.new.world) c.args.feeds.now (map state c.args.sources.items) (map state c.pop.new.self.items) l) (sym c.push_reserved.ensures.items)
           (kept_more (g.W.World.state c.args.world.now) (g.W.World.state c.sources.world) (g.W.World.state c.keep_feed-feed_failed.new.world) c.args.feeds.now (map state c.args.sources.items) (map state left) (map state c.pop.new.self.items) (state c.in-Some.source) c.sources.failed.items c.keep_feed-feed_failed.result c.index-feeds-len.result

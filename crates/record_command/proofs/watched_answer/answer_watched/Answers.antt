@@ -3,8 +3,8 @@ use Rattle.std.proofs.Common.{Bool, List, [], ◌∷◌, ◌++◌, subst, sym, a
 use Rattle.std.specs.List.{flat_map}
 use Rattle.command_base.specs.Texts.{Trouble, fault, output_limit, output_fault, no_memory, complained}
 use Rattle.command_base.specs.Ran.{when, told_of, Complains}
-use Rattle.record_command.specs.Record.{ends_of, reports_in, limit_passed}
-use Rattle.record_command.specs.Answer.{flags_of}
+use Rattle.record_command.specs.Record.{ends_of, reports_in, limit_was_passed}
+use Rattle.record_command.specs.Answer.{feed_flags}
 use Rattle.record_command.specs.WatchedAnswer.{flaws_of, watch_flags_of}
 use Rattle.record_command.proofs.Due.{told_behind}
 use Rattle.record_command.proofs.WatchedDue.{all_due}
@@ -20,7 +20,7 @@ returns g c =
     let failed = c.args.failed in
     let report = c.args.outcome.now.report in
     let reports = c.args.outcome.now.watches.items in
-    let flags = flags_of feeds failed.parts in
+    let flags = feed_flags feeds failed.parts in
     let watch_flags = watch_flags_of watches failed in
     let ends = ends_of feeds (reports_in report) in
     let told = c.feed_complaints-complaints.ensures.troubles ∙ ap (λ (l : List FeedReport). told_of feeds (ends_of feeds l) flags []) c.feed_reports.ensures in
@@ -31,7 +31,7 @@ returns g c =
     let all = all_due c.feed_complaints-complaints.result.items c.push-2.new.self.items c.put_watch_complaints.new.complaints.items c.push-4.new.self.items _ _ _ _ (told_of feeds ends flags []) (told_of watches (flaws_of watches reports) watch_flags []) _ _ _ _ told c.due_when.ensures limited c.due_when-3.ensures c.due_when-4.ensures front watched behind in
     let rest = when failed.parts.printing output_fault ++ when c.lacks_memory_beside-lacked.result no_memory in
     let due = ap (flat_map complained) c.as_slice-2.ensures.value ∙ all
-    ∙ ap (λ (l : List Trouble). told_of feeds ends flags [] ++ (when failed.parts.out (fault out) ++ (when (limit_passed report) (output_limit out) ++ l))) (sym (told_behind watches (flaws_of watches reports) watch_flags rest))
+    ∙ ap (λ (l : List Trouble). told_of feeds ends flags [] ++ (when failed.parts.out (fault out) ++ (when (limit_was_passed report) (output_limit out) ++ l))) (sym (told_behind watches (flaws_of watches reports) watch_flags rest))
     ∙ sym (told_behind feeds ends flags _) in
     record {
       lacked = c.lacks_memory_beside-lacked.result;

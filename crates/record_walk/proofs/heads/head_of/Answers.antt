@@ -1,17 +1,17 @@
 use Rattle.std.proofs.Common.{◌≡◌, ℕ, ap, sym, ◌∙◌}
 use Rattle.mcap_wire.proofs.Fields.{number_there}
 use Rattle.record_walk.specs.declared.heads.MessageHead.{MessageHead}
-use Rattle.record_walk.specs.Heads.{channel_in, time_in}
+use Rattle.record_walk.specs.Heads.{channel_id_in, time_in}
 use Rattle.record_walk.proofs.Listed.{headed}
 use Rattle.record_walk.proofs.heads.head_of.Goals as goal
 
 pub returns : goal.returns
 returns c =
     let bytes = c.args.content.now in
-    let channel : c.in-Ok.read.0 ≡ channel_in bytes = sym (number_there 2 bytes 0 c.in-Ok.read.0 c.in-Ok.read.1 c.in-Ok.ensures) in
+    let channel : c.in-Ok.read.0 ≡ channel_id_in bytes = sym (number_there 2 bytes 0 c.in-Ok.read.0 c.in-Ok.read.1 c.in-Ok.ensures) in
     let time : c.in-Ok-take_u64.read.0 ≡ time_in bytes = sym (number_there 8 bytes 6 c.in-Ok-take_u64.read.0 c.in-Ok-take_u64.read.1 c.in-Ok-take_u64.ensures) in (
       headed c.args.op bytes c.if-op-ne-MESSAGE.false c.if-content-lt-HEAD_LENGTH.false,
-      ap (λ (n : ℕ). made n c.in-Ok-take_u64.read.0 c.args.offset) channel ∙ ap (λ (n : ℕ). made (channel_in bytes) n c.args.offset) time,
+      ap (λ (n : ℕ). made n c.in-Ok-take_u64.read.0 c.args.offset) channel ∙ ap (λ (n : ℕ). made (channel_id_in bytes) n c.args.offset) time,
     )
   where
     made : ℕ → ℕ → ℕ → MessageHead

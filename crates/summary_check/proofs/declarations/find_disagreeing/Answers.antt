@@ -6,14 +6,14 @@ use Rattle.mcap_model.specs.Rules.{V7}
 use Rattle.mcap_model.specs.Declarations.{TablesOf}
 use Rattle.mcap_model.specs.Made.{top}
 use Rattle.mcap_model.proofs.OneMore.{taken_more}
-use Rattle.summary_read.specs.Parts.{tops_of}
+use Rattle.summary_read.specs.Parts.{cut_tops}
 use Rattle.summary_check.specs.Declaring.{DeclarationTaken}
 use Rattle.summary_check.proofs.Onward.{tops_within, length-tops, onward}
 use Rattle.summary_check.proofs.declarations.find_disagreeing.Goals as goal
 
 pub returns-in-Ok-false : goal.returns-in-Ok-false
 returns-in-Ok-false c = λ tops are judged.
-    let body = tops_of c.args.bytes.now c.args.cuts.now in
+    let body = cut_tops c.args.bytes.now c.args.cuts.now in
     let i = c.records.i in
     let found = c.record_at-record.result in
     let t = top found.op found.content.now in
@@ -23,7 +23,7 @@ returns-in-Ok-false c = λ tops are judged.
 
 pub records-preserved : goal.records-preserved
 records-preserved c = λ tops are judged.
-    let body = tops_of c.args.bytes.now c.args.cuts.now in
+    let body = cut_tops c.args.bytes.now c.args.cuts.now in
     let i = c.records.i in
     let found = c.record_at-record.result in
     let t = top found.op found.content.now in
@@ -37,7 +37,7 @@ records-preserved c = λ tops are judged.
 
 pub returns : goal.returns
 returns c = λ tops are judged.
-    let body = tops_of c.args.bytes.now c.args.cuts.now in
+    let body = cut_tops c.args.bytes.now c.args.cuts.now in
     let w = c.records.invariant tops are judged in (
       (λ k t at. let within = tops_within c.args.bytes.now c.args.cuts.now k t at in w.1 k t at (omega (arith, within, c.records-test.false))),
       subst (λ (l : List Top). TablesOf (flat (tops ++ l)) c.records.tables) (take_all c.records.i body (omega (arith, length-tops c.args.bytes.now c.args.cuts.now, c.records-test.false))) w.0,

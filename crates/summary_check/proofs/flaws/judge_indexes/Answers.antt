@@ -1,7 +1,7 @@
 use Rattle.std.proofs.Common.{length, sym, subst}
 use Rattle.mcap_model.specs.Plain.{cut_top}
-use Rattle.summary_read.specs.Parts.{tops_of}
-use Rattle.summary_check.specs.Files.{file_of, IsRefused}
+use Rattle.summary_read.specs.Parts.{cut_tops}
+use Rattle.summary_check.specs.Files.{spelled_file, FailsThere}
 use Rattle.summary_check.specs.Filed.{records_of}
 use Rattle.summary_check.proofs.Laying.{body_there}
 use Rattle.summary_check.proofs.Failing.{index_flaw}
@@ -14,5 +14,5 @@ pub returns-in-Some-clause-err : goal.returns-in-Some-clause-err
 returns-in-Some-clause-err c = λ tops foot filed judged was.
     let bytes = c.args.bytes.now in
     let cuts = c.args.cuts.now in
-    let (t, at, breaks) = c.in-Some.ensures (records_of tops bytes cuts foot) (length tops) (body_there tops (tops_of bytes cuts) (cut_top bytes foot)) was in
-    subst (IsRefused (file_of tops bytes)) (sym (c.flawed.ensures.fails tops bytes (cut_top bytes foot) t filed.laid at)) (index_flaw tops bytes cuts foot c.args.start filed c.in-Some.i c.in-Some.rule t judged at breaks)
+    let (t, at, breaks) = c.in-Some.ensures (records_of tops bytes cuts foot) (length tops) (body_there tops (cut_tops bytes cuts) (cut_top bytes foot)) was in
+    subst (FailsThere (spelled_file tops bytes)) (sym (c.flawed.ensures.fails tops bytes (cut_top bytes foot) t filed.laid at)) (index_flaw tops bytes cuts foot c.args.start filed c.in-Some.i c.in-Some.rule t judged at breaks)

@@ -2,7 +2,7 @@ use Rattle.std.proofs.Common.{ℕ, false, refl, arith}
 use Rattle.std.proofs.lemmas.Bool.{both_ways}
 use Rattle.mcap_model.specs.Tops.{Top}
 use Rattle.mcap_model.specs.Made.{top}
-use Rattle.summary_read.specs.Parts.{tops_of}
+use Rattle.summary_read.specs.Parts.{cut_tops}
 use Rattle.summary_check.specs.FullIndex.{EmptyRight}
 use Rattle.summary_check.proofs.Onward.{tops_within, onward}
 use Rattle.summary_check.proofs.indexing.are_right.Goals as goal
@@ -21,7 +21,7 @@ records-preserved c = λ all kept rules.
     let t = top found.op found.content.now in
     let at = c.record_at-record.ensures in
     let rule = rules c.records.i t at in
-    onward (λ (k : ℕ) (u : Top). EmptyRight all u) (tops_of c.args.bytes.now c.args.cuts.now) c.records.i t (c.records.invariant all kept rules) at ((c.is_right.ensures all rule.0 kept rule.1).0 c.if-not-is_right.false)
+    onward (λ (k : ℕ) (u : Top). EmptyRight all u) (cut_tops c.args.bytes.now c.args.cuts.now) c.records.i t (c.records.invariant all kept rules) at ((c.is_right.ensures all rule.0 kept rule.1).0 c.if-not-is_right.false)
 
 pub returns : goal.returns
 returns c = λ all kept rules. (

@@ -1,7 +1,7 @@
 use Rattle.std.proofs.Common.{false, refl}
 use Rattle.std.proofs.lemmas.Bool.{both_ways}
 use Rattle.mcap_model.specs.Plain.{cut_top}
-use Rattle.summary_read.specs.Parts.{tops_of}
+use Rattle.summary_read.specs.Parts.{cut_tops}
 use Rattle.summary_check.specs.Filed.{records_of}
 use Rattle.summary_check.proofs.Verdicts.{rules_of}
 use Rattle.summary_check.proofs.indexing.is_indexed.Goals as goal
@@ -28,7 +28,7 @@ returns-in-Ok c = λ tops foot is.
     let cuts = c.args.cuts.now in
     let told = is.told in
     let rules = rules_of tops bytes cuts foot c.args.section.now is in
-    let iff = c.are_repeated.ensures tops (tops_of bytes cuts) (cut_top bytes foot) is.ended is.judged is.foot_is is.tally c.in-Ok.ensures in (
+    let iff = c.are_repeated.ensures tops (cut_tops bytes cuts) (cut_top bytes foot) is.ended is.judged is.foot_is is.tally c.in-Ok.ensures in (
       (λ e. record {
         no_message = c.if-section.false;
         statistics = (c.has_statistics.ensures bytes).0 c.if-not-has_statistics.false;

@@ -2,7 +2,7 @@ use Rattle.std.proofs.Common.{List, [], length, subst}
 use Rattle.mcap_model.specs.Tops.{Top}
 use Rattle.index_check.specs.Tally.{TallyOf}
 use Rattle.mcap_model.specs.Plain.{cut_top}
-use Rattle.summary_read.specs.Parts.{tops_of}
+use Rattle.summary_read.specs.Parts.{cut_tops}
 use Rattle.summary_check.specs.Filed.{records_of}
 use Rattle.summary_check.proofs.Filing.{body_inside, filed_of, section_is, sectioned_ended, sectioned_kinds}
 use Rattle.summary_check.proofs.Laying.{body_there}
@@ -112,7 +112,7 @@ returns-clause-ok c = λ tops is.
     let told = told_whole tops rest cuts foot s is filed judged in
     let tally = c.count_ids.ensures tops kept.section (records_of tops rest cuts foot) kept.tally (section_whole tops rest cuts foot s is filed) (tables_whole tops rest cuts foot s is filed c.judge_declarations.new.tables declared.1) in
     let all = records_of tops rest cuts foot in
-    let indexes = c.in-Ok-judge_indexes.ensures.ok all (length tops) (body_there tops (tops_of rest cuts) (cut_top rest foot)) told in
+    let indexes = c.in-Ok-judge_indexes.ensures.ok all (length tops) (body_there tops (cut_tops rest cuts) (cut_top rest foot)) told in
     record {
       valid = judged_valid tops rest cuts foot s is filed judged declared.0 (c.in-Ok-judge_order.ensures.ok rest) indexes.0
           (c.in-Ok-judge_statistics.ensures.ok all kept.section (length tops) tally)

@@ -1,7 +1,7 @@
 use Rattle.std.proofs.Common.{List, [], ◌∷◌, ◌++◌, sym, subst, ◌∙◌}
 use Rattle.mcap_wire.specs.declared.faults.Cut.{Cut}
 use Rattle.summary_read.specs.Parts.{AreInside}
-use Rattle.summary_check.specs.Cutting.{AreCut}
+use Rattle.summary_check.specs.Cutting.{AreCutBehind}
 use Rattle.summary_check.specs.Judging.{KnownOf}
 use Rattle.summary_check.proofs.Filing.{body_inside, sectioned_ended, sectioned_short}
 use Rattle.summary_check.proofs.Verdicts.{judged_of}
@@ -26,5 +26,5 @@ returns-in-Ok-is_indexed-clause-ok c = λ tops is.
     let summary = c.in-Ok.ensures.ok in
     let known = c.judge_cuts.new.section in
     let of = subst (λ (l : List Cut). KnownOf tops rest l s.foot known) (c.deref.ensures.value ∙ sym c.deref-2.ensures.value) (c.in-Ok-judge_cuts.ensures.ok tops is) in
-    let are = subst (λ (l : List Cut). AreCut rest (l ++ s.foot ∷ [])) (sym c.deref-2.ensures.value) summary.are in
+    let are = subst (λ (l : List Cut). AreCutBehind rest (l ++ s.foot ∷ [])) (sym c.deref-2.ensures.value) summary.are in
     judged_of tops rest c.deref-2.result.now s.foot known of c.in-Ok-is_indexed.indexed are (c.in-Ok-is_indexed.ensures tops s.foot of)

@@ -2,10 +2,10 @@ use Rattle.std.proofs.Common.{◌<◌, ℕ, List}
 use Rattle.std.specs.Prelude.{take}
 use Rattle.mcap_model.specs.Places.{At}
 use Rattle.mcap_model.specs.Tops.{Top}
-use Rattle.summary_read.specs.Parts.{tops_of}
+use Rattle.summary_read.specs.Parts.{cut_tops}
 use Rattle.index_check.specs.Order.{OrderOf}
-use Rattle.summary_check.specs.Body.{known, InOrder}
+use Rattle.summary_check.specs.Body.{known, KnownInPlace}
 use Rattle.summary_check.proofs.ordering.find_misplaced.Given as goal
 
 abbrev pub invariant-records : goal.invariant-records
-invariant-records l = (bytes : List ℕ) → OrderOf (known (take l.i (tops_of bytes l.cuts))) l.order × ((k : ℕ) (t : Top) → At (tops_of bytes l.cuts) k t → k < l.i → InOrder (tops_of bytes l.cuts) k t)
+invariant-records l = (bytes : List ℕ) → OrderOf (known (take l.i (cut_tops bytes l.cuts))) l.order × ((k : ℕ) (t : Top) → At (cut_tops bytes l.cuts) k t → k < l.i → KnownInPlace (cut_tops bytes l.cuts) k t)

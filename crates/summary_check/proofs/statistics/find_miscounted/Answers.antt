@@ -3,7 +3,7 @@ use Rattle.std.proofs.lemmas.Bool.{both_ways}
 use Rattle.mcap_model.specs.Tops.{Top}
 use Rattle.mcap_model.specs.Made.{top}
 use Rattle.mcap_model.specs.Whole.{V14}
-use Rattle.summary_read.specs.Parts.{tops_of}
+use Rattle.summary_read.specs.Parts.{cut_tops}
 use Rattle.summary_check.proofs.Onward.{tops_within, onward}
 use Rattle.summary_check.proofs.statistics.find_miscounted.Goals as goal
 
@@ -18,7 +18,7 @@ returns-then-not-counts_right c = λ all section base was.
 pub records-preserved : goal.records-preserved
 records-preserved c = λ all section base was.
     let found = c.record_at-record.result in
-    onward (λ (k : ℕ) (t : Top). V14 all (base + k) t) (tops_of c.args.bytes.now c.args.cuts.now) c.records.i (top found.op found.content.now) (c.records.invariant all section base was) c.record_at-record.ensures
+    onward (λ (k : ℕ) (t : Top). V14 all (base + k) t) (cut_tops c.args.bytes.now c.args.cuts.now) c.records.i (top found.op found.content.now) (c.records.invariant all section base was) c.record_at-record.ensures
     ((c.counts_right.ensures all section (base + c.records.i) was).0 c.if-not-counts_right.false)
 
 pub returns : goal.returns

@@ -2,14 +2,14 @@ use Rattle.std.proofs.Common.{◌≡◌, ◌+◌, ℕ, suc, subst, arith}
 use Rattle.mcap_model.specs.Tops.{Top}
 use Rattle.mcap_model.specs.Made.{top}
 use Rattle.mcap_model.specs.Whole.{V12, V13}
-use Rattle.summary_read.specs.Parts.{tops_of}
+use Rattle.summary_read.specs.Parts.{cut_tops}
 use Rattle.summary_check.specs.Told.{ToldOf}
 use Rattle.summary_check.proofs.Onward.{tops_within, tops_end, onward}
 use Rattle.summary_check.proofs.told.take_indexes.Goals as goal
 
 pub records-preserved : goal.records-preserved
 records-preserved c = λ all base stand was.
-    let body = tops_of c.args.bytes.now c.args.cuts.now in
+    let body = cut_tops c.args.bytes.now c.args.cuts.now in
     let i = c.records.i in
     let found = c.record_at-record.result in
     let t = top found.op found.content.now in

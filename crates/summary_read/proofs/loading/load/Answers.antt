@@ -1,5 +1,5 @@
 use Rattle.std.proofs.Common.{Global, sym, subst, ◌∙◌, arith}
-use Rattle.summary_read.specs.Parts.{IsListed}
+use Rattle.summary_read.specs.Parts.{ListsParts}
 use Rattle.summary_read.specs.Steps.{AreCut}
 use Rattle.summary_read.proofs.Composing.{part_is, refused_inside, loaded, asked_for}
 use Rattle.summary_read.proofs.loading.load.Goals as goal
@@ -52,7 +52,7 @@ returns-in-Ok-list_records-clause-loads g c = λ file told.
     let summary = c.in-Ok-take_part.summary.items in
     let cuts = c.in-Ok-cut_records.cuts.items in
     let cut = subst (λ l. AreCut l cuts) c.deref.ensures.value c.in-Ok-cut_records.ensures.cut in
-    let listed = subst (λ l. IsListed header c.in-Ok-find_footer.footer summary l c.in-Ok-list_records.loaded) c.deref-2.ensures.value c.in-Ok-list_records.ensures in
+    let listed = subst (λ l. ListsParts header c.in-Ok-find_footer.footer summary l c.in-Ok-list_records.loaded) c.deref-2.ensures.value c.in-Ok-list_records.ensures in
     (loaded file header summary c.in-Ok-find_footer.footer cuts c.in-Ok-list_records.loaded names has c.in-Ok-read_header.ensures.is part cut listed, names.some)
 
 pub returns-in-Ok-list_records-clause-asks : goal.returns-in-Ok-list_records-clause-asks

@@ -5,7 +5,7 @@ use Rattle.mcap_model.specs.Scan.{HasTopic}
 use Rattle.mcap_model.specs.Plain.{asked_topic}
 use Rattle.mcap_model.proofs.ShownMessages.{ok_then}
 use Rattle.time_player.specs.Keeping.{kept_in, shown_at}
-use Rattle.time_player.specs.Asking.{Keeps}
+use Rattle.time_player.specs.Asking.{KeepsAsked}
 use Rattle.time_player.proofs.Chosen.{read_once, untimely, off_topic, asked_for, message_dropped, message_kept}
 use Rattle.time_player.proofs.keeping.keep_message.Goals as goal
 
@@ -31,7 +31,7 @@ returns c =
     let m = c.in-Ok.message in
     let s = shown_at c.args.place m in
     ok_then c.add.result c.add.ensures (λ added.
-    subst (Keeps c.args.range (asked_topic c.args.topic) c.args.tables.now (record { place = c.args.place; top = top 5 c.args.content.now } ∷ []) (kept_in c.args.kept.now)) (sym added)
+    subst (KeepsAsked c.args.range (asked_topic c.args.topic) c.args.tables.now (record { place = c.args.place; top = top 5 c.args.content.now } ∷ []) (kept_in c.args.kept.now)) (sym added)
     (message_kept c.args.range (asked_topic c.args.topic) c.args.tables.now c.args.place c.args.content.now (kept_in c.args.kept.now) s
     (λ records seen knows is.
     let same = read_once records c.args.content.now s seen c.in-Ok.ensures.shown is in

@@ -4,7 +4,7 @@ use Rattle.mcap_model.specs.Plain.{asked_topic}
 use Rattle.mcap_model.proofs.ShownMessages.{ok_then}
 use Rattle.record_walk.specs.Walking.{flat_content, flat_tables, placed_at}
 use Rattle.time_player.specs.Keeping.{kept_in}
-use Rattle.time_player.specs.Asking.{Keeps}
+use Rattle.time_player.specs.Asking.{KeepsAsked}
 use Rattle.time_player.proofs.Chosen.{other_kind}
 use Rattle.time_player.proofs.keeping.keep_record.Goals as goal
 
@@ -20,6 +20,6 @@ returns c =
     let old = kept_in c.args.kept.now in
     let new = kept_in c.keep_message.new.kept in
     ok_then c.keep_message.result c.keep_message.ensures (λ keeps.
-    subst (λ (n : ℕ). Keeps c.args.range asked (flat_tables flat) (placed_at c.args.place n (flat_content flat) ∷ []) old new) (sym c.if-op-ne-MESSAGE.false)
-    (subst (λ (l : List ℕ). Keeps c.args.range asked (flat_tables flat) (placed_at c.args.place 5 l ∷ []) old new) c.content.ensures
-    (subst (λ (t : Tables). Keeps c.args.range asked t (placed_at c.args.place 5 c.content.result.now ∷ []) old new) c.tables.ensures keeps)))
+    subst (λ (n : ℕ). KeepsAsked c.args.range asked (flat_tables flat) (placed_at c.args.place n (flat_content flat) ∷ []) old new) (sym c.if-op-ne-MESSAGE.false)
+    (subst (λ (l : List ℕ). KeepsAsked c.args.range asked (flat_tables flat) (placed_at c.args.place 5 l ∷ []) old new) c.content.ensures
+    (subst (λ (t : Tables). KeepsAsked c.args.range asked t (placed_at c.args.place 5 c.content.result.now ∷ []) old new) c.tables.ensures keeps)))

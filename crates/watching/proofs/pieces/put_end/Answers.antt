@@ -1,6 +1,6 @@
 use Rattle.std.proofs.Common.{List, ℕ, ◌++◌, ap}
 use Rattle.watching.specs.Text.{sealed_by, IsEndTextOf}
-use Rattle.watching.specs.Putting.{sides}
+use Rattle.watching.specs.Putting.{sink_and_view}
 use Rattle.watching.proofs.Replays.{all_replayed}
 use Rattle.watching.proofs.Steps.{piece_written, piece_refused}
 use Rattle.watching.proofs.pieces.put_end.Goals as goal
@@ -10,7 +10,7 @@ returns-in-Ok-put_both g c =
     let all = c.in-Ok.all in
     let line = c.line_of_end-line.result in
     piece_written (IsEndTextOf g.X.Extent.tells c.args.range c.args.entries.now (sealed_by c.args.end))
-    (sides (g.K.Sink.state c.args.sink.now) (g.V.LiveView.failures c.args.view.now)) (sides (g.K.Sink.state c.put_both.new.sink) (g.V.LiveView.failures c.replay.new.view)) (line ++ all.text)
+    (sink_and_view (g.K.Sink.state c.args.sink.now) (g.V.LiveView.failures c.args.view.now)) (sink_and_view (g.K.Sink.state c.put_both.new.sink) (g.V.LiveView.failures c.replay.new.view)) (line ++ all.text)
     (all.count, all.text, all_replayed g.X.Extent.tells c.args.range c.args.entries.now all.count all.text c.in-Ok.ensures.replays, ap (λ (l : List ℕ). l ++ all.text) c.line_of_end-line.ensures) c.in-Ok.ensures.cause c.in-Ok-put_both.ensures
 
 pub returns-in-Err-put_both : goal.returns-in-Err-put_both
@@ -18,5 +18,5 @@ returns-in-Err-put_both g c =
     let all = c.in-Ok.all in
     let line = c.line_of_end-line.result in
     piece_refused g.X.Extent.tells c.args.entries.now (IsEndTextOf g.X.Extent.tells c.args.range c.args.entries.now (sealed_by c.args.end))
-    (sides (g.K.Sink.state c.args.sink.now) (g.V.LiveView.failures c.args.view.now)) (sides (g.K.Sink.state c.put_both.new.sink) (g.V.LiveView.failures c.replay.new.view)) (line ++ all.text) c.in-Err-put_both.why
+    (sink_and_view (g.K.Sink.state c.args.sink.now) (g.V.LiveView.failures c.args.view.now)) (sink_and_view (g.K.Sink.state c.put_both.new.sink) (g.V.LiveView.failures c.replay.new.view)) (line ++ all.text) c.in-Err-put_both.why
     (all.count, all.text, all_replayed g.X.Extent.tells c.args.range c.args.entries.now all.count all.text c.in-Ok.ensures.replays, ap (λ (l : List ℕ). l ++ all.text) c.line_of_end-line.ensures) c.in-Ok.ensures.cause c.in-Err-put_both.ensures

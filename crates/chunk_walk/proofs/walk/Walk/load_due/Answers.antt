@@ -1,6 +1,6 @@
 use Rattle.std.proofs.Common.{List, map, subst, arith}
 use Rattle.chunk_walk.specs.declared.cursors.Cursor.{Cursor}
-use Rattle.chunk_walk.specs.Cursors.{FindsFirst, TellsBefore}
+use Rattle.chunk_walk.specs.Cursors.{FindsFirstCursor, TellsBefore}
 use Rattle.chunk_walk.proofs.Dues.{due_begins, due_goes_on, due_stands, due_within, due_found, due_refused, refused_leaves, due_before_next, next_before_due}
 use Rattle.chunk_walk.proofs.Places.{read_there}
 use Rattle.chunk_walk.proofs.Walked.{due_end}
@@ -18,7 +18,7 @@ returns-then-self-len-clause-finds g c =
     let now = c.pieces.self in
     let was = c.pieces.invariant in
     let found = c.first_due-due.result in
-    let first = subst (λ (l : List Cursor). FindsFirst l found) c.deref.ensures.value c.first_due-due.ensures in
+    let first = subst (λ (l : List Cursor). FindsFirstCursor l found) c.deref.ensures.value c.first_due-due.ensures in
     due_found olds nows start now was found (due_end now found first (omega (arith, c.if-self-len.true, c.len.ensures, now.pieces.ok.0)))
 
 pub returns-then-comes_before-clause-finds : goal.returns-then-comes_before-clause-finds
@@ -29,7 +29,7 @@ returns-then-comes_before-clause-finds g c =
     let now = c.pieces.self in
     let was = c.pieces.invariant in
     let found = c.first_due-due.result in
-    let first = subst (λ (l : List Cursor). FindsFirst l found) c.deref.ensures.value c.first_due-due.ensures in
+    let first = subst (λ (l : List Cursor). FindsFirstCursor l found) c.deref.ensures.value c.first_due-due.ensures in
     let within = due_within olds nows start now was c.requires.stands in
     let next = c.index.result.now in
     let at = read_there now.pieces.items now.next next c.index.ensures (omega (arith, within, c.if-self-len.false, c.len.ensures, now.pieces.ok.0)) in
@@ -53,7 +53,7 @@ pieces-preserved g c =
     let now = c.pieces.self in
     let was = c.pieces.invariant in
     let found = c.first_due-due.result in
-    let first = subst (λ (l : List Cursor). FindsFirst l found) c.deref.ensures.value c.first_due-due.ensures in
+    let first = subst (λ (l : List Cursor). FindsFirstCursor l found) c.deref.ensures.value c.first_due-due.ensures in
     let within = due_within olds nows start now was c.requires.stands in
     let next = c.index.result.now in
     let at = read_there now.pieces.items now.next next c.index.ensures (omega (arith, within, c.if-self-len.false, c.len.ensures, now.pieces.ok.0)) in

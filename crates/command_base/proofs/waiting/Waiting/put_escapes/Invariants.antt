@@ -1,8 +1,8 @@
 -- So far the bytes below the index were put, as they stand in a JSON string.
 use Rattle.std.proofs.Common.{take}
 use Rattle.json.specs.Print.{escape}
-use Rattle.command_base.specs.Putting.{Puts}
+use Rattle.command_base.specs.Putting.{PutsText}
 use Rattle.command_base.proofs.waiting.Waiting.put_escapes.Given as goal
 
 abbrev pub invariant-text : goal.invariant-text
-invariant-text g l = Puts (g.E.Sink.state l.fn.err) l.fn.self (g.E.Sink.state l.err) l.self (escape (take l.byte-index l.text))
+invariant-text g l = PutsText (g.E.Sink.state l.fn.err) l.fn.self (g.E.Sink.state l.err) l.self (escape (take l.byte-index l.text))

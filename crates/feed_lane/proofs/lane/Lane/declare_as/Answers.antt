@@ -4,7 +4,7 @@ use Rattle.feed_lane.specs.declared.report.DeclaredAt.{DeclaredAt}
 use Rattle.feed_lane.specs.declared.report.Cause.{Cause}
 use Rattle.feed_lane.specs.Lanes.{messages, IsTried}
 use Rattle.feed_lane.specs.Kept.{LaneIds}
-use Rattle.feed_lane.specs.Steps.{lists_of, HasId, ListsStand, IsRefusal, declare_cause}
+use Rattle.feed_lane.specs.Steps.{lists_of, DeclaredWithId, ListsStand, RefusalLeaves, declare_cause}
 use Rattle.feed_lane.proofs.Growing.{may_declare, undeclared_yet}
 use Rattle.feed_lane.proofs.Declaring.{IsNew, declared_stands, new_has_id}
 use Rattle.feed_lane.proofs.Calls.{some_id, declare_refused, declare_tried, declared_limit}
@@ -35,7 +35,7 @@ returns-in-Ok-clause-found g c = λ begun before since.
             many = call.6;
           } in
           let now = declared_stands records handled l.ids (lists_of l) c.args.source before call.0 content d stands call.3 call.4 is in (
-            subst (λ (declared : List DeclaredAt). HasId records declared c.args.source given.channel) (sym c.add.ensures) (new_has_id records handled l.ids (lists_of l) c.args.source call.0 content d is),
+            subst (λ (declared : List DeclaredAt). DeclaredWithId records declared c.args.source given.channel) (sym c.add.ensures) (new_has_id records handled l.ids (lists_of l) c.args.source call.0 content d is),
             subst (λ (declared : List DeclaredAt). ListsStand records handled (handled + 1) c.set.new.self (record { accepted = l.accepted.items; declared = declared; refused = l.refused.items }) after) (sym c.add.ensures)
                 (subst (λ (ids : LaneIds). ListsStand records handled (handled + 1) ids (record { accepted = l.accepted.items; declared = l.declared.items ++ d ∷ []; refused = l.refused.items }) after) (sym c.set.ensures)
                 (subst (ListsStand records handled (handled + 1) _ (record { accepted = l.accepted.items; declared = l.declared.items ++ d ∷ []; refused = l.refused.items })) (sym call.9) now)),
@@ -54,7 +54,7 @@ returns-in-Err-clause-found g c = λ begun before since.
       λ records handled stands describes on none. record {
         before = before;
         stands = may_declare records handled c.args.self.now.ids (lists_of c.args.self.now) before stands;
-        refusal = subst (IsRefusal records handled before after) (sym cause)
+        refusal = subst (RefusalLeaves records handled before after) (sym cause)
             (declare_refused records handled before after content c.in-Err.refusal (record { source = c.args.source; on = on; describes = describes }) shown.2);
         some = at_within (messages records) handled on.top on.at;
         tried = subst (λ (k : Cause). IsTried records c.args.self.now.declared.items (record { index = handled; cause = k })) (sym cause)

@@ -5,7 +5,7 @@ use Rattle.record_core.specs.declared.answers.NewMessage.{NewMessage}
 use Rattle.feed_lane.specs.declared.report.Accepted.{Accepted}
 use Rattle.feed_lane.specs.Pass.{Finds}
 use Rattle.feed_lane.specs.Lanes.{messages}
-use Rattle.feed_lane.specs.Steps.{lists_of, ListsStand, IsRefusal, publish_cause, fields_of}
+use Rattle.feed_lane.specs.Steps.{lists_of, ListsStand, RefusalLeaves, publish_cause, fields_of}
 use Rattle.feed_lane.proofs.Accepting.{accepted_at, accepted_stands}
 use Rattle.feed_lane.proofs.Calls.{named_there, publish_refused, publish_lacks, published_limit}
 use Rattle.feed_lane.proofs.lane.Lane.publish.Goals as goal
@@ -45,7 +45,7 @@ returns-in-Err-clause-taken g c = λ begun before since.
           c.refuse.ensures.taken records handled after (record {
             before = before;
             stands = stands;
-            refusal = subst (IsRefusal records handled before after) (sym cause) (publish_refused records handled source t before after m c.in-Err.refusal at is known shown.2);
+            refusal = subst (RefusalLeaves records handled before after) (sym cause) (publish_refused records handled source t before after m c.in-Err.refusal at is known shown.2);
             some = at_within (messages records) handled t at;
             tried = record {
               large = λ len e. inr (record {

@@ -1,6 +1,6 @@
 use Rattle.std.proofs.Common.{ℕ, ◌∷◌, [], ap, subst}
 use Rattle.mcap_model.specs.Made.{top}
-use Rattle.feed_lane.specs.Steps.{Waits, passed_among}
+use Rattle.feed_lane.specs.Steps.{MessagesWait, passed_among}
 use Rattle.feed_lane.proofs.Walking.{waits_at}
 use Rattle.feed_lane.proofs.Feeding.{message_record, counted_none}
 use Rattle.feed_lane.proofs.lane.Lane.take.Goals as goal
@@ -12,7 +12,7 @@ returns-in-5-clause-taken g c = λ begun before since.
       taken.1,
       taken.2,
       λ records more handled stands known waits.
-          let here : Waits records handled (top 5 c.args.content.now ∷ more) = subst (λ (n : ℕ). Waits records handled (top n c.args.content.now ∷ more)) c.in-5.is waits in
+          let here : MessagesWait records handled (top 5 c.args.content.now ∷ more) = subst (λ (n : ℕ). MessagesWait records handled (top n c.args.content.now ∷ more)) c.in-5.is waits in
           message_record c.take_message.new.self records handled c.args.content.now more taken.0 c.take_message.result here
           (taken.3 records handled stands known (waits_at records handled c.args.content.now more here)),
     )

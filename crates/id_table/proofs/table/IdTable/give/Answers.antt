@@ -3,7 +3,7 @@ use Rattle.std.proofs.Common.{sym, ap, subst, ◌∙◌}
 use Rattle.mcap_wire.specs.Limits.{id_limit}
 use Rattle.rec_data.specs.declared.schema.SchemaDef.{SchemaDef}
 use Rattle.id_table.specs.declared.keys.ChannelKey.{ChannelKey}
-use Rattle.id_table.specs.Ids.{Ids, ids}
+use Rattle.id_table.specs.Ids.{IdContents, ids}
 use Rattle.id_table.specs.Given.{OffersTo, IsFullTo, Declares}
 use Rattle.id_table.specs.Keys.{stocked, content_at, AllStand}
 use Rattle.id_table.proofs.Keyed.{stand_still, contents_still, same_ids, may_enter, few_with, few_schemas, stand_with, channels_with, schemas_with}
@@ -36,7 +36,7 @@ returns-in-Err-keep_channel-clause-err c =
 
 pub enter_channel-requires : goal.enter_channel-requires
 enter_channel-requires c =
-    let offered = subst (λ (i : Ids). OffersTo i.schemas c.args.d.now.schema c.args.schema) (sym c.self.view_is) c.requires.offered in
+    let offered = subst (λ (i : IdContents). OffersTo i.schemas c.args.d.now.schema c.args.schema) (sym c.self.view_is) c.requires.offered in
     let schemas = c.in-Ok.ensures in
     let kept = c.in-Ok-keep_channel.ensures in
     let given = c.enter_schema.ensures ∙ ap (λ (l : List SchemaDef). l ++ option_to_list c.in-Ok.kept) schemas.same ∙ ap (λ (o : Option SchemaDef). c.self.inside.schemas.keys ++ option_to_list o) schemas.kept in
@@ -44,8 +44,8 @@ enter_channel-requires c =
 
 pub invariant_of-self-2 : goal.invariant_of-self-2
 invariant_of-self-2 c =
-    let offered = subst (λ (i : Ids). OffersTo i.schemas c.args.d.now.schema c.args.schema) (sym c.self.view_is) c.requires.offered in
-    let room = subst (λ (i : Ids). IsFullTo i.schemas c.args.d.now.schema → ⊥) (sym c.self.view_is) c.requires.room in
+    let offered = subst (λ (i : IdContents). OffersTo i.schemas c.args.d.now.schema c.args.schema) (sym c.self.view_is) c.requires.offered in
+    let room = subst (λ (i : IdContents). IsFullTo i.schemas c.args.d.now.schema → ⊥) (sym c.self.view_is) c.requires.room in
     let schemas = c.in-Ok.ensures in
     let kept = c.in-Ok-keep_channel.ensures in
     let given = c.enter_schema.ensures ∙ ap (λ (l : List SchemaDef). l ++ option_to_list c.in-Ok.kept) schemas.same ∙ ap (λ (o : Option SchemaDef). c.self.inside.schemas.keys ++ option_to_list o) schemas.kept in
@@ -58,13 +58,13 @@ invariant_of-self-2 c =
 
 pub returns-clause-ok : goal.returns-clause-ok
 returns-clause-ok c =
-    let offered = subst (λ (i : Ids). OffersTo i.schemas c.args.d.now.schema c.args.schema) (sym c.self.view_is) c.requires.offered in
+    let offered = subst (λ (i : IdContents). OffersTo i.schemas c.args.d.now.schema c.args.schema) (sym c.self.view_is) c.requires.offered in
     let schemas = c.in-Ok.ensures in
     let kept = c.in-Ok-keep_channel.ensures in
     let given = c.enter_schema.ensures ∙ ap (λ (l : List SchemaDef). l ++ option_to_list c.in-Ok.kept) schemas.same ∙ ap (λ (o : Option SchemaDef). c.self.inside.schemas.keys ++ option_to_list o) schemas.kept in
     let keys = c.enter_channel.ensures ∙ ap (λ (l : List ChannelKey). l ++ option_to_list c.in-Ok-keep_channel.kept) kept.same in
     let stock = stocked c.enter_schema.new.set.keys c.keep_channel.new.parts.texts.keys c.keep_channel.new.parts.maps.keys in
-    subst (λ (before : Ids). Declares before c.args.d.now (record { schema = c.args.schema; channel = c.in-Some.given }) (ids c.enter_schema.new.set.keys (map (content_at stock) c.enter_channel.new.set.keys))) c.self.view_is (record {
+    subst (λ (before : IdContents). Declares before c.args.d.now (record { schema = c.args.schema; channel = c.in-Some.given }) (ids c.enter_schema.new.set.keys (map (content_at stock) c.enter_channel.new.set.keys))) c.self.view_is (record {
       schema = offered;
       channel = c.in-Some.ensures.0;
       schemas = given ∙ schemas_with _ _ _ offered;

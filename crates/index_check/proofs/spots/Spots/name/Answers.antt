@@ -3,7 +3,7 @@ use Rattle.std.specs.Prelude.{Some}
 use Rattle.mcap_model.specs.Places.{At}
 use Rattle.mcap_model.proofs.Places.{at_within, at_one}
 use Rattle.index_check.specs.declared.spots.Spot.{Spot}
-use Rattle.index_check.specs.Spots.{FindsSpot, IsOnly, spot}
+use Rattle.index_check.specs.Spots.{FindsSpot, IsOnlySpot, spot}
 use Rattle.index_check.proofs.Spotted.{spot_read, made_spot, ascends_set}
 use Rattle.index_check.proofs.spots.Spots.name.Goals as goal
 
@@ -20,7 +20,7 @@ returns-then-index c =
       (
         place,
         subst (λ (l : List Spot). At l place (spot c.args.offset true)) c.self.view_is (subst (At items place) is at),
-        subst (λ (l : List Spot). IsOnly l c.args.offset place) c.self.view_is found.3,
+        subst (λ (l : List Spot). IsOnlySpot l c.args.offset place) c.self.view_is found.3,
       ),
       refl,
     )
@@ -50,6 +50,6 @@ returns c =
     let same = at_one items place x found.0 at found.1 in
     let is = made_spot x c.args.offset false (ap (λ (s : Spot). s.offset) same ∙ found.2) c.if-index.false in (
       subst (λ (l : List Spot). At l place (spot c.args.offset false)) c.self.view_is (subst (At items place) is at),
-      subst (λ (l : List Spot). IsOnly l c.args.offset place) c.self.view_is found.3,
+      subst (λ (l : List Spot). IsOnlySpot l c.args.offset place) c.self.view_is found.3,
       ap (λ (l : List Spot). set l place (spot c.args.offset true)) c.self.view_is,
     )

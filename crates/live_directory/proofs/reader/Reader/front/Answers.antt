@@ -1,5 +1,5 @@
 use Rattle.std.proofs.Common.{ap, sym, subst}
-use Rattle.live_directory.specs.Published.{AtLeast, front_of}
+use Rattle.live_directory.specs.Published.{AtLeast, published_front}
 use Rattle.live_directory.proofs.Reading.{learns}
 use Rattle.live_directory.proofs.reader.Reader.front.Goals as goal
 
@@ -10,4 +10,4 @@ returns-clause-learns g c =
 pub returns-clause-rises : goal.returns-clause-rises
 returns-clause-rises g c =
     let all = returns-clause-learns g c in
-    subst (AtLeast (front_of c.args.self.now.known)) (sym c.front-2.ensures.front) all.rises
+    subst (AtLeast (published_front c.args.self.now.known)) (sym c.front-2.ensures.front) all.rises

@@ -1,5 +1,5 @@
 use Rattle.std.proofs.Common.{◌≡◌, Some, Ok, ◌∙◌, ap, sym, subst}
-use Rattle.live_directory.specs.Published.{AtLeast, front_of, IsHistory}
+use Rattle.live_directory.specs.Published.{AtLeast, published_front, IsHistory}
 use Rattle.live_directory.specs.Reading.{ReaderState, Tries}
 use Rattle.live_directory.proofs.Histories.{front_grows}
 use Rattle.live_directory.proofs.reader.Reader.refresh.Goals as goal
@@ -13,11 +13,11 @@ returns-in-Some-Ok g c =
     let tried : Tries old new (Some (Ok c.in-Some-Ok.field-0-0)) = subst (λ (z : ReaderState g.row.X.Denot). Tries z new (Some (Ok c.in-Some-Ok.field-0-0))) loop here in
     let known = ap (λ r. r.known) c.self.view_is in
     let history : IsHistory g.X.Extent.tells new.known = subst (IsHistory g.X.Extent.tells) known c.front.ensures.history in
-    let front = c.front.ensures.front ∙ ap front_of known in record {
+    let front = c.front.ensures.front ∙ ap published_front known in record {
       entered = tried.0;
-      front_is = front ∙ ap front_of tried.1;
+      front_is = front ∙ ap published_front tried.1;
       known = tried.1;
       entries = tried.2;
       grows = tried.3;
-      rises = subst (AtLeast (front_of old.known)) (sym front) (front_grows g.X.Extent.tells old.known new.known tried.3 history);
+      rises = subst (AtLeast (published_front old.known)) (sym front) (front_grows g.X.Extent.tells old.known new.known tried.3 history);
     }

@@ -1,5 +1,5 @@
 use Rattle.std.proofs.Common.{◌<◌, subst, sym, rules, arith}
-use Rattle.record_core.specs.Desk.{DeskView, held}
+use Rattle.record_core.specs.Desk.{DeskView, bytes_held}
 use Rattle.record_core.proofs.desk.Desk.give.Goals as goal
 
 pub returns-in-Err-TooManySchemas : goal.returns-in-Err-TooManySchemas
@@ -28,5 +28,5 @@ offer_declared-requires-clause-small c = search rules
 
 pub unreachable-requires : goal.unreachable-requires
 unreachable-requires c =
-    let room = subst (λ (d : DeskView). held d < d.limit) (sym c.self.view_is) c.requires.is_open.room in
+    let room = subst (λ (d : DeskView). bytes_held d < d.limit) (sym c.self.view_is) c.requires.is_open.room in
     omega (arith, c.in-Err.ensures.0, room)

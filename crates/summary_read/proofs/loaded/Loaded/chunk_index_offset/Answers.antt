@@ -5,10 +5,10 @@ use Rattle.mcap_model.specs.Places.{At}
 use Rattle.mcap_model.proofs.Flat.{at_mapped}
 use Rattle.mcap_model.proofs.Places.{at_read}
 use Rattle.mcap_model.specs.Plain.{cut_top}
-use Rattle.summary_read.specs.Parts.{IsHeld, tops_of}
+use Rattle.summary_read.specs.Parts.{IsSummaryCut, cut_tops}
 use Rattle.summary_read.proofs.loaded.Loaded.chunk_index_offset.Goals as goal
 
-held_within : (summary : List ℕ) (cuts : List Cut) (i : ℕ) → i < length (tops_of summary cuts) → i < length cuts
+held_within : (summary : List ℕ) (cuts : List Cut) (i : ℕ) → i < length (cut_tops summary cuts) → i < length cuts
 held_within summary cuts i within = omega (arith, within, length-map cuts (cut_top summary))
 
 at_index : (cuts : List Cut) (i : ℕ) (c : Cut) → i < length cuts → c ≡ get_or cuts i c → At cuts i c
@@ -17,13 +17,13 @@ at_index cuts i c within is = subst (λ (d : Cut). At cuts i d) (sym is) (at_rea
 pub overflow_sub-result : goal.overflow_sub-result
 overflow_sub-result c =
     let within : c.args.i < length c.self.inside.chunk_indexes.items = held_within c.self.inside.summary.items c.self.inside.chunk_indexes.items c.args.i (subst (λ p. c.args.i < length p.chunk_indexes) (sym c.self.view_is) c.requires) in
-    let held : IsHeld c.self.inside.summary.items 8 c.index.result.now = c.self.invariant.4 c.args.i c.index.result.now (at_index c.self.inside.chunk_indexes.items c.args.i c.index.result.now within c.index.ensures) in
+    let held : IsSummaryCut c.self.inside.summary.items 8 c.index.result.now = c.self.invariant.4 c.args.i c.index.result.now (at_index c.self.inside.chunk_indexes.items c.args.i c.index.result.now within c.index.ensures) in
     held.head
 
 pub overflow_add-result : goal.overflow_add-result
 overflow_add-result c =
     let within : c.args.i < length c.self.inside.chunk_indexes.items = held_within c.self.inside.summary.items c.self.inside.chunk_indexes.items c.args.i (subst (λ p. c.args.i < length p.chunk_indexes) (sym c.self.view_is) c.requires) in
-    let held : IsHeld c.self.inside.summary.items 8 c.index.result.now = c.self.invariant.4 c.args.i c.index.result.now (at_index c.self.inside.chunk_indexes.items c.args.i c.index.result.now within c.index.ensures) in
+    let held : IsSummaryCut c.self.inside.summary.items 8 c.index.result.now = c.self.invariant.4 c.args.i c.index.result.now (at_index c.self.inside.chunk_indexes.items c.args.i c.index.result.now within c.index.ensures) in
     omega (arith, held.begins, held.ends, c.self.invariant.8)
 
 pub returns : goal.returns

@@ -3,7 +3,7 @@ use Rattle.live_entry.specs.declared.entry.Entry.{Entry}
 use Rattle.live_entry.specs.Following.{EntriesFollow}
 use Rattle.chunk_writer.specs.declared.scribe.Scribe.{Scribe}
 use Rattle.chunk_writer.specs.Limits.{Holds}
-use Rattle.chunk_writer.specs.Scribes.{blocks_of, bytes_of}
+use Rattle.chunk_writer.specs.Scribes.{blocks_of, planned_bytes}
 use Rattle.chunk_writer.specs.Tapes.{EndsFor, seen_store, TakesOn, MeetsLimit}
 use Rattle.chunk_writer.proofs.Taped.{takes, meets, ends_for}
 use Rattle.watched_recording.proofs.Follows.{taken_follow, known_since, unsealed_since, all_since}
@@ -45,7 +45,7 @@ returns-clause-grows g c =
         took = subst (λ (s : Scribe _). TakesOn (seen_store g.L.LiveStore.state (λ e. g.L.Extent.Extent.tells e) (λ e. g.L.Extent.Extent.size e)) c.args.self.now.scribe s c.args.full.records took.result.entries.items) (sym done.scribe.0) calls;
         published = done.gives;
         counted = subst (λ (s : Scribe _). blocks_of s ≡ blocks_of c.args.self.now.scribe + length took.result.entries.items) (sym done.scribe.0) took.ensures.counted;
-        within = λ holds. subst (λ (s : Scribe _). Holds (blocks_of s) (bytes_of s)) (sym done.scribe.0) took.ensures.within;
+        within = λ holds. subst (λ (s : Scribe _). Holds (blocks_of s) (planned_bytes s)) (sym done.scribe.0) took.ensures.within;
         none = c.new.ensures.items;
       },
     )

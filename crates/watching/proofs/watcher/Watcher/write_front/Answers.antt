@@ -1,7 +1,7 @@
 use Rattle.std.proofs.Common.{ap, sym, subst, ◌∙◌, refl, length, ◌++◌, ◌∷◌, [], List, ℕ, Err}
 use Rattle.watching.specs.Text.{IsFrontLineOf}
 use Rattle.watching.specs.Watching.{WatcherState}
-use Rattle.watching.specs.Putting.{sides, PutsAll, Puts}
+use Rattle.watching.specs.Putting.{sink_and_view, PutsAll, PutsPiece}
 use Rattle.watching.proofs.Steps.{front_written, front_refused}
 use Rattle.watching.proofs.watcher.Watcher.write_front.Goals as goal
 
@@ -10,7 +10,7 @@ returns-in-Ok-clause-since g c = λ first w.
     let held = c.entries.ensures.entries ∙ ap (λ (s : WatcherState g.row.X.Denot). s.reader.entries) c.self.view_is in
     front_written g.X.Extent.tells first c.args.self.now _ c.entries.result.now c.args.blocks w c.requires.goes_on (ap (λ (s : WatcherState g.row.X.Denot). s.reader) c.self.view_is) (ap (λ (s : WatcherState g.row.X.Denot). s.range) c.self.view_is) held c.requires.due
     (c.requires.blocks ∙ ap length (sym held))
-    (subst (λ (s : WatcherState g.row.X.Denot). PutsAll (IsFrontLineOf g.X.Extent.tells s.range c.entries.result.now (length c.entries.result.now)) (sides s.written.sink s.written.failures) (sides (g.K.Sink.state c.put_front-put.new.sink) (g.V.LiveView.failures c.put_front-put.new.view))) c.self.view_is c.in-Ok.ensures)
+    (subst (λ (s : WatcherState g.row.X.Denot). PutsAll (IsFrontLineOf g.X.Extent.tells s.range c.entries.result.now (length c.entries.result.now)) (sink_and_view s.written.sink s.written.failures) (sink_and_view (g.K.Sink.state c.put_front-put.new.sink) (g.V.LiveView.failures c.put_front-put.new.view))) c.self.view_is c.in-Ok.ensures)
     (c.push_reserved.ensures.items ∙ ap (λ (l : List ℕ). l ++ c.args.blocks ∷ []) (c.reserve.ensures.items ∙ ap (λ (s : WatcherState g.row.X.Denot). s.written.fronts) c.self.view_is))
     (ap (λ (s : WatcherState g.row.X.Denot). s.written.end) c.self.view_is ∙ c.requires.goes_on)
 
@@ -19,5 +19,5 @@ returns-in-Err-clause-since g c = λ first w.
     let held = c.entries.ensures.entries ∙ ap (λ (s : WatcherState g.row.X.Denot). s.reader.entries) c.self.view_is in
     front_refused g.X.Extent.tells first c.args.self.now _ c.entries.result.now c.args.blocks c.in-Err.why w c.requires.goes_on (ap (λ (s : WatcherState g.row.X.Denot). s.reader) c.self.view_is) (ap (λ (s : WatcherState g.row.X.Denot). s.range) c.self.view_is) held c.requires.due
     (c.requires.blocks ∙ ap length (sym held))
-    (subst (λ (s : WatcherState g.row.X.Denot). Puts g.X.Extent.tells c.entries.result.now (IsFrontLineOf g.X.Extent.tells s.range c.entries.result.now (length c.entries.result.now)) (sides s.written.sink s.written.failures) (sides (g.K.Sink.state c.put_front-put.new.sink) (g.V.LiveView.failures c.put_front-put.new.view)) (Err c.in-Err.why)) c.self.view_is c.in-Err.ensures)
+    (subst (λ (s : WatcherState g.row.X.Denot). PutsPiece g.X.Extent.tells c.entries.result.now (IsFrontLineOf g.X.Extent.tells s.range c.entries.result.now (length c.entries.result.now)) (sink_and_view s.written.sink s.written.failures) (sink_and_view (g.K.Sink.state c.put_front-put.new.sink) (g.V.LiveView.failures c.put_front-put.new.view)) (Err c.in-Err.why)) c.self.view_is c.in-Err.ensures)
     (c.reserve.ensures.items ∙ ap (λ (s : WatcherState g.row.X.Denot). s.written.fronts) c.self.view_is) refl
