@@ -23,8 +23,8 @@ class Module:
     def read(self, text):
         here = None
         for line in text.split("\n"):
-            if line.startswith("use "):
-                self.take_import(line[4:].strip())
+            if line.startswith(("use ", "pub use ")):
+                self.take_import(line.split("use ", 1)[1].strip())
                 here = None
             elif line.startswith(("--", "module ")) or not line.strip():
                 here = None if not line.startswith(" ") else here
@@ -93,7 +93,9 @@ def lookup(all_modules, path, name):
     if path in all_modules:
         module = all_modules[path]
         name = module.home.get(name, name)
-        return (path, name) if name in module.bodies else None
+        if name in module.bodies:
+            return (path, name)
+        return lookup(all_modules, *module.names[name]) if name in module.names else None
     m = re.match(r"Rattle\.(\w+)\.specs\.declared\.(.*)$", path)
     if m and os.path.isdir(f"{TOP}/crates/{m.group(1)}"):
         return (f"{m.group(1)} declared", re.sub(r"\.TheVariants$", "", m.group(2)).split(".")[-1])
