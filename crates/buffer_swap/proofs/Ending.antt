@@ -10,7 +10,8 @@ use Rattle.mcap_model.specs.History.{Numbered}
 use Rattle.record_cache.specs.Buffers.{Buffer}
 use Rattle.record_core.specs.Desk.{DeskView, accepted, swapped, ended, end_unless, first_of, desk_end, found_of, EndIsLast, EndIsSetAt, SwapAnswered}
 use Rattle.record_core.specs.declared.answers.Empty.{Empty}
-use Rattle.feed_lane.specs.Pass.{PassState, with_found}
+use Rattle.feed_lane.specs.Pass.{PassState}
+use Rattle.feed_lane.specs.PassCalls.{with_found}
 use Rattle.buffer_swap.specs.Posts.{Post, drain_post}
 use Rattle.buffer_swap.specs.Plays.{Sat, Stood, Took, taking, stop_in, frees}
 use Rattle.buffer_swap.specs.Calls.{hands_if, SwappedInTurn, closes_if, ClosedInTurn, stops_if, StoppedInTurn, FoundSo, SwapsTo, stopped_at, closed_at, StopsBy, ClosesBy}

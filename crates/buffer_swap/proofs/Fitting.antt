@@ -11,8 +11,9 @@ use Rattle.record_core.specs.Ids.{schemas_in, channels_in}
 use Rattle.record_core.specs.Desk.{DeskView, accepted, with_more_records, swapped, ended, first_of, desk_end, found_of}
 use Rattle.record_core.specs.declared.answers.Found.{Found}
 use Rattle.record_core.proofs.Searches.{channels_more}
-use Rattle.feed_lane.specs.Pass.{PassState, no_calls, IsLater}
-use Rattle.buffer_swap.specs.Shown.{Spares}
+use Rattle.feed_lane.specs.Pass.{PassState}
+use Rattle.feed_lane.specs.PassCalls.{no_calls, IsLater}
+use Rattle.buffer_swap.specs.ShownSteps.{Spares}
 use Rattle.buffer_swap.specs.Posts.{Post}
 use Rattle.buffer_swap.specs.Turns.{FoundFits, PassFits, IsFront, NoteFits, ViewFits}
 use Rattle.buffer_swap.specs.declared.view.View.{View}

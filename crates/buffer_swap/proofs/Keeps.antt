@@ -27,9 +27,11 @@ use Rattle.record_core.specs.Machine.{State, start, accept, end_with}
 use Rattle.record_core.specs.Stands.{DeskStandsFor}
 use Rattle.record_core.specs.declared.answers.DeclareRefused.{DeclareRefused}
 use Rattle.record_core.proofs.Searches.{schemas_counted, channels_counted}
-use Rattle.feed_lane.specs.Pass.{PassState, with_places, with_found, full_at}
+use Rattle.feed_lane.specs.Pass.{PassState, with_places, full_at}
+use Rattle.feed_lane.specs.PassCalls.{with_found}
 use Rattle.buffer_swap.specs.Weights.{total, one_if, below}
-use Rattle.buffer_swap.specs.Shown.{ChannelStands, IdsLack, HeldThere, FoundThere, ShownTo}
+use Rattle.buffer_swap.specs.Shown.{ChannelStands, IdsLack, HeldThere, FoundThere}
+use Rattle.buffer_swap.specs.ShownSteps.{ShownTo}
 use Rattle.buffer_swap.specs.Posts.{Gathered, Post, no_post, first_post, drain_post, publisher_post, note_post}
 use Rattle.buffer_swap.specs.Turns.{view, newcomer, nobody, has_turn, is_drain, numbers_in, seat_numbers, weigh, FoundFits, PassFits, IsFront, NoteFits, ViewFits, World, Wired, KeepsTurnRule}
 use Rattle.buffer_swap.specs.Plays.{Sat, HasDesk, IsIdle, StepTold, TriesTurn, IsEvent, missing, took, fresh_records, MayCount, counts, records_counted, hands_over, handed_over, shuts, closes, closed, stop_in, stops, stopped, frees as frees_view, freed, frees_counting, freed_counting, same_pass, with_full_hand, with_name, with_lacking, NamedAt, LacksIdAt, starts, drainer, hires, hired, gathered, gathers, drain_noted, reads, settled, met}

@@ -11,7 +11,8 @@ use Rattle.record_core.specs.declared.answers.DeclareRefused.TheVariants as decl
 use Rattle.record_core.specs.declared.answers.NewMessage.{NewMessage}
 use Rattle.record_core.specs.declared.answers.PublishRefused.{PublishRefused}
 use Rattle.record_core.specs.declared.answers.PublishRefused.TheVariants as publishing
-use Rattle.feed_lane.specs.Pass.{PassState, PublishedBy, DeclaredInto}
+use Rattle.feed_lane.specs.Pass.{PassState}
+use Rattle.feed_lane.specs.PassCalls.{PublishedBy, DeclaredInto}
 use Rattle.buffer_swap.specs.Calls.{reasoned, PublishesMessage, DeclaresChannel, NamesSchema, MayName, last_of, LooksOn}
 
 abbrev named_there : {a b : PassState} → a ≡ b → a.named ≡ b.named

@@ -8,14 +8,16 @@ use Rattle.mcap_model.specs.declared.ends.End.TheVariants as ends
 use Rattle.mcap_model.proofs.Places.{at_within}
 use Rattle.record_core.specs.Ids.{channel_place, channel_id, new_records}
 use Rattle.record_core.specs.Tables.{HasFewIds, HasSchemaOf, MayShare}
-use Rattle.record_core.specs.Desk.{DeskView, accepted, with_more_records, first_of, found_of, fields_of_message, Published, declared_size, DeclaredBy}
+use Rattle.record_core.specs.Desk.{DeskView, accepted, with_more_records, first_of, found_of, fields_of_message, Published, DeclaredBy}
+use Rattle.record_core.specs.DeclarationFields.{declared_size}
 use Rattle.record_core.specs.declared.answers.Declared.{Declared}
 use Rattle.record_core.specs.declared.answers.NewMessage.{NewMessage}
 use Rattle.record_core.specs.declared.answers.PublishRefused.{PublishRefused}
 use Rattle.record_core.specs.declared.answers.PublishRefused.TheVariants as publishing
 use Rattle.record_core.specs.declared.answers.DeclareRefused.{DeclareRefused}
 use Rattle.record_core.specs.declared.answers.DeclareRefused.TheVariants as declaring
-use Rattle.feed_lane.specs.Pass.{PassState, Reason, for_size, for_close, for_stop, for_channel, for_count, for_room, for_id, Finds, full_at, with_found, with_places, message_record, MayTakeMessage, HasPlace, IsUnnamed, AreAdded, GetsId, with_declared}
+use Rattle.feed_lane.specs.Pass.{PassState, Reason, for_size, for_close, for_stop, for_channel, for_count, for_room, for_id, full_at, with_places, AreAdded}
+use Rattle.feed_lane.specs.PassCalls.{Finds, with_found, message_record, MayTakeMessage, HasPlace, IsUnnamed, GetsId, with_declared}
 use Rattle.buffer_swap.specs.Shown.{ChannelStands}
 use Rattle.buffer_swap.specs.Posts.{Post}
 use Rattle.buffer_swap.specs.Turns.{view}

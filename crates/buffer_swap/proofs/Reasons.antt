@@ -7,7 +7,8 @@ use Rattle.mcap_model.specs.declared.ends.End.{End}
 use Rattle.mcap_model.specs.declared.ends.End.TheVariants.{Closed, Stopped}
 use Rattle.record_core.specs.Ids.{is_known_channel, channel_place}
 use Rattle.record_core.specs.Tables.{schemas_lack, ids_lack}
-use Rattle.record_core.specs.Desk.{DeskView, accepted, bytes_held, publish_ended, publish_refusal, declared_size, declare_at, declare_ended, declare_refusal}
+use Rattle.record_core.specs.Desk.{DeskView, accepted, bytes_held, publish_ended, publish_refusal, declare_at, declare_ended, declare_refusal}
+use Rattle.record_core.specs.DeclarationFields.{declared_size}
 use Rattle.record_core.specs.declared.answers.PublishRefused.{PublishRefused}
 use Rattle.record_core.specs.declared.answers.PublishRefused.TheVariants as publishing
 use Rattle.record_core.specs.declared.answers.DeclareRefused.{DeclareRefused}

@@ -2,7 +2,8 @@
 use Rattle.std.proofs.Common.{◌≡◌, ℕ, ◌≤◌, List, [], length, true, Option, Some, Result, Ok, Err, refl, sym, ap, subst, inl, inr, ◌∙◌, arith}
 use Rattle.rec_data.specs.declared.owned.Rec.{Rec}
 use Rattle.rec_data.specs.declared.channel.ChannelDef.{ChannelDef}
-use Rattle.record_core.specs.Desk.{DeskView, found_of, declared_size}
+use Rattle.record_core.specs.Desk.{DeskView, found_of}
+use Rattle.record_core.specs.DeclarationFields.{declared_size}
 use Rattle.record_core.specs.declared.answers.Declared.{Declared}
 use Rattle.record_core.specs.declared.answers.Found.{Found}
 use Rattle.record_core.specs.declared.answers.NewMessage.{NewMessage}
@@ -10,7 +11,8 @@ use Rattle.record_core.specs.declared.answers.PublishRefused.{PublishRefused}
 use Rattle.record_core.specs.declared.answers.PublishRefused.TheVariants as publishing
 use Rattle.record_core.specs.declared.answers.DeclareRefused.{DeclareRefused}
 use Rattle.record_core.specs.declared.answers.DeclareRefused.TheVariants as declaring
-use Rattle.feed_lane.specs.Pass.{PassState, Reason, IsLater, Finds, with_found, MayTakeMessage, HasPlace, GetsId, PublishedBy, DeclaredInto}
+use Rattle.feed_lane.specs.Pass.{PassState, Reason}
+use Rattle.feed_lane.specs.PassCalls.{IsLater, Finds, with_found, MayTakeMessage, HasPlace, GetsId, PublishedBy, DeclaredInto}
 use Rattle.buffer_swap.specs.Plays.{Sat, Stood, Took, taking, frees}
 use Rattle.buffer_swap.specs.Calls.{counts_message, pass_published, counts_declared, pass_declared, pass_named, TriedInTurn, NamedInTurn, reasoned, PublishesMessage, DeclaresChannel, LooksOn, NotFull, NeverFull}
 use Rattle.buffer_swap.specs.declared.view.View.{View}

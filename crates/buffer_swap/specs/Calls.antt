@@ -18,7 +18,8 @@ use Rattle.record_core.specs.declared.answers.PublishRefused.{PublishRefused}
 use Rattle.record_core.specs.declared.answers.PublishRefused.TheVariants as publishing
 use Rattle.record_core.specs.declared.answers.DeclareRefused.{DeclareRefused}
 use Rattle.record_core.specs.declared.answers.DeclareRefused.TheVariants as declaring
-use Rattle.feed_lane.specs.Pass.{PassState, Reason, with_found, IsLater, Finds, FitsDataLimit, PublishedBy, DeclaredInto}
+use Rattle.feed_lane.specs.Pass.{PassState, Reason}
+use Rattle.feed_lane.specs.PassCalls.{with_found, IsLater, Finds, FitsDataLimit, PublishedBy, DeclaredInto}
 use Rattle.atomic_table.specs.Seated.{TableId}
 use Rattle.atomic_table.specs.declared.shared.Seat.{Seat}
 use Rattle.buffer_swap.specs.Posts.{Post, first_post, drain_post}

@@ -13,9 +13,11 @@ use Rattle.record_core.specs.Machine.{State, accept}
 use Rattle.record_core.specs.Stands.{DeskStandsFor}
 use Rattle.record_core.specs.declared.answers.DeclareRefused.{DeclareRefused}
 use Rattle.record_core.specs.declared.answers.Found.{Found}
-use Rattle.feed_lane.specs.Pass.{PassState, with_places, full_at, with_found}
+use Rattle.feed_lane.specs.Pass.{PassState, with_places, full_at}
+use Rattle.feed_lane.specs.PassCalls.{with_found}
 use Rattle.buffer_swap.specs.Weights.{total, below}
-use Rattle.buffer_swap.specs.Shown.{ChannelStands, IdsLack, Spares, ShownTo}
+use Rattle.buffer_swap.specs.Shown.{ChannelStands, IdsLack}
+use Rattle.buffer_swap.specs.ShownSteps.{Spares, ShownTo}
 use Rattle.buffer_swap.specs.Posts.{Gathered, Post, drain_post, publisher_post, note_post}
 use Rattle.buffer_swap.specs.Turns.{view, newcomer, PassFits}
 use Rattle.buffer_swap.specs.declared.view.View.{View}

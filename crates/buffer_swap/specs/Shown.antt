@@ -1,5 +1,5 @@
 -- That what a pass showed is so of the history of a recording.
-use Rattle.std.specs.Prelude.{◌≡◌, ℕ, ◌-◌, ◌≤◌, List, [], length, take, drop, Option, Some, None}
+use Rattle.std.specs.Prelude.{◌≡◌, ℕ, ◌-◌, ◌≤◌, List, length, take, drop, Option, Some, None}
 use Rattle.mcap_wire.specs.Limits.{id_limit}
 use Rattle.rec_data.specs.declared.owned.Rec.{Rec}
 use Rattle.rec_data.specs.declared.schema.SchemaDef.{SchemaDef}
@@ -8,7 +8,7 @@ use Rattle.mcap_model.specs.declared.ends.End.{End}
 use Rattle.mcap_model.specs.declared.ends.End.TheVariants as ends
 use Rattle.mcap_model.specs.Places.{At, Has, Each}
 use Rattle.mcap_model.specs.History.{schema_of, channel_of, schema_count, channel_count, history_bytes}
-use Rattle.record_core.specs.Ids.{schemas_in, channels_in, fields_of_schema, fields_with}
+use Rattle.record_core.specs.DeclarationFields.{fields_of_schema, fields_with}
 use Rattle.record_core.specs.declared.answers.DeclareRefused.{DeclareRefused}
 use Rattle.record_core.specs.declared.answers.DeclareRefused.TheVariants as declaring
 use Rattle.record_core.specs.declared.answers.Found.{Found}
@@ -47,11 +47,6 @@ IdsLack history d declaring.TooManySchemas = LacksSchema history d.schema
 IdsLack history d declaring.TooManyChannels = LacksChannelId history d × (LacksSchema history d.schema → ⊥)
 IdsLack history d declaring.Memory = ⊥
 
--- records that take no id where all are given
-pub record Spares (history more : List Rec) : Type 0 where
-  pub schemas : schema_count history ≡ id_limit → schemas_in more ≡ []
-  pub channels : channel_count history ≡ id_limit → (schemas_in more ≡ []) × (channels_in more ≡ [])
-
 -- ---- a pass
 
 -- a full buffer held the records of the history at its places
@@ -83,23 +78,3 @@ pub record ShownBy (history : List Rec) (end : End) (pass : PassState) : Type 0 
   pub fulls : Each (HeldThere history) pass.fulls
   pub lacks : Each (λ pair. IdsLack history pair.0 pair.1) pass.lacks
   pub found : (found : Found) → pass.found ≡ Some found → FoundIn history end found
-
--- ---- a whole history
-
--- The intake was found with no more records and ids than the history has. An end that was found is the history's, and behind
--- it nothing was accepted.
-pub record FoundTo (history : List Rec) (end : End) (found : Found) : Type 0 where
-  pub within : found.count ≤ length history
-  pub schemas : found.schemas ≤ schema_count history
-  pub channels : found.channels ≤ channel_count history
-  pub numbers : FoundThere history found
-  pub all : (e : End) → found.end ≡ Some e → found.count ≡ length history
-  pub same : (e : End) → found.end ≡ Some e → e ≡ end
-
--- What a pass showed is so of a whole history, whose intake came to this end.
-pub record ShownTo (history : List Rec) (end : End) (pass : PassState) : Type 0 where
-  pub own : Each (λ pair. At history pair.0 pair.1) pass.own
-  pub named : Each (λ pair. ChannelStands history pair.0 pair.1) pass.named
-  pub fulls : Each (HeldThere history) pass.fulls
-  pub lacks : Each (λ pair. IdsLack history pair.0 pair.1) pass.lacks
-  pub found : (found : Found) → pass.found ≡ Some found → FoundTo history end found

@@ -13,7 +13,8 @@ use Rattle.record_core.specs.Desk.{DeskView, new_desk, accepted, desk_end, found
 use Rattle.record_core.specs.Machine.{State}
 use Rattle.record_core.specs.Stands.{DeskStandsFor}
 use Rattle.record_core.specs.declared.answers.Found.{Found}
-use Rattle.feed_lane.specs.Pass.{PassState, no_calls, with_places, IsLater}
+use Rattle.feed_lane.specs.Pass.{PassState, with_places}
+use Rattle.feed_lane.specs.PassCalls.{no_calls, IsLater}
 use Rattle.buffer_swap.specs.Weights.{total, one_if, below}
 use Rattle.buffer_swap.specs.Shown.{ChannelStands, IdsLack, HeldThere, FoundThere}
 use Rattle.buffer_swap.specs.Posts.{Gathered, Post, no_post}

@@ -8,7 +8,7 @@ ghost use Rattle.record_core.specs.Tables.{HasFewIds, MayShare};
 ghost use Rattle.record_core.specs.Sights.{DefFits};
 ghost use Rattle.record_core.specs.declared.answers.DeclareRefused.TheVariants.{TooManySchemas, TooManyChannels};
 ghost use Rattle.record_core.specs.Desk.{DeskView, new_desk, found_of, swapped, ended, desk_end, fields_of_message, Published, DeclaredBy, SwapAnswered, EndIsSetAt, IsCause, EndIsLast};
-ghost use Rattle.feed_lane.specs.Pass.{message_record, with_found};
+ghost use Rattle.feed_lane.specs.PassCalls.{message_record, with_found};
 ghost use Rattle.buffer_swap.specs.Posts.{first_post, drain_post};
 ghost use Rattle.buffer_swap.specs.Turns.{newcomer};
 ghost use Rattle.buffer_swap.specs.Plays.{desk_out, HasDesk, IsIdle, Took, MayCount, NamedAt, LacksIdAt, missing, counts, hands_over, closes, stops, frees, frees_counting, same_pass, with_full_hand, with_name, with_lacking};

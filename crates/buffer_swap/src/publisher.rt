@@ -2,7 +2,7 @@
 //! buffer is full take a turn each time.
 ghost use Rattle.std.specs.Prelude.{◌≡◌, ◌≤◌, ℕ, Ok, Err, Some, length, true, false};
 ghost use Rattle.mcap_wire.specs.Limits.{data_limit, declaration_limit};
-ghost use Rattle.record_core.specs.Desk.{declared_size};
+ghost use Rattle.record_core.specs.DeclarationFields.{declared_size};
 ghost use Rattle.record_core.specs.declared.answers.PublishRefused.TheVariants.{Full};
 ghost use Rattle.record_core.specs.declared.answers.DeclareRefused.TheVariants.{Full as DeclareFull};
 ghost use Rattle.record_core.specs.Sights.{DefFits};

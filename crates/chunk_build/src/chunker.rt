@@ -2,7 +2,8 @@
 ghost use Rattle.std.specs.Prelude.{◌≡◌, ◌≤◌, ℕ, List, [], length, IfOk, OnErr};
 ghost use Rattle.mcap_wire.specs.Limits.{chunk_size_limit};
 ghost use Rattle.rec_data.specs.declared.owned.Rec.{Rec};
-ghost use Rattle.rec_data.specs.Owned.{rec_bytes, LengthsFit};
+ghost use Rattle.rec_data.specs.Owned.{rec_bytes};
+ghost use Rattle.rec_data.specs.OwnedReading.{LengthsFit};
 ghost use Rattle.chunk_build.specs.Building.{mark_of, IsLong};
 ghost use Rattle.chunk_build.specs.Chunker.{StandsFor, PutsRecord, AreFramed, Finishes};
 

@@ -1,7 +1,8 @@
 //! Records by their framed bytes.
 ghost use Rattle.std.specs.Prelude.{◌≡◌, length, IfOk};
 ghost use Rattle.rec_data.specs.declared.owned.Rec.{Rec};
-ghost use Rattle.rec_data.specs.Owned.{LengthsFit, RecFits};
+ghost use Rattle.rec_data.specs.Owned.{RecFits};
+ghost use Rattle.rec_data.specs.OwnedReading.{LengthsFit};
 ghost use Rattle.chunk_build.specs.Building.{mark_of, IsLong};
 ghost use Rattle.chunk_build.specs.Chunker.{AreFramed};
 

@@ -1,7 +1,7 @@
 //! The entries of a Message Index in the order of their times (MCAP specification, "Message Index").
 ghost use Rattle.std.specs.Prelude.{◌≡◌, ◌↔◌, ◌≤◌, IfOk, IsTrue, IsPermutation, length, map, filter, take, drop, nat_lt, nat_le};
 ghost use Rattle.std.specs.List.{AllAdjacentBelow};
-ghost use Rattle.mcap_model.specs.Plain.{is_within};
+ghost use Rattle.mcap_model.specs.Scan.{is_within};
 ghost use Rattle.chunk_build.specs.IndexTable.{time_at, NotAfter, Rises, HasJustEntries};
 
 use mcap_model::Range;

@@ -5,7 +5,7 @@ use Rattle.std.proofs.lemmas.List.{map-append}
 use Rattle.std.proofs.lemmas.List.Elements.{filter-append}
 use Rattle.std.proofs.lemmas.List.Sums.{fold-append}
 use Rattle.mcap_model.specs.Tops.{Top}
-use Rattle.record_walk.specs.Heads.{time_in, is_headed}
+use Rattle.record_walk.specs.HeadTimes.{time_in, is_headed}
 use Rattle.chunk_survey.specs.Times.{times_of, with_time, extent_of}
 
 pub extent_more : (times : List ℕ) (time : ℕ) → extent_of (times ++ time ∷ []) ≡ with_time (extent_of times) time

@@ -9,7 +9,8 @@ use Rattle.mcap_model.specs.Places.{At, Has, Each}
 use Rattle.mcap_model.proofs.Places.{at_none, at_kept, at_last, at_more, pairs_more}
 use Rattle.mcap_model.proofs.Lists.{pairs_at, pairs_from}
 use Rattle.chunk_survey.specs.declared.times.Extent.{Extent}
-use Rattle.chunk_survey.specs.Times.{with_time, extent_of, TimesSpan}
+use Rattle.chunk_survey.specs.Times.{with_time, extent_of}
+use Rattle.chunk_survey.specs.Surveys.{TimesSpan}
 
 -- what is known of the times so far
 pub record ExtentStands (times : List ℕ) (e : Extent) : Type 0 where

@@ -6,7 +6,8 @@ use Rattle.mcap_model.specs.Fields.{ChunkFields, IsChunk}
 use Rattle.mcap_model.specs.Made.{top}
 use Rattle.mcap_model.proofs.Unpacking.{chunks_are_opened}
 use Rattle.record_walk.specs.declared.heads.MessageHead.{MessageHead}
-use Rattle.record_walk.specs.Heads.{time_in, is_headed, head_of, heads_in}
+use Rattle.record_walk.specs.Heads.{head_of, heads_in}
+use Rattle.record_walk.specs.HeadTimes.{time_in, is_headed}
 use Rattle.chunk_survey.specs.Heads.{set_at, heads_one, heads_from, heads_under, times_in}
 use Rattle.chunk_survey.specs.Times.{times_of}
 use Rattle.chunk_survey.proofs.Extents.{times_one, times_joined}

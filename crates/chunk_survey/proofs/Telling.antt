@@ -7,7 +7,8 @@ use Rattle.mcap_model.specs.Tops.{is_chunk, inner_tops}
 use Rattle.mcap_model.proofs.Places.{at_none}
 use Rattle.chunk_survey.specs.declared.spans.Span.{Span}
 use Rattle.chunk_survey.specs.declared.times.Extent.{Extent}
-use Rattle.chunk_survey.specs.Times.{times_of, extent_of, with_time, TimesSpan}
+use Rattle.chunk_survey.specs.Times.{times_of, extent_of, with_time}
+use Rattle.chunk_survey.specs.Surveys.{TimesSpan}
 use Rattle.chunk_survey.specs.Spans.{spans_made, spans_in_chunk, spans_alone}
 use Rattle.chunk_survey.specs.Laws.{SpansTellTimes, SilentRecordsHaveNone}
 use Rattle.chunk_survey.proofs.Facts.{extent_is}

@@ -3,7 +3,8 @@ use Rattle.std.specs.Prelude.{◌≡◌, ℕ, [], length}
 use Rattle.mcap_model.specs.Places.{Has}
 use Rattle.mcap_model.specs.Tops.{Top, unchunked}
 use Rattle.chunk_survey.specs.declared.spans.Span.{Span}
-use Rattle.chunk_survey.specs.Times.{times_of, TimesSpan}
+use Rattle.chunk_survey.specs.Times.{times_of}
+use Rattle.chunk_survey.specs.Surveys.{TimesSpan}
 use Rattle.chunk_survey.specs.Spans.{spans_one}
 
 -- a span stands at its record's offset, its times are those of the record's messages, and it has as many

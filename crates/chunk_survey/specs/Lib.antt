@@ -1,5 +1,7 @@
-pub mod Heads
+-- What the promise of the program reaches, in the order to read it.
 pub mod Times
 pub mod Spans
+-- What the functions of this crate and its proofs say besides.
+pub mod Heads
 pub mod Surveys
 pub mod Laws

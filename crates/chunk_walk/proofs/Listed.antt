@@ -7,7 +7,8 @@ use Rattle.mcap_model.specs.Tops.{Top, top_bytes, spelled}
 use Rattle.mcap_model.proofs.Places.{at_none}
 use Rattle.mcap_model.proofs.Lists.{at_either, pairs_at, pairs_from}
 use Rattle.mcap_model.proofs.Readings.{length-top}
-use Rattle.record_walk.specs.Heads.{time_in, is_headed, head_of}
+use Rattle.record_walk.specs.Heads.{head_of}
+use Rattle.record_walk.specs.HeadTimes.{time_in, is_headed}
 use Rattle.chunk_survey.specs.Heads.{set_at, heads_one, heads_from}
 use Rattle.record_walk.specs.declared.heads.MessageHead.{MessageHead}
 use Rattle.chunk_walk.specs.Heads.{OffsetsRise}

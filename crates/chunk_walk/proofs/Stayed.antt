@@ -4,7 +4,8 @@ use Rattle.std.proofs.lemmas.Bool.{eq-eqb}
 use Rattle.std.proofs.lemmas.List.{map-set}
 use Rattle.std.proofs.lemmas.List.Sums.{sum_by-cons}
 use Rattle.mcap_io.specs.Outside.{RisesOnce}
-use Rattle.mcap_io.specs.Stores.{StoreState, StoreStays}
+use Rattle.mcap_io.specs.Stores.{StoreState}
+use Rattle.mcap_io.specs.StoreAnswers.{StoreStays}
 use Rattle.mcap_model.specs.Places.{At}
 use Rattle.mcap_model.proofs.Places.{at_none, at_one, at_within, at_set, at_set_same}
 use Rattle.mcap_model.proofs.Flat.{at_mapped}

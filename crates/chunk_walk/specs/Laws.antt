@@ -3,7 +3,8 @@ use Rattle.std.specs.Prelude.{◌≡◌, ℕ, ◌<◌, List, length, take, drop,
 use Rattle.mcap_model.specs.Places.{At, Each}
 use Rattle.mcap_model.specs.Tops.{records_in}
 use Rattle.chunk_survey.specs.declared.spans.Span.{Span}
-use Rattle.chunk_survey.specs.Times.{times_of, TimesSpan}
+use Rattle.chunk_survey.specs.Times.{times_of}
+use Rattle.chunk_survey.specs.Surveys.{TimesSpan}
 use Rattle.chunk_walk.specs.declared.answers.WalkRefused.TheVariants as refusals
 use Rattle.chunk_walk.specs.declared.pieces.Piece.{Piece}
 use Rattle.chunk_walk.specs.declared.walk.Walk.{Walk}

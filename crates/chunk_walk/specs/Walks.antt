@@ -3,7 +3,8 @@ use Rattle.std.specs.Prelude.{◌≡◌, ◌⊎◌, ℕ, ◌+◌, ◌≤◌, Lis
 use Rattle.std.specs.List.{AllZip, flat_map, remove, sum_by}
 use Rattle.mcap_model.specs.Places.{At, Has, Each}
 use Rattle.mcap_model.specs.Tops.{Top, spelled, records_in}
-use Rattle.record_walk.specs.Heads.{time_in, is_headed, heads_in}
+use Rattle.record_walk.specs.Heads.{heads_in}
+use Rattle.record_walk.specs.HeadTimes.{time_in, is_headed}
 use Rattle.chunk_window.specs.declared.window.Loaded.{Loaded}
 use Rattle.chunk_window.specs.Parts.{loaded_part, bytes_in, IsPartAt, IsPartLoaded}
 use Rattle.chunk_window.specs.Windows.{loaded_in}

@@ -1,6 +1,6 @@
 //! The window: what is loaded, and how many bytes that is.
 ghost use Rattle.std.specs.Prelude.{◌≡◌, ◌↔◌, ◌+◌, ◌≤◌, IsTrue};
-ghost use Rattle.mcap_io.specs.Stores.{ReadsPart};
+ghost use Rattle.mcap_io.specs.StoreAnswers.{ReadsPart};
 ghost use Rattle.chunk_window.specs.Parts.{bytes_in, IsPartAt, FillsRoom, FindsLoaded};
 
 use crate::answers::Loadable;

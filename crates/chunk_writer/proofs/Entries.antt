@@ -6,7 +6,8 @@ use Rattle.rec_data.specs.declared.owned.Rec.{Rec}
 use Rattle.mcap_io.specs.Outside.{LiveState}
 use Rattle.mcap_model.specs.declared.options.FileOptions.{FileOptions}
 use Rattle.mcap_model.specs.Blocks.{Piece, block, Cuts, cuts, pieces_bytes, blocks_in}
-use Rattle.mcap_model.specs.File.{front, blocks_from, written_of}
+use Rattle.mcap_model.specs.File.{front, blocks_from}
+use Rattle.mcap_model.specs.Histories.{written_of}
 use Rattle.mcap_model.proofs.Standing.{count_blocks}
 use Rattle.mcap_model.proofs.OneMore.{zip_push}
 use Rattle.live_entry.specs.declared.entry.Entry.{Entry}

@@ -13,7 +13,7 @@ use Rattle.mcap_model.specs.declared.ends.Stop.{Stop}
 use Rattle.mcap_model.specs.History.{history_bytes}
 use Rattle.record_cache.specs.Offers.{StartsAt, RecordAt}
 use Rattle.chunk_writer.specs.Buffered.{framed_each, BeginsLast, AppendRefusedAt}
-use Rattle.chunk_writer.specs.Stops.{Added}
+use Rattle.chunk_writer.specs.StopSteps.{Added}
 use Rattle.chunk_writer.proofs.Taking.{some_left, starts, all_put}
 
 -- ---- pieces of first records

@@ -10,7 +10,8 @@ use Rattle.chunk_writer.specs.declared.scribe.Scribe.{Scribe}
 use Rattle.chunk_writer.specs.declared.phase.Phase.TheVariants as phases
 use Rattle.mcap_io.specs.Outside.{LiveState}
 use Rattle.mcap_model.specs.declared.ends.Stop.{Stop}
-use Rattle.chunk_writer.specs.Stops.{numbers, StopsBehind}
+use Rattle.chunk_writer.specs.Stops.{numbers}
+use Rattle.chunk_writer.specs.StopSteps.{StopsBehind}
 use Rattle.mcap_wire.specs.Layout.{le, framed}
 use Rattle.mcap_wire.proofs.Numbers.{length-le}
 use Rattle.mcap_wire.proofs.Framing.{length-framed}
@@ -19,7 +20,7 @@ use Rattle.rec_data.specs.Records.{ShowsAttachment, ShowsMetadata}
 use Rattle.rec_data.specs.declared.owned.Rec.{Rec}
 use Rattle.mcap_model.specs.declared.options.FileOptions.{FileOptions}
 use Rattle.mcap_model.specs.Tops.{Top, top_bytes, spelled}
-use Rattle.mcap_model.specs.Laws.{IsExtra}
+use Rattle.mcap_model.specs.ReadBack.{IsExtra}
 use Rattle.mcap_model.specs.Blocks.{pieces_of, pieces_bytes}
 use Rattle.mcap_model.specs.File.{front, section, noted, extras_from}
 use Rattle.mcap_model.specs.Summary.{Noted}

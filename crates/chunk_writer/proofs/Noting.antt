@@ -15,7 +15,8 @@ use Rattle.summary_write.specs.Tally.{Tally, SummaryStandsFor, with_noted_block,
 use Rattle.chunk_build.specs.Chunking.{Chunking}
 use Rattle.chunk_build.specs.Chunker as chunker
 use Rattle.chunk_writer.specs.declared.body.Body.{Body}
-use Rattle.chunk_writer.specs.Limits.{Holds, HoldsOrStops, IsNoFault}
+use Rattle.chunk_writer.specs.Limits.{Holds}
+use Rattle.chunk_writer.specs.LimitSteps.{HoldsOrStops, IsNoFault}
 use Rattle.chunk_writer.specs.Bodies.{noted_of, IsBody, BodyTakes, TakesLast, StandsSo, ClosesPiece, NextBlock, LastBlock}
 use Rattle.chunk_writer.specs.Plans.{PiecePasses, PutStopped, LastStopped}
 use Rattle.chunk_writer.proofs.Cuts.{few_logged}

@@ -9,14 +9,16 @@ use Rattle.rec_data.specs.Owned.{rec_bytes}
 use Rattle.mcap_io.specs.declared.outside.AppendRefused.{AppendRefused}
 use Rattle.mcap_io.specs.declared.outside.AppendRefused.TheVariants as append_refusals
 use Rattle.mcap_io.specs.declared.outside.EachRefused.{EachRefused}
-use Rattle.mcap_io.specs.Outside.{LiveState, Adds, AppendCause}
+use Rattle.mcap_io.specs.Outside.{LiveState, Adds}
+use Rattle.mcap_io.specs.OutsideCalls.{AppendCause}
 use Rattle.mcap_io.specs.Appending.{EachLeaves, EachCause}
 use Rattle.mcap_model.specs.declared.options.FileOptions.{FileOptions}
 use Rattle.mcap_model.specs.declared.ends.Stop.{Stop}
 use Rattle.mcap_model.specs.declared.ends.Stop.TheVariants as stops
 use Rattle.mcap_model.specs.History.{history_bytes}
 use Rattle.mcap_model.specs.Blocks.{Piece, alone, Cuts, cuts, piece_bytes, pieces_bytes, block_in, blocks_in}
-use Rattle.mcap_model.specs.File.{front, written_of}
+use Rattle.mcap_model.specs.File.{front}
+use Rattle.mcap_model.specs.Histories.{written_of}
 use Rattle.live_entry.specs.Entries.{SeenExtents}
 use Rattle.chunk_writer.specs.declared.body.Body.{Body}
 use Rattle.chunk_writer.specs.declared.phase.Phase.TheVariants as phases
@@ -25,7 +27,8 @@ use Rattle.chunk_writer.specs.Limits.{Holds}
 use Rattle.chunk_writer.specs.Bodies.{BodyFor}
 use Rattle.chunk_writer.specs.Planning.{Planning}
 use Rattle.chunk_writer.specs.Plans.{Plans, counted_on, StoppedBefore}
-use Rattle.chunk_writer.specs.Stops.{Cause, Added, refusal}
+use Rattle.chunk_writer.specs.Stops.{Cause}
+use Rattle.chunk_writer.specs.StopSteps.{Added, refusal}
 use Rattle.chunk_writer.specs.Buffered.{framed_each, AppendRefusedAt}
 use Rattle.chunk_writer.specs.Scribes.{ScribeStands, KeepsOn, GivesEntries, PutsFront, sure_blocks}
 use Rattle.mcap_io.proofs.Calls.{adds-adds}

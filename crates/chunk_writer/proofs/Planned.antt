@@ -18,7 +18,8 @@ use Rattle.chunk_build.specs.Chunker as chunker
 use Rattle.chunk_writer.specs.declared.body.Body.{Body}
 use Rattle.chunk_writer.specs.declared.phase.Phase.{Phase}
 use Rattle.chunk_writer.specs.declared.next.Next.TheVariants as nexts
-use Rattle.chunk_writer.specs.Limits.{Holds, LimitKept}
+use Rattle.chunk_writer.specs.Limits.{Holds}
+use Rattle.chunk_writer.specs.LimitSteps.{LimitKept}
 use Rattle.chunk_writer.specs.Bodies.{noted_of, IsBody, StandsSo, ClosesPiece, ClosesBlock, NextBlock, LastBlock, BodyFor, SummaryFor}
 use Rattle.chunk_writer.specs.Planning.{Planning}
 use Rattle.chunk_writer.specs.Plans.{Plans, IsPlanned, PutStopped, IsLastBlock, LastStopped}

@@ -6,7 +6,8 @@ use Rattle.std.proofs.lemmas.Grind.{flat_map-append}
 use Rattle.rec_data.specs.declared.owned.Rec.{Rec}
 use Rattle.mcap_io.specs.declared.outside.AppendRefused.{AppendRefused}
 use Rattle.mcap_io.specs.declared.outside.AppendRefused.TheVariants as append_refusals
-use Rattle.mcap_io.specs.Outside.{LiveState, Adds, AddsPart, AppendLeaves}
+use Rattle.mcap_io.specs.Outside.{LiveState, Adds, AddsPart}
+use Rattle.mcap_io.specs.OutsideCalls.{AppendLeaves}
 use Rattle.mcap_model.specs.declared.options.FileOptions.{FileOptions}
 use Rattle.mcap_model.specs.declared.ends.Stop.{Stop}
 use Rattle.mcap_model.specs.declared.ends.Stop.TheVariants as stops
@@ -15,12 +16,15 @@ use Rattle.mcap_model.specs.Tops.{Top, top_bytes, spelled}
 use Rattle.mcap_model.proofs.Places.{at_last}
 use Rattle.mcap_model.proofs.Pieces.{joined_map}
 use Rattle.mcap_model.specs.Blocks.{Piece, cuts, last_piece, pieces_of, piece_bytes, pieces_bytes, blocks_in}
-use Rattle.mcap_model.specs.File.{front, section, written_of}
+use Rattle.mcap_model.specs.File.{front, section}
+use Rattle.mcap_model.specs.Histories.{written_of}
 use Rattle.mcap_model.specs.Pieces.{joined, back_of, file_pieces, pieces_before}
-use Rattle.chunk_writer.specs.Limits.{Holds, StopWhy, IsNoFault}
+use Rattle.chunk_writer.specs.Limits.{Holds, StopWhy}
+use Rattle.chunk_writer.specs.LimitSteps.{IsNoFault}
 use Rattle.chunk_writer.specs.Bodies.{ClosesPiece}
 use Rattle.chunk_writer.specs.Plans.{PutStopped, LastStopped, ExtraStopped, BackStopped}
-use Rattle.chunk_writer.specs.Stops.{numbers, blocks_among, StopsAt, Cause, Appends, Added, refusal}
+use Rattle.chunk_writer.specs.Stops.{numbers, blocks_among, StopsAt, Cause}
+use Rattle.chunk_writer.specs.StopSteps.{Appends, Added, refusal}
 use Rattle.chunk_writer.proofs.Cuts.{pieces_grow, closed_grow}
 use Rattle.chunk_writer.proofs.Noting.{blocks_more}
 use Rattle.chunk_writer.proofs.Planned.{whole_some}

@@ -6,7 +6,8 @@ use Rattle.std.proofs.lemmas.List.{take_all, take-append-drop, length-append, le
 use Rattle.mcap_wire.proofs.Framing.{length-framed}
 use Rattle.std.proofs.lemmas.Option.{get_or_from_slice_get}
 use Rattle.rec_data.specs.declared.owned.Rec.{Rec}
-use Rattle.rec_data.specs.Owned.{IsFramed, rec_bytes, rec_opcode, rec_text}
+use Rattle.rec_data.specs.Owned.{rec_bytes, rec_opcode, rec_text}
+use Rattle.rec_data.specs.OwnedReading.{IsFramed}
 use Rattle.rec_data.proofs.OwnedReading.{rec_shown, framed_decided}
 use Rattle.mcap_io.specs.Outside.{LiveState}
 use Rattle.mcap_model.specs.declared.options.FileOptions.{FileOptions}
@@ -14,7 +15,7 @@ use Rattle.mcap_model.specs.declared.ends.Stop.{Stop}
 use Rattle.mcap_model.specs.declared.ends.Stop.TheVariants as stops
 use Rattle.mcap_model.specs.History.{history_bytes}
 use Rattle.chunk_build.specs.Chunker.{AreFramed}
-use Rattle.record_cache.specs.Buffers.{IsKept}
+use Rattle.record_cache.specs.KeptRecords.{IsKept}
 use Rattle.record_cache.specs.Offers.{StartsAt, RecordAt}
 use Rattle.record_cache.proofs.Kept.{there, kept_at}
 use Rattle.live_entry.specs.declared.entry.Entry.{Entry}
@@ -24,7 +25,8 @@ use Rattle.chunk_writer.specs.declared.scribe.Scribe.{Scribe}
 use Rattle.chunk_writer.specs.Limits.{Holds}
 use Rattle.chunk_writer.specs.Planning.{Planning}
 use Rattle.chunk_writer.specs.Plans.{StoppedBefore}
-use Rattle.chunk_writer.specs.Stops.{numbers, StopsBehind}
+use Rattle.chunk_writer.specs.Stops.{numbers}
+use Rattle.chunk_writer.specs.StopSteps.{StopsBehind}
 use Rattle.chunk_writer.specs.Scribes.{ScribeStands, WritesHistory, ScribeGrows, OfEach, KeepsOn, ListsEntry, GivesEntries, PutsFront, grows_on}
 use Rattle.chunk_writer.specs.Tapes.{no_entries}
 use Rattle.chunk_writer.proofs.Entries.{seen_later, entries_more}

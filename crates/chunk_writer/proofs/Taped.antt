@@ -12,7 +12,8 @@ use Rattle.live_entry.specs.Entries.{SeenExtents, seen_before}
 use Rattle.chunk_writer.specs.declared.phase.Phase.{Phase}
 use Rattle.chunk_writer.specs.declared.phase.Phase.TheVariants as phases
 use Rattle.chunk_writer.specs.declared.scribe.Scribe.{Scribe}
-use Rattle.chunk_writer.specs.Stops.{numbers, Cause, StopsBehind}
+use Rattle.chunk_writer.specs.Stops.{numbers, Cause}
+use Rattle.chunk_writer.specs.StopSteps.{StopsBehind}
 use Rattle.chunk_writer.specs.Scribes.{ScribeGrows, OfEach, KeepsOn, PutsFront, GoesThrough, store_of, phase_of, planned_bytes}
 use Rattle.chunk_writer.specs.Tapes.{EndsFor, KeepsCause, IsLeft, PutsFirst, seen_store, TakesOn, MeetsLimit}
 use Rattle.chunk_writer.proofs.Writing.{going_apart}

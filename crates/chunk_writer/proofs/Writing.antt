@@ -11,7 +11,8 @@ use Rattle.mcap_model.specs.Built.{IsBlock}
 use Rattle.mcap_model.specs.Blocks.{Piece, block, alone, cuts, pieces_of, piece_bytes, pieces_bytes, block_bytes}
 use Rattle.std.proofs.lemmas.Grind.{flat_map-append}
 use Rattle.mcap_model.specs.Tops.{Top, top_bytes, spelled}
-use Rattle.mcap_model.specs.File.{front, data_end, section, noted, tail_by, written_of, file_of}
+use Rattle.mcap_model.specs.File.{front, data_end, section, noted, tail_by, file_of}
+use Rattle.mcap_model.specs.Histories.{written_of}
 use Rattle.mcap_model.specs.Pieces.{back_of}
 use Rattle.live_entry.specs.declared.entry.Entry.{Entry}
 use Rattle.live_entry.specs.Entries.{SeenExtents, HasBlockExtent, TellsPiece}
@@ -23,8 +24,9 @@ use Rattle.chunk_writer.specs.Limits.{Holds}
 use Rattle.chunk_writer.specs.Bodies.{ClosesPiece}
 use Rattle.chunk_writer.specs.Planning.{Planning}
 use Rattle.chunk_writer.specs.Plans.{Plans, IsPlanned, IsToAppend, PutStopped, HoldsBlock, HoldsNext, StoppedBefore, IsFilled, IsLastBlock, LastStopped, ExtraStopped, BackStopped}
-use Rattle.chunk_writer.specs.Stops.{numbers, StopsAt, StopsBehind, Added}
-use Rattle.chunk_writer.specs.Scribes.{ScribeStands, AreWaiting, IsEntryWith, AddsLast, FillsExtras, Ends, GivesEntry, GivesLast}
+use Rattle.chunk_writer.specs.Stops.{numbers, StopsAt, Ends}
+use Rattle.chunk_writer.specs.StopSteps.{StopsBehind, Added}
+use Rattle.chunk_writer.specs.Scribes.{ScribeStands, AreWaiting, IsEntryWith, AddsLast, FillsExtras, GivesEntry, GivesLast}
 use Rattle.chunk_writer.proofs.Cuts.{bytes_behind}
 use Rattle.chunk_writer.proofs.Planned.{whole_none, whole_some}
 use Rattle.chunk_writer.proofs.Stopping.{Holding, Wholly, extra_refused, extra_append_refused, put_refused, append_refused, last_refused, last_append_refused, back_refused, back_append_refused}

@@ -5,7 +5,7 @@ use Rattle.rec_data.specs.Owned.{rec_bytes}
 use Rattle.mcap_io.specs.Outside.{Adds}
 use Rattle.mcap_model.specs.declared.ends.Stop.{Stop}
 use Rattle.mcap_model.specs.History.{history_bytes}
-use Rattle.chunk_writer.specs.Stops.{Added}
+use Rattle.chunk_writer.specs.StopSteps.{Added}
 
 abbrev pub framed_each : List Rec → List (List ℕ)
 framed_each records = map rec_bytes records

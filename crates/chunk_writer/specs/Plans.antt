@@ -8,7 +8,8 @@ use Rattle.mcap_model.specs.declared.ends.Stop.TheVariants as stops
 use Rattle.mcap_model.specs.Built.{IsBlock}
 use Rattle.mcap_model.specs.Blocks.{Piece, block, alone, piece_bytes, cuts, pieces_of, pieces_bytes, last_piece, blocks_in}
 use Rattle.mcap_model.specs.Tops.{Top}
-use Rattle.mcap_model.specs.File.{front, section, noted, written_of}
+use Rattle.mcap_model.specs.File.{front, section, noted}
+use Rattle.mcap_model.specs.Histories.{written_of}
 use Rattle.mcap_model.specs.Pieces.{back_of}
 use Rattle.chunk_build.specs.Chunker as chunker
 use Rattle.chunk_writer.specs.declared.phase.Phase.TheVariants as phases

@@ -1,5 +1,5 @@
 -- The histories for which a scribe stands, its entries, and how its file ends.
-use Rattle.std.specs.Prelude.{◌≡◌, ℕ, ◌+◌, ◌<◌, ◌≤◌, List, [], ◌∷◌, ◌++◌, length, map, take, Option, Some, None, IsSome, Result, Ok, Err, OnOk, OnErr}
+use Rattle.std.specs.Prelude.{◌≡◌, ℕ, ◌+◌, ◌<◌, ◌≤◌, List, [], ◌∷◌, ◌++◌, length, map, take, Option, Some, None, IsSome, Result, OnOk, OnErr}
 use Rattle.std.specs.List.{AllZip}
 use Rattle.std.proofs.Common.{sym, subst, append-nil, append_assoc}
 use Rattle.rec_data.specs.declared.owned.Rec.{Rec}
@@ -10,8 +10,9 @@ use Rattle.mcap_model.specs.declared.ends.Stop.{Stop}
 use Rattle.mcap_model.specs.Blocks.{block, cuts, pieces_of, pieces_bytes, last_piece, blocks_in}
 use Rattle.mcap_model.specs.Places.{Each}
 use Rattle.mcap_model.specs.Tops.{Top, top_bytes}
-use Rattle.mcap_model.specs.Laws.{IsExtra}
-use Rattle.mcap_model.specs.File.{front, section, blocks_from, written_of, file_of}
+use Rattle.mcap_model.specs.ReadBack.{IsExtra}
+use Rattle.mcap_model.specs.File.{front, section, blocks_from}
+use Rattle.mcap_model.specs.Histories.{written_of}
 use Rattle.chunk_build.specs.Chunker.{AreFramed}
 use Rattle.live_entry.specs.declared.entry.Entry.{Entry}
 use Rattle.live_entry.specs.Entries.{SeenExtents, HasBlockExtent}
@@ -22,7 +23,8 @@ use Rattle.chunk_writer.specs.declared.tape.Written.{Written}
 use Rattle.chunk_writer.specs.Planning.{Planning}
 use Rattle.chunk_writer.specs.Bodies.{ClosesPiece}
 use Rattle.chunk_writer.specs.Plans.{Plans, CountsAllPieces, IsFilled}
-use Rattle.chunk_writer.specs.Stops.{numbers, StopsAt, StopsBehind}
+use Rattle.chunk_writer.specs.Stops.{numbers, Ends}
+use Rattle.chunk_writer.specs.StopSteps.{StopsBehind}
 
 -- The plan of a scribe, whose store held the first bytes when it was opened and holds the second now, stands for a history.
 -- While it goes on, all pieces that are sure stand behind the first bytes. Where it stopped, it stopped at a piece of each
@@ -145,12 +147,6 @@ pub record PutsFront {X : Type 0} (seen : SeenExtents X) (options : FileOptions)
   pub before : OnErr end (count < length records)
 
 -- ---- the end
-
--- how the file of extras and a history ended: all of it stands behind what the store held, or the writer stopped at a piece of it
-abbrev pub Ends : FileOptions → List Top → Option (List ℕ) → Option (List ℕ) → List Rec → Written → Result Unit Stop → Type 0
-Ends options extras opened now history written (Ok it) = Adds opened now (file_of options extras history)
-    × (written.blocks ≡ length (blocks_in (pieces_of options.chunk history))) × (written.bytes ≡ length (file_of options extras history))
-Ends options extras opened now history written (Err stop) = StopsAt options extras history opened now stop written
 
 -- The second scribe is the first with its end, which came to this with so many blocks and bytes, those of the front among them.
 -- A whole file is with the system.

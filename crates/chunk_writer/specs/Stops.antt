@@ -1,19 +1,16 @@
 -- Where a writer stopped, and what its store holds then.
-use Rattle.std.specs.Prelude.{◌≡◌, ℕ, ◌+◌, ◌-◌, ◌≤◌, List, [], ◌++◌, length, take, Option, Some, Result, Ok, Err}
+use Rattle.std.specs.Prelude.{◌≡◌, ℕ, List, length, Option, Result, Ok, Err, ◌+◌, ◌-◌, [], ◌++◌, take, Some}
 use Rattle.rec_data.specs.declared.owned.Rec.{Rec}
-use Rattle.mcap_io.specs.declared.outside.AppendRefused.{AppendRefused}
-use Rattle.mcap_io.specs.declared.outside.AppendRefused.TheVariants as append_refusals
-use Rattle.mcap_io.specs.Outside.{LiveState, RisesOnce, Adds, AddsPart}
+use Rattle.mcap_io.specs.Outside.{Adds, RisesOnce}
 use Rattle.mcap_model.specs.declared.options.FileOptions.{FileOptions}
 use Rattle.mcap_model.specs.declared.ends.Stop.{Stop}
+use Rattle.mcap_model.specs.Blocks.{pieces_of, blocks_in}
+use Rattle.mcap_model.specs.Tops.{Top}
+use Rattle.mcap_model.specs.File.{file_of}
+use Rattle.chunk_writer.specs.declared.tape.Written.{Written}
 use Rattle.mcap_model.specs.declared.ends.Stop.TheVariants as stops
 use Rattle.mcap_model.specs.Places.{At}
-use Rattle.mcap_model.specs.Tops.{Top}
-use Rattle.mcap_model.specs.Blocks.{pieces_of, blocks_in}
-use Rattle.mcap_model.specs.File.{front}
 use Rattle.mcap_model.specs.Pieces.{file_pieces, pieces_before, StoppedAt}
-use Rattle.live_entry.specs.Entries.{TellsPiece}
-use Rattle.chunk_writer.specs.declared.tape.Written.{Written}
 use Rattle.chunk_writer.specs.Limits.{StopWhy}
 
 -- so many blocks and bytes
@@ -37,11 +34,6 @@ pub record StopsAt (options : FileOptions) (extras : List Top) (history : List R
   pub took : (start : List ℕ) → opened ≡ Some start
       → (text : List ℕ) × (now ≡ Some (start ++ text)) × StoppedAt (file_pieces options extras history) place stop text written.bytes
 
--- the same behind the front, whose bytes are among those that stand
-pub record StopsBehind (options : FileOptions) (extras : List Top) (history : List Rec) (opened now : Option (List ℕ)) (stop : Stop) (written : Written) : Type 0 where
-  pub stops : StopsAt options extras history opened now stop written
-  pub begun : length (front options.profile) ≤ written.bytes
-
 -- the count of a store rises by one where the writer stopped at a fault, which carries it, and stands still otherwise
 abbrev pub StopCause : ℕ → ℕ → Stop → Type 0
 StopCause before now (stops.Fault faults) = RisesOnce before now × (faults ≡ now)
@@ -52,23 +44,8 @@ abbrev pub Cause : {X : Type 0} → ℕ → ℕ → Result X Stop → Type 0
 Cause before now (Ok it) = now ≡ before
 Cause before now (Err stop) = StopCause before now stop
 
--- What an append did to a store: the piece stands there, in its extent; or it was refused, and the store took some first
--- bytes of it where it failed, and none where memory lacked.
-abbrev pub Appends : {X : Type 0} → (X → Option (List ℕ)) → (X → ℕ) → LiveState → LiveState → List ℕ → Result X Stop → Type 0
-Appends tells size old new piece (Ok e) = Adds old.held new.held piece × (size e ≡ length piece)
-    × TellsPiece (tells e) old.held piece
-Appends tells size old new piece (Err (stops.Fault faults)) = AddsPart old.held new.held 0 piece
-Appends tells size old new piece (Err (stops.Limit blocks bytes)) = ⊥
-Appends tells size old new piece (Err stops.Memory) = new.held ≡ old.held
-
--- the same of what it holds alone
-abbrev pub Added : Option (List ℕ) → Option (List ℕ) → List ℕ → Result Unit Stop → Type 0
-Added old new piece (Ok it) = Adds old new piece
-Added old new piece (Err (stops.Fault faults)) = AddsPart old new 0 piece
-Added old new piece (Err (stops.Limit blocks bytes)) = ⊥
-Added old new piece (Err stops.Memory) = new ≡ old
-
--- why it was refused, with the count of the store
-abbrev pub refusal : ℕ → AppendRefused → Stop
-refusal faults (append_refusals.Failed taken) = stops.Fault faults
-refusal faults append_refusals.Memory = stops.Memory
+-- how the file of extras and a history ended: all of it stands behind what the store held, or the writer stopped at a piece of it
+abbrev pub Ends : FileOptions → List Top → Option (List ℕ) → Option (List ℕ) → List Rec → Written → Result Unit Stop → Type 0
+Ends options extras opened now history written (Ok it) = Adds opened now (file_of options extras history)
+    × (written.blocks ≡ length (blocks_in (pieces_of options.chunk history))) × (written.bytes ≡ length (file_of options extras history))
+Ends options extras opened now history written (Err stop) = StopsAt options extras history opened now stop written

@@ -9,9 +9,9 @@ use Rattle.mcap_model.specs.declared.ends.Stop.{Stop}
 use Rattle.mcap_model.specs.declared.ends.Stop.TheVariants as stops
 use Rattle.mcap_model.specs.Tops.{Top}
 use Rattle.mcap_model.specs.History.{Numbered}
-use Rattle.mcap_model.specs.File.{written_of}
+use Rattle.mcap_model.specs.Histories.{written_of}
 use Rattle.mcap_model.proofs.ShownMessages.{zip_joined}
-use Rattle.record_cache.specs.Buffers.{IsKept}
+use Rattle.record_cache.specs.KeptRecords.{IsKept}
 use Rattle.live_entry.specs.declared.entry.Entry.{Entry}
 use Rattle.live_entry.specs.Entries.{SeenExtents, HasBlockExtent, seen_before}
 use Rattle.chunk_writer.specs.declared.phase.Phase.{Phase}

@@ -1,7 +1,7 @@
 -- The extras that wait for the end of their file.
 use Rattle.std.specs.Prelude.{◌≡◌, ℕ, List, All}
 use Rattle.mcap_model.specs.Tops.{Top, top_bytes}
-use Rattle.mcap_model.specs.Laws.{IsExtra}
+use Rattle.mcap_model.specs.ReadBack.{IsExtra}
 use Rattle.chunk_writer.specs.declared.extras.Extras.TheInside.{Inside}
 
 abbrev pub framed_in : Inside → List (List ℕ)

@@ -1,7 +1,7 @@
 //! What a file may hold.
 ghost use Rattle.std.specs.Prelude.{◌≡◌, ◌+◌, ◌<◌, ◌≤◌, length};
 ghost use Rattle.mcap_wire.specs.Limits.{block_limit, file_limit};
-ghost use Rattle.chunk_writer.specs.Limits.{LimitKept};
+ghost use Rattle.chunk_writer.specs.LimitSteps.{LimitKept};
 
 use mcap_model::Stop;
 use mcap_wire::FILE_LIMIT;

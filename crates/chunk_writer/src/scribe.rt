@@ -4,7 +4,7 @@ ghost use Rattle.std.specs.Prelude.{◌≡◌, ◌<◌, ◌≤◌, ◌+◌, ℕ,
 ghost use Rattle.mcap_wire.specs.Layout.{content_limit};
 ghost use Rattle.mcap_wire.specs.Limits.{chunk_size_limit, file_limit};
 ghost use Rattle.rec_data.specs.declared.owned.Rec.{Rec};
-ghost use Rattle.rec_data.specs.Owned.{LengthsFit};
+ghost use Rattle.rec_data.specs.OwnedReading.{LengthsFit};
 ghost use Rattle.mcap_io.specs.Outside.{LiveState};
 ghost use Rattle.mcap_model.specs.declared.options.FileOptions.{FileOptions};
 ghost use Rattle.mcap_model.specs.declared.ends.Stop.{Stop};
@@ -13,14 +13,15 @@ ghost use Rattle.chunk_build.specs.Chunker.{AreFramed};
 ghost use Rattle.record_cache.specs.Buffers.{held};
 ghost use Rattle.mcap_model.specs.Tops.{Top, top_bytes};
 ghost use Rattle.mcap_model.specs.Made.{top};
-ghost use Rattle.mcap_model.specs.Laws.{IsExtra};
+ghost use Rattle.mcap_model.specs.ReadBack.{IsExtra};
 ghost use Rattle.mcap_model.specs.File.{front};
 ghost use Rattle.live_entry.specs.Entries.{seen_before};
 ghost use Rattle.chunk_writer.specs.declared.phase.Phase.TheVariants as phases;
 ghost use Rattle.chunk_writer.specs.Limits.{Holds};
 ghost use Rattle.chunk_writer.specs.Plans.{Plans, StoppedBefore};
-ghost use Rattle.chunk_writer.specs.Stops.{numbers, StopsAt, StopsBehind, Cause, StopCause, Appends, Added, refusal};
-ghost use Rattle.chunk_writer.specs.Scribes.{ScribeStands, WritesHistory, ScribeGrows, GathersExtra, FillsExtras, OfEach, KeepsOn, store_of, phase_of, blocks_of, planned_bytes, GivesEntry, GivesLast, ListsEntry, PutsFront, GoesThrough, Ends, EndsFile, CountsLast, CountsBytes, IsEntryWith, AddsLast};
+ghost use Rattle.chunk_writer.specs.Stops.{numbers, StopsAt, Cause, StopCause, Ends};
+ghost use Rattle.chunk_writer.specs.StopSteps.{StopsBehind, Appends, Added, refusal};
+ghost use Rattle.chunk_writer.specs.Scribes.{ScribeStands, WritesHistory, ScribeGrows, GathersExtra, FillsExtras, OfEach, KeepsOn, store_of, phase_of, blocks_of, planned_bytes, GivesEntry, GivesLast, ListsEntry, PutsFront, GoesThrough, EndsFile, CountsLast, CountsBytes, IsEntryWith, AddsLast};
 
 use crate::buffered::append_records;
 use crate::extras::Extras;

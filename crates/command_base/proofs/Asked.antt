@@ -4,7 +4,8 @@ use Rattle.std.specs.List.{flat_map, list_any}
 use Rattle.std.proofs.lemmas.List.Folds.{list_any-append}
 use Rattle.std.proofs.lemmas.Grind.{flat_map-append}
 use Rattle.command_base.specs.declared.complaint.Complaint.{Complaint}
-use Rattle.command_base.specs.Texts.{complained, trouble_line, said}
+use Rattle.command_base.specs.Texts.{trouble_line, said}
+use Rattle.command_base.specs.ComplaintTroubles.{complained}
 
 -- a test of the elements of lists is one of the lists
 pub any_in_all : {X Y : Type 0} (p : Y → Bool) (f : X → List Y) (xs : List X) → list_any p (flat_map f xs) ≡ list_any (λ x. list_any p (f x)) xs

@@ -7,8 +7,8 @@ use Rattle.mcap_io.specs.Outside.{SinkState, RisesOnce, AddsPart}
 use Rattle.mcap_io.proofs.Calls.{adds-adds, adds-part}
 use Rattle.mcap_io.specs.declared.outside.Failed.{Failed}
 use Rattle.command_base.specs.declared.waiting.Waiting.{Waiting}
-use Rattle.command_base.specs.Printing.{TellsAll, TellsTextPart, Takes, Prints}
-use Rattle.command_base.specs.Putting.{TakesAll, TakesTextPart, GoesOn, PutsText}
+use Rattle.command_base.specs.Printing.{TellsAll, TellsTextPart, Takes}
+use Rattle.command_base.specs.Putting.{TakesAll, TakesTextPart, GoesOn, PutsText, Prints}
 
 -- a count that stood still and then rose by one rose by one
 pub rises_on : (before middle now : ℕ) → middle ≡ before → RisesOnce middle now → RisesOnce before now

@@ -1,7 +1,8 @@
 -- What openings and keepings do to the counts of a world.
 use Rattle.std.proofs.Common.{◌≡◌, ◌⊎◌, ℕ, zero, suc, ◌-◌, ◌^◌, ◌<◌, ◌≤◌, not, Bool, true, false, if◌then◌else◌, Result, Ok, Err, refl, ap, inl, inr, arith}
 use Rattle.std.proofs.lemmas.Bool.{ne_eqb}
-use Rattle.mcap_io.specs.Outside.{Rose, HasCause, added, went_well}
+use Rattle.mcap_io.specs.Outside.{Rose, added}
+use Rattle.mcap_io.specs.OutsideCalls.{HasCause, went_well}
 use Rattle.mcap_io.specs.declared.outside.Failed.{Failed}
 use Rattle.command_base.specs.Ran.{failed_so}
 

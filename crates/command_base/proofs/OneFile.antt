@@ -4,7 +4,8 @@ use Rattle.std.specs.Prelude.{◌↔◌}
 use Rattle.std.specs.Option.{option_map}
 use Rattle.std.proofs.lemmas.List.{append-nil}
 use Rattle.std.proofs.lemmas.Bool.{both_ways, ne_eqb, false_from_ne_true}
-use Rattle.mcap_io.specs.Outside.{Rose, RisesOnce, HasCause, Opens, OpenCause, CountsStand, added, SinkState, WorldState, Opening, Keeping, Told, opened, with_opening, went_well, NoneIsOut, Notes}
+use Rattle.mcap_io.specs.Outside.{Rose, RisesOnce, added, SinkState, WorldState, Opening, Keeping, Told, opened}
+use Rattle.mcap_io.specs.OutsideCalls.{HasCause, Opens, OpenCause, CountsStand, with_opening, went_well, NoneIsOut, Notes}
 use Rattle.mcap_io.proofs.Notes.{noted_in}
 use Rattle.mcap_io.specs.Stores.{StoreState}
 use Rattle.mcap_io.specs.declared.outside.Failed.{Failed}
@@ -17,7 +18,8 @@ use Rattle.command_base.specs.declared.one_file.Faults.{Faults}
 use Rattle.command_base.specs.Printing.{TellsAll, Takes}
 use Rattle.command_base.specs.Texts.{Trouble, bad_words, fault, output_fault, grammar, compressed, limit, output_limit, not_indexed, flaw, no_memory, asked_status, status_of}
 use Rattle.command_base.specs.Ran.{Scene, counts_in, AnyRose, IsCaused, Blames, kept, refused, failed_so, source_faults, live_faults, named_when, failed_names, Failed as WhichFailed, troubles_of, Complains}
-use Rattle.command_base.specs.OneFile.{Ending, was_read, halted, failing, lacked, text_of, is_lack, findings_of, one_troubles, ending_status, IsHalt, HaltsWell, single_file, NameRead, PrintsEnding, AskedRose, ShowsFaults, ReadsOne}
+use Rattle.command_base.specs.OneFile.{Ending, was_read, halted, failing, lacked, text_of, is_lack, findings_of, ending_status, single_file, NameRead, AskedRose, ReadsOne}
+use Rattle.command_base.specs.OneFileSteps.{one_troubles, IsHalt, HaltsWell, PrintsEnding, ShowsFaults}
 use Rattle.command_base.proofs.Counting.{added_none, kept_adds, kept_well, still_where, blamed, not_risen}
 use Rattle.command_base.proofs.Opened.{tells_more, SameNames, leaves_same}
 use Rattle.command_base.proofs.Blamed.{each_one, some_one}

@@ -3,7 +3,8 @@ use Rattle.std.proofs.Common.{◌≡◌, ℕ, zero, suc, List, [], ◌∷◌, �
 use Rattle.std.specs.Prelude.{IsSome, true, false}
 use Rattle.std.specs.Option.{option_map}
 use Rattle.std.proofs.lemmas.Bool.{both_ways}
-use Rattle.mcap_io.specs.Outside.{Opening, Keeping, Told, opened, with_opening, went_well, Names, OthersSame, SourceState, LiveState, WorldState, NoneIsOut, Notes}
+use Rattle.mcap_io.specs.Outside.{Opening, Keeping, Told, opened, Names, SourceState, LiveState, WorldState}
+use Rattle.mcap_io.specs.OutsideCalls.{with_opening, went_well, OthersSame, NoneIsOut, Notes}
 use Rattle.mcap_io.specs.declared.outside.Failed.{Failed}
 use Rattle.mcap_io.specs.declared.outside.ObjectKind.TheVariants as kinds
 use Rattle.mcap_io.proofs.Notes.{noted_in}

@@ -1,7 +1,8 @@
 -- What the opening, the reading and the keeping of a file's name come to.
 use Rattle.std.proofs.Common.{◌≡◌, ℕ, ◌^◌, ◌<◌, Bool, List, [], ◌∷◌, Some, Result, Ok, Err, refl, sym, subst, inl, inr, ◌∙◌}
 use Rattle.std.specs.Prelude.{true, false}
-use Rattle.mcap_io.specs.Outside.{Opens, OpenCause, CountsStand, SourceState, WorldState, Told, Keeping, Opening}
+use Rattle.mcap_io.specs.Outside.{SourceState, WorldState, Told, Keeping, Opening}
+use Rattle.mcap_io.specs.OutsideCalls.{Opens, OpenCause, CountsStand}
 use Rattle.mcap_io.specs.Stores.{StoreState}
 use Rattle.mcap_io.specs.declared.outside.Failed.{Failed}
 use Rattle.mcap_io.specs.declared.outside.ObjectKind.{ObjectKind}
@@ -10,8 +11,10 @@ use Rattle.mcap_io.specs.declared.outside.OpenRefused.TheVariants as open_refusa
 use Rattle.command_base.specs.declared.file_reading.Reading.{Reading}
 use Rattle.command_base.specs.declared.file_reading.Reading.TheVariants as readings
 use Rattle.command_base.specs.Ran.{Scene, kept, refused, failed_so}
-use Rattle.command_base.specs.OneFile.{Ending, was_read, halted, failing, lacked, HaltsWell}
-use Rattle.command_base.specs.Readings.{is_failure, IsRefusal, ending_of, StoreUse, store_use, IsOpened, IsSourceRead, IsStoreRead, NameEnds, ReadsFile}
+use Rattle.command_base.specs.OneFile.{Ending, was_read, halted, failing, lacked}
+use Rattle.command_base.specs.OneFileSteps.{HaltsWell}
+use Rattle.command_base.specs.Readings.{ending_of, StoreUse, store_use, IsOpened, IsSourceRead, IsStoreRead, ReadsFile}
+use Rattle.command_base.specs.ReadingSteps.{is_failure, IsRefusal, NameEnds}
 use Rattle.command_base.proofs.Counting.{failed_often}
 use Rattle.command_base.proofs.OneFile.{one_not_two, IsInput, IsTakenBack, taken_back, unopened, unopened_for_memory, halts_so, read_halts, failed_halts, lacked_halts, lacked_sure, read_sure}
 

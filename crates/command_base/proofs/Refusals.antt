@@ -6,7 +6,7 @@ use Rattle.mcap_model.specs.declared.refusals.ReadingRefused.TheVariants as refu
 use Rattle.mcap_model.specs.declared.refusals.IndexedRefused.{IndexedRefused}
 use Rattle.mcap_model.specs.declared.refusals.IndexedRefused.TheVariants as by_index
 use Rattle.command_base.specs.OneFile.{failing, refusal_ending, indexed_ending}
-use Rattle.command_base.specs.Readings.{IsRefusal}
+use Rattle.command_base.specs.ReadingSteps.{IsRefusal}
 
 -- nothing is read
 pub refusal_is : (file : List ℕ) (why : ReadingRefused) → IsRefusal (refusal_ending file why)

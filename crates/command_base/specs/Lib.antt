@@ -1,6 +1,12 @@
-pub mod OneFile
+-- What the promise of the program reaches, in the order to read it.
 pub mod Printing
-pub mod Putting
-pub mod Ran
-pub mod Readings
 pub mod Texts
+pub mod Ran
+pub mod OneFile
+pub mod Readings
+-- What the functions of this crate and its proofs say besides.
+pub mod OneFileSteps
+pub mod Putting
+pub mod Scenes
+pub mod ReadingSteps
+pub mod ComplaintTroubles

@@ -1,17 +1,16 @@
 -- What a command does that reads one file and prints of it: how the reading ended, what is printed and told of that, and
 -- which parts are blamed.
 use Rattle.std.specs.Prelude.{◌≡◌, ◌⊎◌, ◌↔◌, ℕ, List, [], ◌∷◌, ◌++◌, Bool, true, false}
-use Rattle.mcap_io.specs.Outside.{Rose, SinkState, WorldState, Opening}
+use Rattle.mcap_io.specs.Outside.{Rose, WorldState, Opening}
 use Rattle.mcap_io.specs.declared.outside.ObjectKind.{ObjectKind}
 use Rattle.mcap_model.specs.declared.refusals.ReadingRefused.{ReadingRefused}
 use Rattle.mcap_model.specs.declared.refusals.ReadingRefused.TheVariants as refusals
 use Rattle.mcap_model.specs.declared.refusals.IndexedRefused.{IndexedRefused}
 use Rattle.mcap_model.specs.declared.refusals.IndexedRefused.TheVariants as indexed
 use Rattle.command_base.specs.declared.faults.Counts.{Counts}
-use Rattle.command_base.specs.declared.one_file.Faults.{Faults}
-use Rattle.command_base.specs.Printing.{TellsAll, TellsTextPart}
-use Rattle.command_base.specs.Texts.{Trouble, fault, output_fault, grammar, compressed, limit, not_indexed, no_memory, asked_status}
-use Rattle.command_base.specs.Ran.{Scene, counts_in, AnyRose, Files, wanted, AreOpened, Leaves, CountsKept, named_when, failed_names, when, Findings, Ran}
+use Rattle.command_base.specs.Printing.{TellsAll}
+use Rattle.command_base.specs.Texts.{Trouble, grammar, compressed, limit, not_indexed, asked_status}
+use Rattle.command_base.specs.Ran.{Scene, counts_in, AnyRose, Files, wanted, AreOpened, Leaves, CountsKept, named_when, failed_names, Findings, Ran}
 
 -- ---- the reading
 
@@ -67,17 +66,6 @@ ending_status (halted trouble) = asked_status trouble
 ending_status failing = 3
 ending_status lacked = 5
 
--- what halts a reading is a file that breaks a rule, that isn't as it is wanted, or that passes a limit
-abbrev pub IsHalt : Trouble → Type 0
-IsHalt trouble = (asked_status trouble ≡ 1) ⊎ (asked_status trouble ≡ 4)
-
-abbrev pub HaltsWell : Ending → Type 0
-HaltsWell ending = (trouble : Trouble) → ending ≡ halted trouble → IsHalt trouble
-
--- all troubles, in their order, where the file and standard output failed so
-abbrev pub one_troubles : List ℕ → Ending → Bool → Bool → List Trouble
-one_troubles file ending failed printing = troubles_in ending ++ (when failed (fault file) ++ (when printing output_fault ++ when (is_lack ending) no_memory))
-
 -- ---- the file
 
 -- the one name, opened as an object of that kind
@@ -95,27 +83,11 @@ pub record NameRead (kind : ObjectKind) (file : List ℕ) (old new : WorldState)
   pub inputs_told : failed ≡ false → new.input_faults ≡ old.input_faults
   pub outputs : new.output_faults ≡ old.output_faults
 
--- ---- standard output
-
--- all of the text was taken, or a first part where the output failed; it is as it was where nothing is printed
-abbrev pub PrintsEnding : SinkState → SinkState → Ending → Bool → Type 0
-PrintsEnding before now (was_read text) broke = ((broke ≡ false) × TellsAll before now text) ⊎ ((broke ≡ true) × TellsTextPart before now text)
-PrintsEnding before now (halted trouble) broke = (broke ≡ false) × (now ≡ before)
-PrintsEnding before now failing broke = (broke ≡ false) × (now ≡ before)
-PrintsEnding before now lacked broke = (broke ≡ false) × (now ≡ before)
-
 -- ---- faults
 
 -- a count of what the command asks has risen: of the world, of its inputs, or of standard output
 abbrev pub AskedRose : Counts → Counts → Type 0
 AskedRose before now = Rose before.world now.world ⊎ (Rose before.inputs now.inputs ⊎ Rose before.printing now.printing)
-
--- Which parts failed: those that told it, and those of a count that rose. Each has its cause.
-pub record ShowsFaults (before now : Counts) (failed broke : Bool) (faults : Faults) : Type 0 where
-  pub file_told : (failed ≡ true) ⊎ (Rose before.world now.world ⊎ Rose before.inputs now.inputs) → faults.file ≡ true
-  pub file_cause : faults.file ≡ true → (failed ≡ true) ⊎ (Rose before.world now.world ⊎ Rose before.inputs now.inputs)
-  pub printing_told : (broke ≡ true) ⊎ Rose before.printing now.printing → faults.printing ≡ true
-  pub printing_cause : faults.printing ≡ true → (broke ≡ true) ⊎ Rose before.printing now.printing
 
 -- ---- the command
 

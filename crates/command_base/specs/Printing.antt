@@ -1,7 +1,6 @@
 -- What printing a text leaves of it in a sink.
-use Rattle.std.specs.Prelude.{◌≡◌, ◌⊎◌, ℕ, List, [], Result, Ok, Err}
+use Rattle.std.specs.Prelude.{◌≡◌, ◌⊎◌, ℕ, List, []}
 use Rattle.mcap_io.specs.Outside.{SinkState, RisesOnce, Adds, AddsPart}
-use Rattle.mcap_io.specs.declared.outside.Failed.{Failed}
 
 -- all of the text was taken, and no write failed
 pub record TellsAll (before now : SinkState) (text : List ℕ) : Type 0 where
@@ -20,8 +19,3 @@ Tells before now text = TellsAll before now text ⊎ TellsTextPart before now te
 pub record Takes (before now : SinkState) (text : List ℕ) : Type 0 where
   pub tells : Tells before now text
   pub silent : text ≡ [] → now ≡ before
-
--- the same of a printing that says which of the two it was
-abbrev pub Prints : SinkState → SinkState → List ℕ → Result Unit Failed → Type 0
-Prints before now text (Ok it) = TellsAll before now text
-Prints before now text (Err why) = TellsTextPart before now text

@@ -17,9 +17,6 @@ pub record Scene : Type 0 where
   pub out : SinkState
   pub err : SinkState
 
-abbrev pub scene : WorldState → SinkState → SinkState → Scene
-scene world out err = record { world = world; out = out; err = err }
-
 -- ---- counts of faults
 
 -- the counts of the world, of its kept inputs and outputs, and of standard output

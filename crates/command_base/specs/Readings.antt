@@ -1,36 +1,23 @@
 -- What becomes of the name of a file that a command reads: its reading, and how that ended.
-use Rattle.std.specs.Prelude.{◌≡◌, ◌⊎◌, ℕ, List, [], ◌∷◌, Bool, true, false, Result, Ok, Err}
+use Rattle.std.specs.Prelude.{◌≡◌, ◌⊎◌, ℕ, List, [], ◌∷◌, Result, Ok, Err}
 use Rattle.mcap_io.specs.Outside.{SourceState, WorldState, Keeping, Opening, TellsName}
 use Rattle.mcap_io.specs.Stores.{StoreState, IsUnused, TellsStore}
 use Rattle.mcap_io.specs.declared.outside.ObjectKind.{ObjectKind}
 use Rattle.mcap_io.specs.declared.outside.ObjectKind.TheVariants as kinds
-use Rattle.mcap_io.specs.declared.outside.OpenRefused.{OpenRefused}
 use Rattle.mcap_io.specs.declared.outside.OpenRefused.TheVariants as open_refusals
 use Rattle.command_base.specs.declared.file_reading.Reading.{Reading}
 use Rattle.command_base.specs.declared.file_reading.Reading.TheVariants as readings
 use Rattle.command_base.specs.Ran.{Scene, kept, refused}
-use Rattle.command_base.specs.OneFile.{Ending, was_read, halted, failing, lacked, IsHalt, NameRead, ReadsOne}
+use Rattle.command_base.specs.OneFile.{Ending, was_read, failing, lacked, ReadsOne}
 
 -- ---- endings
 
--- nothing was read: the file halted it, its object failed, or memory lacked
-abbrev pub IsRefusal : Ending → Type 0
-IsRefusal (was_read text) = ⊥
-IsRefusal (halted trouble) = IsHalt trouble
-IsRefusal failing = Unit {0}
-IsRefusal lacked = Unit {0}
-
--- that of a reading, where this is the text of what was read, and so a refusal ends it
+-- the ending of a reading, where this is the text of what was read, and so a refusal ends it
 abbrev pub ending_of : {T R : Type 0} → (T → List ℕ) → (R → Ending) → Reading T R → Ending
 ending_of text refusal (readings.Unopened open_refusals.Failed) = failing
 ending_of text refusal (readings.Unopened open_refusals.Memory) = lacked
 ending_of text refusal (readings.Opened (Ok what)) = was_read (text what)
 ending_of text refusal (readings.Opened (Err why)) = refusal why
-
--- an opening was refused because the world failed
-abbrev pub is_failure : OpenRefused → Bool
-is_failure open_refusals.Failed = true
-is_failure open_refusals.Memory = false
 
 -- ---- objects
 
@@ -41,9 +28,6 @@ pub record StoreUse : Type 0 where
 
 abbrev pub store_use : ℕ → ℕ → StoreUse
 store_use faults asked = record { faults = faults; asked = asked }
-
-abbrev pub use_of : StoreState → StoreUse
-use_of store = store_use store.faults store.asked
 
 -- the source that was opened under the name told the bytes there, where the world tells; this came of its reading, and it was
 -- taken back
@@ -76,13 +60,6 @@ IsSourceRead Comes file world entries reading = IsOpened kinds.Source (SourceUnd
 -- and as a store
 abbrev pub IsStoreRead : {T R : Type 0} → (StoreState → StoreUse → Result T R → Type 0) → List ℕ → WorldState → List Opening → Reading T R → Type 0
 IsStoreRead Comes file world entries reading = IsOpened kinds.Store (StoreUnder Comes file world) file entries reading
-
--- the name's reading came to that, and ended so; and where it failed, a failure is told
-pub record NameEnds (kind : ObjectKind) (file : List ℕ) (old new : WorldState) (Reads : List Opening → Type 0) (ending : Ending) (failed : Bool) : Type 0 where
-  pub entries : List Opening
-  pub reading : Reads entries
-  pub name : NameRead kind file old new entries failed
-  pub sure : ending ≡ failing → failed ≡ true
 
 -- ---- commands
 

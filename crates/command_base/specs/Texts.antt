@@ -1,9 +1,7 @@
 -- What the program says on standard error, a line for each trouble; and the status that it ends with.
-use Rattle.std.specs.Prelude.{ℕ, List, [], ◌∷◌, ◌++◌, codes, decimal, Bool, ◌==◌, find, unwrap_or, Option, Some, None}
+use Rattle.std.specs.Prelude.{ℕ, List, [], ◌∷◌, ◌++◌, codes, decimal, Bool, ◌==◌, find, unwrap_or}
 use Rattle.std.specs.List.{flat_map, list_any}
 use Rattle.json.specs.Print.{quoted}
-use Rattle.command_base.specs.declared.complaint.Complaint.{Complaint}
-use Rattle.command_base.specs.declared.complaint.Complaint.TheVariants as complaints
 use Rattle.mcap_model.specs.declared.refusals.NotIndexed.{NotIndexed}
 use Rattle.mcap_model.specs.declared.refusals.NotIndexed.TheVariants as lacks
 use Rattle.mcap_model.specs.Kept.{Halt, at_end, grammar as breaks, compressed as names, beyond}
@@ -25,24 +23,6 @@ pub data Trouble : Type 0 where
   -- the rule of that number fails at that offset
   flaw : List ℕ → ℕ → ℕ → Trouble
   no_memory : Trouble
-
--- the trouble of a complaint
-abbrev pub trouble_of : Complaint → Trouble
-trouble_of complaints.BadWords = bad_words
-trouble_of (complaints.Fault name) = fault name.now
-trouble_of complaints.OutputFault = output_fault
-trouble_of (complaints.Grammar name n) = grammar name.now n
-trouble_of (complaints.Compressed name compression n) = compressed name.now compression.now n
-trouble_of (complaints.Limit name n) = limit name.now n
-trouble_of (complaints.OutputLimit name) = output_limit name.now
-trouble_of (complaints.NotIndexed name why) = not_indexed name.now why
-trouble_of (complaints.Flaw name rule n) = flaw name.now rule n
-trouble_of complaints.NoMemory = no_memory
-
--- that of a complaint that there may be
-abbrev pub complained : Option Complaint → List Trouble
-complained None = []
-complained (Some complaint) = trouble_of complaint ∷ []
 
 -- the words for what a file lacks
 abbrev pub unindexed_text : NotIndexed → List ℕ

@@ -1,7 +1,8 @@
 //! Telling standard error of the troubles of a command, and the status that they give. It takes no memory.
 ghost use Rattle.std.specs.Prelude.{◌≡◌, ◌∷◌, ◌++◌, []};
 ghost use Rattle.std.specs.List.{flat_map};
-ghost use Rattle.command_base.specs.Texts.{trouble_of, complained, bad_words, no_memory, said};
+ghost use Rattle.command_base.specs.Texts.{bad_words, no_memory, said};
+ghost use Rattle.command_base.specs.ComplaintTroubles.{trouble_of, complained};
 ghost use Rattle.command_base.specs.Printing.{Takes};
 ghost use Rattle.command_base.specs.Putting.{PutsText};
 ghost use Rattle.command_base.specs.Ran.{when, Complains};

@@ -1,7 +1,8 @@
 //! What the program says on standard error, and the status that it ends with.
 ghost use Rattle.std.specs.Prelude.{◌≡◌, ◌++◌, codes};
 ghost use Rattle.std.specs.List.{flat_map, list_any};
-ghost use Rattle.command_base.specs.Texts.{trouble_of, complained, compressed, flaw, unindexed_text, about, at_offset, trouble_line, asked_status, status_is_asked, status_of};
+ghost use Rattle.command_base.specs.Texts.{compressed, flaw, unindexed_text, about, at_offset, trouble_line, asked_status, status_is_asked, status_of};
+ghost use Rattle.command_base.specs.ComplaintTroubles.{trouble_of, complained};
 ghost use Rattle.command_base.specs.Putting.{PutsText};
 
 use crate::waiting::Waiting;

@@ -1,8 +1,9 @@
 //! The counts of faults that decide whether the outside failed.
 ghost use Rattle.std.specs.Prelude.{◌≡◌, ◌<◌, ◌^◌, ◌↔◌, IsTrue};
-ghost use Rattle.mcap_io.specs.Outside.{Rose, went_well};
+ghost use Rattle.mcap_io.specs.Outside.{Rose};
+ghost use Rattle.mcap_io.specs.OutsideCalls.{went_well};
 ghost use Rattle.command_base.specs.Ran.{counted_faults, failed_so};
-ghost use Rattle.command_base.specs.Readings.{is_failure as failed_to_open};
+ghost use Rattle.command_base.specs.ReadingSteps.{is_failure as failed_to_open};
 
 use mcap_io::{Failed, OpenRefused, Sink, World};
 

@@ -2,11 +2,14 @@
 ghost use Rattle.std.specs.Prelude.{◌≡◌, List, ℕ, true};
 ghost use Rattle.mcap_io.specs.declared.outside.ObjectKind.{ObjectKind};
 ghost use Rattle.mcap_io.specs.Outside.{Opening, WorldState};
-ghost use Rattle.command_base.specs.Texts.{complained};
+ghost use Rattle.command_base.specs.ComplaintTroubles.{complained};
 ghost use Rattle.command_base.specs.Printing.{Takes};
-ghost use Rattle.command_base.specs.Ran.{counted_faults, scene};
-ghost use Rattle.command_base.specs.OneFile.{Ending, was_read, failing, text_of, troubles_in, is_lack, NameRead, PrintsEnding, ReadsOne};
-ghost use Rattle.command_base.specs.Readings.{IsRefusal, ending_of};
+ghost use Rattle.command_base.specs.Ran.{counted_faults};
+ghost use Rattle.command_base.specs.Scenes.{scene};
+ghost use Rattle.command_base.specs.OneFile.{Ending, was_read, failing, text_of, troubles_in, is_lack, NameRead, ReadsOne};
+ghost use Rattle.command_base.specs.OneFileSteps.{PrintsEnding};
+ghost use Rattle.command_base.specs.Readings.{ending_of};
+ghost use Rattle.command_base.specs.ReadingSteps.{IsRefusal};
 
 use crate::complaint::Complaint;
 use crate::faults::Counts;

@@ -1,8 +1,9 @@
 //! What the commands share that read one file and print of it.
 ghost use Rattle.std.specs.Prelude.{◌≡◌};
-ghost use Rattle.command_base.specs.Texts.{complained};
+ghost use Rattle.command_base.specs.ComplaintTroubles.{complained};
 ghost use Rattle.command_base.specs.Ran.{Complains};
-ghost use Rattle.command_base.specs.OneFile.{Ending, troubles_in, is_lack, one_troubles, ShowsFaults};
+ghost use Rattle.command_base.specs.OneFile.{Ending, troubles_in, is_lack};
+ghost use Rattle.command_base.specs.OneFileSteps.{one_troubles, ShowsFaults};
 
 use crate::complaining::{complain_of, due_when};
 use crate::complaint::Complaint;

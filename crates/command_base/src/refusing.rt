@@ -1,6 +1,6 @@
 //! What a reading says that was refused.
 ghost use Rattle.std.specs.Prelude.{◌≡◌, List, ℕ};
-ghost use Rattle.command_base.specs.Texts.{complained};
+ghost use Rattle.command_base.specs.ComplaintTroubles.{complained};
 ghost use Rattle.command_base.specs.OneFile.{refusal_ending, indexed_ending, troubles_in, is_lack};
 
 use crate::complaint::Complaint;

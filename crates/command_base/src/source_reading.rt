@@ -2,9 +2,10 @@
 ghost use Rattle.std.specs.Prelude.{◌≡◌, ◌<◌, ◌^◌, ℕ, List, Result, Err};
 ghost use Rattle.mcap_io.specs.Outside.{SourceState};
 ghost use Rattle.mcap_io.specs.declared.outside.ObjectKind.{ObjectKind};
-ghost use Rattle.command_base.specs.Ran.{scene};
+ghost use Rattle.command_base.specs.Scenes.{scene};
 ghost use Rattle.command_base.specs.OneFile.{failing};
-ghost use Rattle.command_base.specs.Readings.{ending_of, IsSourceRead, NameEnds, ReadsFile};
+ghost use Rattle.command_base.specs.Readings.{ending_of, IsSourceRead, ReadsFile};
+ghost use Rattle.command_base.specs.ReadingSteps.{NameEnds};
 
 use crate::faults::{Counts, has_failed, is_failure};
 use crate::file_reading::{FileReading, ReadName, Reading, answer_reading};

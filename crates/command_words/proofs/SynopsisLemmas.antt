@@ -3,7 +3,8 @@ use Rattle.std.proofs.Common.{◌≡◌, ◌≢◌, ◌⊎◌, ◌==◌, ◌&&�
 use Rattle.std.specs.Option.{option_to_list}
 use Rattle.std.specs.Str.{bytes_eq}
 use Rattle.std.proofs.lemmas.Slice.Eq.{bytes_eq-Decides}
-use Rattle.command_words.specs.Synopses.{IsOneOf, Synopsis, Word, are_distinct, can_all_name, can_name, has_name, has_no_equals, places_with}
+use Rattle.command_words.specs.Synopses.{IsOneOf, Synopsis, are_distinct, can_all_name, can_name, has_name, has_no_equals, places_with}
+use Rattle.command_words.specs.Defaults.{Word}
 use Rattle.command_words.specs.Items.{IsBare}
 
 -- ---- tests

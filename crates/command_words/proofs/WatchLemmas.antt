@@ -9,7 +9,8 @@ use Rattle.std.proofs.lemmas.List.{append_cancel_left}
 use Rattle.std.proofs.lemmas.List.Elements.{All-map}
 use Rattle.std.proofs.lemmas.List.FromFn.{get_or-map-range_with_len, length-map-range_with_len, map-range_with_len_more}
 use Rattle.command_words.specs.Items.{Word}
-use Rattle.command_words.specs.Commands.{NamesDiffer, IsUnwatched, watch_name, watch_names}
+use Rattle.command_words.specs.Commands.{NamesDiffer, IsUnwatched}
+use Rattle.command_words.specs.Defaults.{watch_name, watch_names}
 
 -- a text with more behind it is another
 grows : (out : Word) (x : ℕ) (more : Word) → out ≡ out ++ x ∷ more → ⊥

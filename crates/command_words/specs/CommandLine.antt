@@ -5,7 +5,8 @@ use Rattle.clap.specs.Simple.{new_shape}
 use Rattle.clap.specs.declared.builder.action.ArgAction.TheVariants.{Append, SetTrue}
 use Rattle.clap.specs.declared.builder.command.Command.{Command}
 use Rattle.clap.specs.declared.builder.command.Command.TheViews.{out-Command}
-use Rattle.command_words.specs.Synopses.{Synopsis, Word}
+use Rattle.command_words.specs.Synopses.{Synopsis}
+use Rattle.command_words.specs.Defaults.{Word}
 use Rattle.command_words.specs.Commands.{synopsis_of, verbs}
 use Rattle.command_words.specs.declared.command.FileCommand.{FileCommand}
 use Rattle.command_words.specs.declared.verbs.Verb.{Verb}

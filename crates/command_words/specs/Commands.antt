@@ -1,13 +1,15 @@
 -- Which command the words of a command line are.
-use Rattle.std.specs.Prelude.{◌≡◌, ◌≢◌, ◌≤◌, ℕ, ◌^◌, ◌*◌, ◌-◌, ⊤, Bool, true, false, List, [], ◌∷◌, ◌++◌, refl, codes, decimal, length, map, AllPairs, Option, Some, None, unwrap_or, if◌then◌else◌}
-use Rattle.std.specs.List.{All, flat_map, range_with_len}
+use Rattle.std.specs.Prelude.{◌≡◌, ◌≢◌, ◌≤◌, ℕ, ◌^◌, ◌*◌, ◌-◌, ⊤, Bool, true, false, List, [], ◌∷◌, ◌++◌, refl, codes, length, map, AllPairs, Option, Some, None, unwrap_or, if◌then◌else◌}
+use Rattle.std.specs.List.{All, flat_map}
 use Rattle.std.specs.Option.{option_to_list}
 use Rattle.std.specs.Str.Parse.{IsNumeral, digits_value}
-use Rattle.mcap_wire.specs.Limits.{chunk_size_limit, buffer_limit, profile_limit}
+use Rattle.mcap_wire.specs.Limits.{chunk_size_limit}
+use Rattle.mcap_wire.specs.RecordingLimits.{buffer_limit, profile_limit}
 use Rattle.mcap_model.specs.declared.options.FileOptions.{FileOptions}
 use Rattle.mcap_model.specs.declared.replay.Range.{Range}
 use Rattle.command_words.specs.Synopses.{Synopsis}
-use Rattle.command_words.specs.Items.{Word, Item, WordsAreItems, given, place_of}
+use Rattle.command_words.specs.Defaults.{Word, usual_chunk_size, usual_limit, watch_name}
+use Rattle.command_words.specs.Items.{Item, WordsAreItems, given, place_of}
 use Rattle.command_words.specs.declared.command.Command.{Command}
 use Rattle.command_words.specs.declared.command.FileCommand.{FileCommand}
 use Rattle.command_words.specs.declared.command.FileCommand.TheVariants.{Info, Check}
@@ -100,14 +102,6 @@ usage_line verb = codes "  " ++ (usage_of verb ++ codes "\n")
 abbrev pub usage_text : Word
 usage_text = codes "usage: mcaprec\n" ++ flat_map usage_line verbs
 
--- the size of chunks where the words say none: 768 KiB
-abbrev pub usual_chunk_size : ℕ
-usual_chunk_size = 768 * 2 ^ 10
-
--- the bytes of the buffer where the words say none: 100 MiB
-abbrev pub usual_limit : ℕ
-usual_limit = 100 * 2 ^ 20
-
 -- how many feeds are recorded or generated, or files merged, at most
 abbrev pub feed_limit : ℕ
 feed_limit = 64
@@ -131,14 +125,6 @@ latest = 2 ^ 64 - 1
 -- all times
 abbrev pub whole_time : Range
 whole_time = record { start = 0; end = None }
-
--- the name of the file of a watcher, numbered from 1
-abbrev pub watch_name : Word → ℕ → Word
-watch_name out j = out ++ (codes ".watch" ++ decimal j)
-
--- the names of the files of so many watchers, in order
-abbrev pub watch_names : Word → ℕ → List Word
-watch_names out many = map (watch_name out) (range_with_len 1 many)
 
 -- no two of the names are equal, and none is the output's
 abbrev pub NamesDiffer : Word → List Word → Type 0

@@ -3,7 +3,7 @@ use Rattle.std.specs.Prelude.{◌≡◌, ◌≢◌, ◌⊎◌, ◌<◌, ℕ, len
 use Rattle.std.specs.Borrow.{Bor}
 use Rattle.std.specs.List.{All, flat_map}
 use Rattle.std.specs.Str.{bytes_eq}
-pub use Rattle.command_words.specs.Synopses.{Word}
+pub use Rattle.command_words.specs.Defaults.{Word}
 use Rattle.command_words.specs.Synopses.{IsOneOf, Synopsis}
 
 -- What stands in front of `--`: `--name` that takes no value, an option with its value behind `=` or in the next word, or

@@ -2,9 +2,7 @@
 use Rattle.std.specs.Prelude.{◌≡◌, ◌⊎◌, ◌==◌, ◌&&◌, ◌||◌, ℕ, Bool, true, false, not, List, [], ◌∷◌, ◌++◌, Option}
 use Rattle.std.specs.Option.{option_to_list}
 use Rattle.std.specs.Str.{bytes_eq}
-
-abbrev pub Word : Type 0
-Word = List ℕ
+use Rattle.command_words.specs.Defaults.{Word}
 
 -- the name is one of these
 abbrev pub IsOneOf : List Word → Word → Type 0

@@ -1,7 +1,8 @@
 //! The names of the files of watchers.
 ghost use Rattle.std.specs.Prelude.{◌≡◌, ◌≢◌, ◌≤◌, ◌↔◌, ◌++◌, ℕ, List, IsTrue, IfOk, MatchOption, codes, decimal};
 ghost use Rattle.std.specs.List.{All};
-ghost use Rattle.command_words.specs.Commands.{NamesDiffer, IsUnwatched, watch_name, watch_names as names_of_watches, watcher_limit};
+ghost use Rattle.command_words.specs.Commands.{NamesDiffer, IsUnwatched, watcher_limit};
+ghost use Rattle.command_words.specs.Defaults.{watch_name, watch_names as names_of_watches};
 ghost use Rattle.command_words.specs.Items.{Word};
 ghost use Rattle.command_words.specs.Matches.{AreUnwatched, values_in};
 

@@ -12,7 +12,8 @@ use Rattle.record_core.specs.Desk.{fields_of_message}
 use Rattle.record_core.specs.declared.answers.Found.{Found}
 use Rattle.record_core.specs.declared.answers.NewMessage.{NewMessage}
 use Rattle.feed_lane.specs.declared.report.Accepted.{Accepted}
-use Rattle.feed_lane.specs.Pass.{PassState, Finds, message_record, with_published}
+use Rattle.feed_lane.specs.Pass.{PassState}
+use Rattle.feed_lane.specs.PassCalls.{Finds, message_record, with_published}
 use Rattle.feed_lane.specs.Lanes.{ReportLists, messages, Accepts, full_in, InTurnWith, IsGiven, IsAccountedFor, ListsFit}
 use Rattle.feed_lane.specs.Kept.{LaneIds}
 use Rattle.feed_lane.specs.Steps.{Extends, DeclaredWithId, ListsStand}

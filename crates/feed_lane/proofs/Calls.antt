@@ -20,9 +20,11 @@ use Rattle.record_core.specs.declared.answers.Declared.{Declared}
 use Rattle.feed_lane.specs.declared.report.DeclaredAt.{DeclaredAt}
 use Rattle.feed_lane.specs.declared.report.Cause.{Cause}
 use Rattle.feed_lane.specs.declared.report.Cause.TheVariants as causes
-use Rattle.feed_lane.specs.Pass.{FullAt, Reason, for_size, for_room, for_id, PassState, Finds, full_at, with_found, with_reason, with_full, with_lack, GetsId, PublishedBy, DeclaredInto, FoundAtLeast}
+use Rattle.feed_lane.specs.Pass.{FullAt, Reason, for_size, for_room, for_id, PassState, full_at, FoundAtLeast}
+use Rattle.feed_lane.specs.PassCalls.{Finds, with_found, with_reason, with_full, with_lack, GetsId, PublishedBy, DeclaredInto}
 use Rattle.feed_lane.specs.Lanes.{ReportLists, messages, HasTooMuchData, IsChannelOf, IsWide, LastFindsEnd, CauseFits, IsDeclared, IsUndeclared, IsTried, full_in, lack_in, reason_in, IsLacking, InStep, ListsFit}
-use Rattle.feed_lane.specs.Steps.{Above, goes_on, DeclaredWithId, RefusalLeaves, publish_cause, declare_cause, full_cause}
+use Rattle.feed_lane.specs.Steps.{Above, DeclaredWithId, RefusalLeaves, publish_cause, declare_cause, full_cause}
+use Rattle.feed_lane.specs.Causes.{goes_on}
 use Rattle.feed_lane.proofs.Members.{false_true, open_by, finds_above, seen_later, in_step_none, in_step_one}
 
 -- ---- refusals

@@ -10,7 +10,8 @@ use Rattle.mcap_model.proofs.Lists.{at_either, at_second, pairs_at, pairs_from}
 use Rattle.record_core.specs.declared.answers.Found.{Found}
 use Rattle.feed_lane.specs.declared.report.DeclaredAt.{DeclaredAt}
 use Rattle.feed_lane.specs.declared.report.Refused.{Refused}
-use Rattle.feed_lane.specs.Pass.{PassState, with_places, Finds, AreAdded, with_declared}
+use Rattle.feed_lane.specs.Pass.{PassState, with_places, AreAdded}
+use Rattle.feed_lane.specs.PassCalls.{Finds, with_declared}
 use Rattle.feed_lane.specs.Lanes.{ReportLists, IsOn, DeclaresContent, DeclarationAdds, IsTried, full_in, ShowsDeclaration, InTurnWith, IsGiven, ListsFit}
 use Rattle.feed_lane.specs.Kept.{LaneIds, with_channel_id}
 use Rattle.feed_lane.specs.Steps.{Extends, DeclaredWithId, IdsStand, ListsStand}

@@ -4,7 +4,8 @@ use Rattle.std.proofs.lemmas.Grind.{flat_map-append}
 use Rattle.std.proofs.lemmas.List.{length-append}
 use Rattle.std.proofs.lemmas.Option.{none-some}
 use Rattle.mcap_io.specs.Outside.{SourceState}
-use Rattle.mcap_model.specs.Tops.{Top, flat, flattened, Placed, walked}
+use Rattle.mcap_model.specs.Tops.{Top, flat, flattened, Placed}
+use Rattle.mcap_model.specs.WalkedRecords.{walked}
 use Rattle.mcap_model.specs.Made.{top}
 use Rattle.mcap_model.specs.Kept.{reading_limits, Fits, Good}
 use Rattle.mcap_model.specs.Scan.{tops_of}
@@ -17,7 +18,8 @@ use Rattle.mcap_model.specs.declared.refusals.ReadingRefused.TheVariants as refu
 use Rattle.mcap_scan.specs.declared.reader.Reader.{Reader}
 use Rattle.mcap_scan.specs.declared.reader.Stage.{Stage}
 use Rattle.mcap_scan.specs.declared.reader.Stage.TheVariants as stages
-use Rattle.mcap_scan.specs.Scanning.{Stands as ReaderStands, StageStands, IsGoing, FindsEnd, RefusalStands, MemoryStands, tables_of}
+use Rattle.mcap_scan.specs.Scanning.{Stands as ReaderStands, StageStands, IsGoing, FindsEnd, tables_of}
+use Rattle.mcap_scan.specs.RefusedReadings.{RefusalStands, MemoryStands}
 use Rattle.mcap_scan.proofs.Scanning.{tables_stand, good_stand}
 use Rattle.mcap_scan.proofs.Refused.{nothing_read}
 use Rattle.record_walk.specs.Walking.{ReachesLast}
@@ -32,7 +34,8 @@ use Rattle.record_core.specs.declared.answers.Found.{Found}
 use Rattle.mcap_model.specs.declared.ends.End.{End}
 use Rattle.feed_lane.specs.Pass.{PassState}
 use Rattle.feed_lane.specs.Lanes.{messages, LaneFits}
-use Rattle.feed_lane.specs.Steps.{lists_of, IsOpen, goes_on, LaneStands, AreKnown, MessageTaken, MessagesWait, RecordHandled, passed_among, CountsUp, Counted, over_end}
+use Rattle.feed_lane.specs.Steps.{lists_of, IsOpen, LaneStands, AreKnown, MessageTaken, MessagesWait, RecordHandled, passed_among, CountsUp, Counted, over_end}
+use Rattle.feed_lane.specs.Causes.{goes_on}
 use Rattle.feed_lane.specs.Feeds.{ReadSoFar, FeedEnds, IsInLast, AllHandled, TakesMessages, reported, Reports}
 use Rattle.feed_lane.proofs.Members.{true_false, unended}
 use Rattle.feed_lane.proofs.Growing.{stands_more}

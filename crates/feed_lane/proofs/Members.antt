@@ -15,9 +15,11 @@ use Rattle.feed_lane.specs.declared.report.Accepted.{Accepted}
 use Rattle.feed_lane.specs.declared.report.DeclaredAt.{DeclaredAt}
 use Rattle.feed_lane.specs.declared.report.Cause.{Cause}
 use Rattle.feed_lane.specs.declared.report.Cause.TheVariants as causes
-use Rattle.feed_lane.specs.Pass.{FullAt, PassState, with_places, Finds, FoundAtLeast}
+use Rattle.feed_lane.specs.Pass.{FullAt, PassState, with_places, FoundAtLeast}
+use Rattle.feed_lane.specs.PassCalls.{Finds}
 use Rattle.feed_lane.specs.Lanes.{DeclarationAdds, Accepts, LacksId, CauseFits, full_in, InStep}
-use Rattle.feed_lane.specs.Steps.{Above, Extends, IsOpen, goes_on, DeclaredWithId}
+use Rattle.feed_lane.specs.Steps.{Above, Extends, IsOpen, DeclaredWithId}
+use Rattle.feed_lane.specs.Causes.{goes_on}
 
 pub false_true : false ≡ true → ⊥
 false_true e = cc

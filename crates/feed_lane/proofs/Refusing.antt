@@ -15,7 +15,8 @@ use Rattle.feed_lane.specs.declared.report.Cause.{Cause}
 use Rattle.feed_lane.specs.Pass.{FullAt, Reason, PassState}
 use Rattle.feed_lane.specs.Lanes.{ReportLists, messages, CauseFits, IsTried, full_in, fulls_of, lack_in, lacks_of, reason_in, reasons_of, ShowsDeclaration, IsLacking, InStep, InTurnWith, ListsFit}
 use Rattle.feed_lane.specs.Kept.{LaneIds}
-use Rattle.feed_lane.specs.Steps.{goes_on, RefusalLeaves, ListsStand, LastEnds, ListsTell}
+use Rattle.feed_lane.specs.Steps.{RefusalLeaves, ListsStand, LastEnds, ListsTell}
+use Rattle.feed_lane.specs.Causes.{goes_on}
 use Rattle.feed_lane.proofs.Members.{in_step_joined, declares_on, accepts_on, cause_on, declared_above, accepted_above}
 
 abbrev pub refused_at : ℕ → Cause → Refused

@@ -8,7 +8,8 @@ use Rattle.mcap_model.specs.Places.{At}
 use Rattle.mcap_model.proofs.Places.{at_none}
 use Rattle.record_core.specs.declared.answers.Found.{Found}
 use Rattle.record_core.specs.declared.answers.NewMessage.{NewMessage}
-use Rattle.feed_lane.specs.Pass.{Reason, PassState, with_places, IsLater, Finds, with_published, with_declared, message_record}
+use Rattle.feed_lane.specs.Pass.{Reason, PassState, with_places}
+use Rattle.feed_lane.specs.PassCalls.{IsLater, Finds, with_published, with_declared, message_record}
 use Rattle.feed_lane.specs.Tapes.{numbered_from, end_when, found_now, found_when, tape_pass}
 use Rattle.feed_lane.proofs.Members.{placed_at}
 

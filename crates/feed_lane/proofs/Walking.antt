@@ -7,7 +7,8 @@ use Rattle.std.proofs.lemmas.List.Elements.{filter-append}
 use Rattle.std.proofs.lemmas.List.Sums.{sum_by-cons}
 use Rattle.std.proofs.lemmas.Grind.{flat_map-append}
 use Rattle.mcap_model.specs.Places.{At, Each}
-use Rattle.mcap_model.specs.Tops.{Top, top_bytes, spelled, offset_behind, chunk_records, records_in, is_chunk, inner_tops, unchunked, is_flat_kind, flattened, flat, Placed, placed_inside, walked_one, walked_from, walked}
+use Rattle.mcap_model.specs.Tops.{Top, top_bytes, spelled, offset_behind, chunk_records, records_in, is_chunk, inner_tops, unchunked, is_flat_kind, flattened, flat, Placed, placed_inside}
+use Rattle.mcap_model.specs.WalkedRecords.{walked_one, walked_from, walked}
 use Rattle.mcap_model.specs.Made.{top}
 use Rattle.mcap_model.specs.Rules.{is_unknown, stands_in_chunk}
 use Rattle.mcap_model.specs.Kept.{reading_limits, Fits, Good}

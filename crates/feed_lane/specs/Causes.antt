@@ -31,3 +31,14 @@ is_memory causes.TooManySchemas = false
 is_memory causes.TooManyChannels = false
 is_memory (causes.TooManyRecords count) = false
 is_memory causes.Memory = true
+
+-- a lane goes on behind a message that was refused for that
+abbrev pub goes_on : Cause → Bool
+goes_on (causes.Full held from to) = true
+goes_on (causes.TooLarge len) = true
+goes_on (causes.Closed at) = false
+goes_on (causes.Stopped at stop) = false
+goes_on causes.TooManySchemas = true
+goes_on causes.TooManyChannels = true
+goes_on (causes.TooManyRecords count) = true
+goes_on causes.Memory = true

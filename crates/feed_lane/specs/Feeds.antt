@@ -1,5 +1,5 @@
 -- What the report on a feed says.
-use Rattle.std.specs.Prelude.{◌≡◌, ◌⊎◌, ℕ, ◌+◌, ◌<◌, ◌≤◌, List, [], ◌∷◌, ◌++◌, length, Bool, false, Some}
+use Rattle.std.specs.Prelude.{◌≡◌, ◌⊎◌, ℕ, ◌+◌, ◌<◌, ◌≤◌, List, [], ◌∷◌, ◌++◌, length, false, Some}
 use Rattle.mcap_io.specs.Outside.{SourceState}
 use Rattle.mcap_model.specs.declared.ends.End.{End}
 use Rattle.mcap_model.specs.Places.{Has, Each}
@@ -8,7 +8,7 @@ use Rattle.mcap_model.specs.declared.refusals.ReadingRefused.TheVariants as refu
 use Rattle.mcap_model.specs.Kept.{reading_limits, Good, at_end}
 use Rattle.mcap_model.specs.Written.{passed}
 use Rattle.mcap_scan.specs.Sources.{ReadFromFront}
-use Rattle.mcap_scan.specs.Scanning.{HaltsSo, RefusalStands}
+use Rattle.mcap_scan.specs.RefusedReadings.{HaltsSo, RefusalStands}
 use Rattle.record_core.specs.declared.answers.Found.{Found}
 use Rattle.feed_lane.specs.declared.report.Refused.{Refused}
 use Rattle.feed_lane.specs.declared.report.FeedReport.{FeedReport}
@@ -16,7 +16,7 @@ use Rattle.feed_lane.specs.declared.report.FeedEnd.{FeedEnd}
 use Rattle.feed_lane.specs.declared.report.FeedEnd.TheVariants as feed_ends
 use Rattle.feed_lane.specs.Pass.{PassState, FoundAtLeast}
 use Rattle.feed_lane.specs.Lanes.{ReportLists, messages, IsTried, LaneFits}
-use Rattle.feed_lane.specs.Steps.{goes_on}
+use Rattle.feed_lane.specs.Causes.{goes_on}
 
 -- ---- ends
 
@@ -61,10 +61,6 @@ TakesMessages tops handled count refused feed_ends.Ended = EndsInLast tops handl
 -- the lists of a report
 abbrev pub reported : FeedReport → ReportLists
 reported report = record { accepted = report.accepted.items; declared = report.declared.items; refused = report.refused.items }
-
--- the report lists messages, or only counts them
-abbrev pub ListsMessages : FeedReport → Bool → Type 0
-ListsMessages report listed = (report.accepted.kept ≡ listed) × (report.refused.kept ≡ listed)
 
 -- A report on a feed, of the source as it was before and is now and of the pass as it is now: records that were read, how
 -- many of their messages were handled, how it ended, and that the lists fit. The feed ends with the intake where a message was

@@ -12,8 +12,7 @@ use Rattle.mcap_model.specs.Tops.{Top}
 use Rattle.mcap_model.specs.Fields.{IsSchema, ChannelFields, MessageFields, IsMessage}
 use Rattle.mcap_model.specs.History.{message_of}
 use Rattle.mcap_model.specs.Written.{SourceShows}
-use Rattle.record_core.specs.Ids.{fields_of_schema}
-use Rattle.record_core.specs.Desk.{declared_size}
+use Rattle.record_core.specs.DeclarationFields.{fields_of_schema, declared_size}
 use Rattle.record_core.specs.declared.answers.Found.{Found}
 use Rattle.record_core.specs.declared.answers.DeclareRefused.{DeclareRefused}
 use Rattle.record_core.specs.declared.answers.DeclareRefused.TheVariants as declaring
@@ -42,10 +41,6 @@ pub record IsOn (records : List Top) (index channel : ℕ) : Type 0 where
   pub is : IsMessage top channel message
 
 -- ---- declarations
-
--- a schema of a declaration by its fields
-abbrev pub definition_of : List ℕ → List ℕ → List ℕ → SchemaDef
-definition_of name encoding payload = record { name = name; encoding = encoding; payload = payload }
 
 -- the record of that place shows a Schema of that id with the fields of the declaration's schema
 pub record ShowsDef (records : List Top) (id : ℕ) (s : SchemaDef) : Type 0 where

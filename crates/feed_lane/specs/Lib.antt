@@ -1,9 +1,12 @@
-pub mod Pass
+-- What the promise of the program reaches, in the order to read it.
 pub mod Causes
+pub mod Pass
 pub mod Lanes
+pub mod Feeds
+-- What the functions of this crate and its proofs say besides.
+pub mod PassCalls
 pub mod Kept
 pub mod Sizes
 pub mod Steps
-pub mod Feeds
 pub mod Laws
 pub mod Tapes

@@ -5,7 +5,7 @@ use Rattle.rec_data.specs.declared.channel.Channel.{Channel}
 use Rattle.rec_data.specs.declared.channel.ChannelDef.{ChannelDef}
 use Rattle.mcap_model.specs.Fields.{ChannelFields}
 use Rattle.mcap_model.specs.Tops.{Top}
-use Rattle.record_core.specs.Desk.{schema_size, declared_size}
+use Rattle.record_core.specs.DeclarationFields.{schema_size, declared_size}
 use Rattle.feed_lane.specs.Lanes.{SchemaShown, DeclaresContent}
 
 -- the fields of a Channel that was read, but for its ids

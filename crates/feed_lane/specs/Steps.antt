@@ -1,6 +1,8 @@
 -- A lane between its steps: for which records it stands, what a call on its pass leaves to be listed, what becomes of the
 -- message at hand, and what it takes of a feed, record by record.
-use Rattle.std.specs.Prelude.{◌≡◌, ℕ, ◌+◌, ◌^◌, ◌<◌, ◌≤◌, List, ◌++◌, length, filter, Bool, true, false, vec_len, vec_capacity, Option, Some, None, Result, Ok, Err, OnOk}
+use Rattle.std.specs.Prelude.{◌≡◌, Bool, ℕ, List, ◌+◌, ◌^◌, ◌<◌, ◌≤◌, ◌++◌, length, filter, true, false, vec_len, vec_capacity, Option, Some, None, Result, Ok, Err, OnOk}
+use Rattle.feed_lane.specs.declared.report.FeedReport.{FeedReport}
+use Rattle.rec_data.specs.declared.schema.SchemaDef.{SchemaDef}
 use Rattle.mcap_wire.specs.Limits.{declaration_limit}
 use Rattle.rec_data.specs.declared.owned.Rec.{Rec}
 use Rattle.rec_data.specs.declared.channel.ChannelDef.{ChannelDef}
@@ -32,6 +34,7 @@ use Rattle.feed_lane.specs.Pass.{FullAt, PassState, FoundAtLeast}
 use Rattle.feed_lane.specs.Kept.{LaneIds, KeptStands}
 use Rattle.feed_lane.specs.Sizes.{IsLength}
 use Rattle.feed_lane.specs.Lanes.{ReportLists, messages, IsOn, CauseFits, IsTried, full_in, lack_in, reason_in, IsLacking, InStep, ListsFit, LaneFits}
+use Rattle.feed_lane.specs.Causes.{goes_on}
 
 -- ---- what a pass shows, call by call
 
@@ -54,17 +57,6 @@ abbrev pub IsOpen : PassState → Type 0
 IsOpen pass = (found : Found) → pass.found ≡ Some found → found.end ≡ None
 
 -- ---- a lane
-
--- a lane goes on behind a message that was refused for that
-abbrev pub goes_on : Cause → Bool
-goes_on (causes.Full held from to) = true
-goes_on (causes.TooLarge len) = true
-goes_on (causes.Closed at) = false
-goes_on (causes.Stopped at stop) = false
-goes_on causes.TooManySchemas = true
-goes_on causes.TooManyChannels = true
-goes_on (causes.TooManyRecords count) = true
-goes_on causes.Memory = true
 
 -- a channel of the feed was declared, and got this id
 pub record DeclaredWithId (records : List Top) (declared : List DeclaredAt) (source id : ℕ) : Type 0 where
@@ -244,3 +236,15 @@ Counted before now n result = (before ≤ now) × (now ≤ before + n) × OnOk r
 abbrev pub over_end : Over → FeedEnd
 over_end overs.Memory = feed_ends.Refused refusals.Memory
 over_end overs.Ended = feed_ends.Ended
+
+-- ---- a report's lists
+
+-- the report lists messages, or only counts them
+abbrev pub ListsMessages : FeedReport → Bool → Type 0
+ListsMessages report listed = (report.accepted.kept ≡ listed) × (report.refused.kept ≡ listed)
+
+-- ---- a schema of a declaration
+
+-- a schema of a declaration by its fields
+abbrev pub definition_of : List ℕ → List ℕ → List ℕ → SchemaDef
+definition_of name encoding payload = record { name = name; encoding = encoding; payload = payload }

@@ -7,8 +7,9 @@ ghost use Rattle.mcap_model.specs.Tops.{Top};
 ghost use Rattle.mcap_model.specs.Declarations.{TablesOf};
 ghost use Rattle.mcap_model.specs.History.{channel_of};
 ghost use Rattle.record_core.specs.Sights.{SchemaFits, DefFits};
-ghost use Rattle.record_core.specs.Desk.{schema_size};
-ghost use Rattle.feed_lane.specs.Lanes.{definition_of, SchemaShown, DeclaresContent};
+ghost use Rattle.record_core.specs.DeclarationFields.{schema_size};
+ghost use Rattle.feed_lane.specs.Lanes.{SchemaShown, DeclaresContent};
+ghost use Rattle.feed_lane.specs.Steps.{definition_of};
 ghost use Rattle.feed_lane.specs.Kept.{KeptStands};
 ghost use Rattle.feed_lane.specs.Sizes.{shown_by, IsSchemaLength, IsLength};
 

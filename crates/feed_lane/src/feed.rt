@@ -1,9 +1,10 @@
 //! The lane of a feed, from its first record to its end.
 ghost use Rattle.std.specs.Prelude.{◌≡◌, ℕ, []};
-ghost use Rattle.feed_lane.specs.Pass.{PassState, no_calls};
+ghost use Rattle.feed_lane.specs.Pass.{PassState};
+ghost use Rattle.feed_lane.specs.PassCalls.{no_calls};
 ghost use Rattle.feed_lane.specs.Lanes.{LaneFits};
-ghost use Rattle.feed_lane.specs.Steps.{over_end as end_of_over};
-ghost use Rattle.feed_lane.specs.Feeds.{reported, Reports, ListsMessages};
+ghost use Rattle.feed_lane.specs.Steps.{over_end as end_of_over, ListsMessages};
+ghost use Rattle.feed_lane.specs.Feeds.{reported, Reports};
 
 use crate::lane::{Lane, Over};
 use crate::pass::Pass;

@@ -5,12 +5,14 @@ ghost use Rattle.mcap_model.specs.Places.{At};
 ghost use Rattle.mcap_model.specs.Tops.{Top};
 ghost use Rattle.mcap_model.specs.Fields.{IsMessage};
 ghost use Rattle.mcap_model.specs.Declarations.{TablesOf};
-ghost use Rattle.feed_lane.specs.Pass.{PassState, no_calls, DeclaredInto};
+ghost use Rattle.feed_lane.specs.Pass.{PassState};
+ghost use Rattle.feed_lane.specs.PassCalls.{no_calls, DeclaredInto};
 ghost use Rattle.feed_lane.specs.Kept.{no_schema, IsKnown, KnownBehind};
 ghost use Rattle.feed_lane.specs.Lanes.{messages, IsOn, DeclaresContent};
 ghost use Rattle.record_core.specs.Sights.{DefFits};
 ghost use Rattle.feed_lane.specs.Sizes.{IsLength};
-ghost use Rattle.feed_lane.specs.Steps.{lists_of, IdsStand, LaneStands, ListsStand, Roomy, KeepsLists, KeepsAs, AreKnown, AtHand, RefusalIsDue, DeclaredWithId, ThenShows, ChannelFound, MessageTaken, goes_on as goes_on_behind, publish_cause as cause_of_publishing, declare_cause as cause_of_declaring, full_cause as cause_of_full, fields_of};
+ghost use Rattle.feed_lane.specs.Steps.{lists_of, IdsStand, LaneStands, ListsStand, Roomy, KeepsLists, KeepsAs, AreKnown, AtHand, RefusalIsDue, DeclaredWithId, ThenShows, ChannelFound, MessageTaken, publish_cause as cause_of_publishing, declare_cause as cause_of_declaring, full_cause as cause_of_full, fields_of};
+ghost use Rattle.feed_lane.specs.Causes.{goes_on as goes_on_behind};
 
 use crate::describing::{definition_over, excess};
 use crate::ids::Ids;

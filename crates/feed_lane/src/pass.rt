@@ -3,7 +3,8 @@ ghost use Rattle.std.specs.Prelude.{◌≡◌, ◌<◌, ℕ, Option, OnOk};
 ghost use Rattle.mcap_wire.specs.Limits.{declaration_limit};
 ghost use Rattle.rec_data.specs.declared.schema.SchemaDef.{SchemaDef};
 ghost use Rattle.record_core.specs.Sights.{DefFits};
-ghost use Rattle.feed_lane.specs.Pass.{PassState, for_size, with_reason, DeclaredInto, PublishedBy};
+ghost use Rattle.feed_lane.specs.Pass.{PassState, for_size};
+ghost use Rattle.feed_lane.specs.PassCalls.{with_reason, DeclaredInto, PublishedBy};
 
 use rec_data::ChannelDef;
 use record_core::{DeclareRefused, Declared, Found, NewMessage, PublishRefused};

@@ -10,7 +10,8 @@ use Rattle.mcap_model.specs.Whole.{V2}
 use Rattle.mcap_model.specs.Valid.{Flaw, flaw_1, flaw_2, flaw_4, flaw_5}
 use Rattle.mcap_model.proofs.Flaws.{left_size}
 use Rattle.file_check.specs.declared.flaws.FailedRule.{FailedRule}
-use Rattle.file_check.specs.Halting.{failed_at, lacks_magic, told_cut, HasLengthAt, CutsAreFlaws}
+use Rattle.file_check.specs.Halting.{failed_at, lacks_magic, told_cut}
+use Rattle.file_check.specs.HaltFlaws.{HasLengthAt, CutsAreFlaws}
 use Rattle.file_check.proofs.Halted.{good_short, as_told, at_plain, broken_there, next_there, not_four}
 
 -- ---- a record that is cut off

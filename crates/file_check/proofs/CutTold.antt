@@ -12,14 +12,15 @@ use Rattle.mcap_model.specs.Tops.{Top, Tops, has_head}
 use Rattle.mcap_model.specs.Rules.{V1}
 use Rattle.mcap_model.specs.Kept.{reading_limits, Halt, at_end, grammar, Halts, short_head}
 use Rattle.mcap_model.proofs.TakenRecords.{none_good, halted, ended}
-use Rattle.mcap_scan.specs.Scanning.{HaltsSo}
+use Rattle.mcap_scan.specs.RefusedReadings.{HaltsSo}
 use Rattle.index_check.specs.declared.section.Section.{Section}
 use Rattle.file_check.specs.declared.flaws.FailedRule.{FailedRule}
 use Rattle.mcap_model.specs.declared.refusals.ReadingRefused.{ReadingRefused}
 use Rattle.mcap_model.specs.declared.refusals.ReadingRefused.TheVariants as refusals
 use Rattle.file_check.specs.Reading.{IndexIsWrong, ReadsSection}
 use Rattle.file_check.specs.Halting.{failed_at, lacks_magic}
-use Rattle.file_check.specs.Checking.{IsFault, checked_front}
+use Rattle.file_check.specs.Checking.{IsFault}
+use Rattle.file_check.specs.CheckSteps.{checked_front}
 use Rattle.file_check.specs.CutFiles.{rule_told, NamesCut}
 use Rattle.file_check.proofs.Refusing.{halted_at}
 

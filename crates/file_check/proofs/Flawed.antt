@@ -7,7 +7,7 @@ use Rattle.mcap_model.specs.Kept.{reading_limits, Good}
 use Rattle.mcap_model.specs.Valid.{IsPlain, Flaw, flaw_9}
 use Rattle.mcap_model.proofs.Lists.{each_taken}
 use Rattle.mcap_model.proofs.Readings.{short_there}
-use Rattle.file_check.specs.LastChunk.{IndexFails}
+use Rattle.file_check.specs.CutFiles.{IndexFails}
 
 -- the file goes on with these last bytes, which weren't read
 pub index_flaw : (bytes last : List ℕ) (tops : List Top) (rest : List ℕ) (offset : ℕ) → Tops bytes tops rest → Good reading_limits tops → length last ≡ 8 → IndexFails tops offset → Flaw (bytes ++ last) 9 offset

@@ -23,7 +23,8 @@ use Rattle.index_check.specs.Messages.{HoldsMessages}
 use Rattle.index_check.proofs.Followers.{as_index, behind_open}
 use Rattle.index_check.proofs.Spotted.{offset_last}
 use Rattle.file_check.specs.declared.last_chunk.LastChunk.{LastChunk}
-use Rattle.file_check.specs.LastChunk.{LastOf, IndexFails}
+use Rattle.file_check.specs.LastChunk.{LastOf}
+use Rattle.file_check.specs.CutFiles.{IndexFails}
 
 -- ---- lists
 

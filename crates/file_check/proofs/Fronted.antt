@@ -15,7 +15,8 @@ use Rattle.file_check.specs.declared.reading.SectionRefused.{SectionRefused}
 use Rattle.file_check.specs.declared.reading.SectionRefused.TheVariants as sections
 use Rattle.mcap_model.specs.declared.refusals.ReadingRefused.{ReadingRefused}
 use Rattle.file_check.specs.Reading.{ReadsSection}
-use Rattle.file_check.specs.Checking.{checked_front, SectionCause, SectionAsks, CheckCause, RefusedCause}
+use Rattle.file_check.specs.Checking.{CheckCause}
+use Rattle.file_check.specs.CheckSteps.{checked_front, SectionCause, SectionAsks, RefusedCause}
 
 -- where the reading had no failure the store had none
 still : (old new : StoreState) (next end failures : ℕ) → WasRead old new next end failures → failures ≡ 0 → new.faults ≡ old.faults

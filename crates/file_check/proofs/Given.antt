@@ -4,7 +4,8 @@ use Rattle.std.proofs.lemmas.Bool.{eqb-true}
 use Rattle.std.proofs.lemmas.List.{append-nil, append_cancel_left, length-append}
 use Rattle.std.proofs.lemmas.List.Elements.{filter-append}
 use Rattle.mcap_model.specs.Places.{At, Each}
-use Rattle.mcap_model.specs.Tops.{Top, Placed, top_bytes, spelled, offset_behind, is_chunk, inner_tops, unchunked, is_flat_kind, flattened, flat, placed_inside, walked_one, walked_from, walked}
+use Rattle.mcap_model.specs.Tops.{Top, Placed, top_bytes, spelled, offset_behind, is_chunk, inner_tops, unchunked, is_flat_kind, flattened, flat, placed_inside}
+use Rattle.mcap_model.specs.WalkedRecords.{walked_one, walked_from, walked}
 use Rattle.mcap_model.specs.Made.{top}
 use Rattle.mcap_model.specs.Kept.{reading_limits, Fits, Good}
 use Rattle.mcap_model.specs.Scan.{tops_of}

@@ -19,7 +19,8 @@ use Rattle.mcap_model.proofs.Readings.{top_of, short_there, length-top}
 use Rattle.mcap_model.proofs.Flaws.{left_size}
 use Rattle.summary_check.proofs.Cuts.{inner_is}
 use Rattle.file_check.specs.declared.flaws.FailedRule.{FailedRule}
-use Rattle.file_check.specs.Halting.{failed, failed_at, told_flaw, HasLengthAt, HaltsAreFlaws}
+use Rattle.file_check.specs.Halting.{failed, failed_at}
+use Rattle.file_check.specs.HaltFlaws.{told_flaw, HasLengthAt, HaltsAreFlaws}
 
 -- ---- the record at the front of some bytes
 

@@ -14,7 +14,8 @@ use Rattle.mcap_model.specs.declared.refusals.ReadingRefused.TheVariants as refu
 use Rattle.summary_check.specs.Files.{spelled_file, FailsThere}
 use Rattle.summary_check.specs.Judging.{IsJudged}
 use Rattle.summary_check.specs.Sectioned.{IsSectioned}
-use Rattle.file_check.specs.Checking.{CountsSection, EndsAtMagic, IsSectionRead, JudgesBehind, told_by, Checked}
+use Rattle.file_check.specs.Checking.{CountsSection, Checked}
+use Rattle.file_check.specs.CheckSteps.{EndsAtMagic, IsSectionRead, JudgesBehind, told_by}
 use Rattle.file_check.proofs.Halted.{left_there, stand_whole}
 use Rattle.file_check.proofs.Refusing.{inner_size, inner_whole}
 

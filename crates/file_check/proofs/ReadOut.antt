@@ -5,7 +5,8 @@ use Rattle.mcap_model.specs.Tops.{Top}
 use Rattle.mcap_scan.specs.declared.reader.Reader.{Reader}
 use Rattle.mcap_scan.specs.declared.reader.Stage.{Stage}
 use Rattle.mcap_scan.specs.declared.reader.Stage.TheVariants as stages
-use Rattle.mcap_scan.specs.Scanning.{Stands, StageStands, IsGoing, IsEnded, MemoryStands}
+use Rattle.mcap_scan.specs.Scanning.{Stands, StageStands, IsGoing, IsEnded}
+use Rattle.mcap_scan.specs.RefusedReadings.{MemoryStands}
 use Rattle.mcap_model.specs.declared.tables.Tables.{Tables}
 use Rattle.std.specs.Prelude.{ℕ}
 use Rattle.file_check.specs.Reading.{HasReadGood}

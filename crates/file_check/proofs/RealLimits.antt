@@ -12,7 +12,7 @@ use Rattle.mcap_model.specs.Whole.{AreShort, IsWhole}
 use Rattle.mcap_model.proofs.Places.{at_last}
 use Rattle.mcap_model.proofs.Readings.{all_short, one_follows, begun}
 use Rattle.mcap_model.proofs.Flaws.{left_size}
-use Rattle.summary_check.specs.Files.{PassesLimit}
+use Rattle.summary_check.specs.PassedLimits.{PassesLimit}
 use Rattle.summary_check.proofs.Cuts.{front_length}
 use Rattle.file_check.specs.Checking.{HaltsBefore}
 use Rattle.file_check.specs.Laws.{IsPastLimits, LimitsAreReal}

@@ -10,15 +10,17 @@ use Rattle.mcap_model.specs.Tops.{Top, Tops}
 use Rattle.mcap_model.specs.Kept.{reading_limits, Good, Halt, grammar, Halts}
 use Rattle.mcap_model.specs.Whole.{EndsWithMagic, V9}
 use Rattle.mcap_model.specs.Valid.{IsPlain, WherePlain, FailsAmong, Flaw, flaw_2, flaw_9}
-use Rattle.mcap_scan.specs.Scanning.{HaltsSo}
-use Rattle.file_check.specs.LastChunk.{IndexFails}
+use Rattle.mcap_scan.specs.RefusedReadings.{HaltsSo}
+use Rattle.file_check.specs.CutFiles.{IndexFails}
 use Rattle.index_check.specs.declared.section.Section.{Section}
 use Rattle.file_check.specs.Reading.{IndexIsWrong, ReadsSection}
 use Rattle.file_check.specs.declared.flaws.FailedRule.{FailedRule}
-use Rattle.file_check.specs.Halting.{told_flaw, told_cut, HasLengthAt}
+use Rattle.file_check.specs.Halting.{told_cut}
+use Rattle.file_check.specs.HaltFlaws.{told_flaw, HasLengthAt}
 use Rattle.mcap_model.specs.declared.refusals.ReadingRefused.{ReadingRefused}
 use Rattle.mcap_model.specs.declared.refusals.ReadingRefused.TheVariants as refusals
-use Rattle.file_check.specs.Checking.{HaltsBefore, IsUnchecked, IsFault, checked_front, TellsFlaw, TellsCut, IsUnended, EndsAtMagic, IsSectionRead}
+use Rattle.file_check.specs.Checking.{HaltsBefore, IsUnchecked, IsFault}
+use Rattle.file_check.specs.CheckSteps.{checked_front, TellsFlaw, TellsCut, IsUnended, EndsAtMagic, IsSectionRead}
 use Rattle.mcap_model.proofs.Places.{at_none}
 use Rattle.file_check.proofs.CutFlaws.{cuts_are_flaws}
 use Rattle.file_check.proofs.Halted.{good_short, stand_whole, halts_are_flaws}

@@ -2,14 +2,15 @@
 use Rattle.std.proofs.Common.{◌≡◌, ℕ, List, [], ◌∷◌, ◌++◌, length, Result, Ok, Err, Option, Some, None, sym, ap, subst, inl, inr, ◌∙◌, arith}
 use Rattle.std.proofs.lemmas.List.{length-append}
 use Rattle.mcap_wire.specs.declared.faults.Memory.{Memory}
-use Rattle.mcap_model.specs.Tops.{Top, Placed, walked, offset_behind}
+use Rattle.mcap_model.specs.Tops.{Top, Placed, offset_behind}
+use Rattle.mcap_model.specs.WalkedRecords.{walked}
 use Rattle.index_check.proofs.Spotted.{spots_below}
 use Rattle.file_check.specs.declared.gathering.Gathering.{Gathering}
 use Rattle.file_check.specs.declared.top_records.TopRecords.{TopRecords}
 use Rattle.file_check.specs.Gathering.{GatheredOf, GatheredTo, StandBefore, RecordGathered}
 use Rattle.file_check.specs.Givens.{flat_given, GivenTo}
 use Rattle.file_check.specs.IndexedRecords.{IndexedOf}
-use Rattle.file_check.specs.LastChunk.{IndexFails}
+use Rattle.file_check.specs.CutFiles.{IndexFails}
 use Rattle.file_check.specs.RecordCounts.{CountsOf}
 use Rattle.file_check.specs.TopRecords.{TopsOf, TopTaken}
 use Rattle.file_check.proofs.Given.{IsNext, given_more, given_whole, flat_walked}

@@ -1,23 +1,27 @@
 -- What a check tells of a file that lacks one of its magics.
 use Rattle.std.specs.Prelude.{◌≡◌, ◌⊎◌, ℕ, List, length, Option, Some, Result, Ok, Err}
-use Rattle.mcap_io.specs.Outside.{SourceState}
-use Rattle.mcap_io.specs.Stores.{StoreState}
 use Rattle.mcap_model.specs.declared.checked.Verdict.{Verdict}
 use Rattle.mcap_model.specs.declared.checked.Verdict.TheVariants as verdicts
 use Rattle.mcap_model.specs.Tops.{Top, Tops}
 use Rattle.mcap_model.specs.Rules.{V1}
 use Rattle.mcap_model.specs.Kept.{reading_limits, Good, Halt, at_end, grammar, compressed, beyond, Halts}
-use Rattle.mcap_model.specs.Whole.{V2}
+use Rattle.mcap_model.specs.Whole.{V2, offset_of, V9}
 use Rattle.file_check.specs.declared.flaws.FailedRule.{FailedRule}
 use Rattle.mcap_model.specs.declared.refusals.ReadingRefused.{ReadingRefused}
 use Rattle.mcap_model.specs.declared.refusals.ReadingRefused.TheVariants as refusals
-use Rattle.file_check.specs.declared.reading.SectionRefused.{SectionRefused}
-use Rattle.file_check.specs.LastChunk.{IndexFails}
-use Rattle.file_check.specs.Reading.{ReadsSection}
 use Rattle.file_check.specs.Halting.{lacks_magic, told_cut}
-use Rattle.file_check.specs.Checking.{IsFault, checked_front}
+use Rattle.file_check.specs.Checking.{IsFault}
+use Rattle.mcap_model.specs.Places.{At}
 
 -- ---- the first magic
+
+-- one of the records breaks V9 at that offset
+pub record IndexFails (tops : List Top) (offset : ℕ) : Type 0 where
+  pub place : ℕ
+  pub top : Top
+  pub at : At tops place top
+  pub there : offset ≡ offset_of tops place
+  pub breaks : V9 tops place top → ⊥
 
 -- V1 fails at the front, unless the store fails
 abbrev pub NamesFront : Result Verdict ReadingRefused → Type 0
@@ -69,14 +73,3 @@ NamesCut file (Err refusals.Memory) = Unit {0}
 -- so it is of each file that has the first magic, and is too short for both or hasn't the last one
 abbrev pub TellsCutFile : Option (List ℕ) → Result Verdict ReadingRefused → Type 0
 TellsCutFile told result = (file : List ℕ) → told ≡ Some file → V1 file → (V2 file → ⊥) → NamesCut file result
-
--- ---- the steps
-
--- so it is told by a store of these bytes, of that length, whose data section was refused
-abbrev pub TellsCutRefusal : Option (List ℕ) → ℕ → SectionRefused → Result Verdict ReadingRefused → Type 0
-TellsCutRefusal told len why result = (old : StoreState) (now : SourceState) → old.bytes ≡ told → ReadsSection (checked_front old len) now (Err why)
-    → (file : List ℕ) → told ≡ Some file → length file ≡ len → NamesCut file result
-
--- of such a store, whatever became of its data section
-abbrev pub TellsCutStore : Option (List ℕ) → ℕ → Result Verdict ReadingRefused → Type 0
-TellsCutStore told len result = (file : List ℕ) → told ≡ Some file → length file ≡ len → NamesCut file result

@@ -11,7 +11,7 @@ use Rattle.file_check.specs.declared.gathering.DataEnd.{DataEnd}
 use Rattle.file_check.specs.declared.top_records.TopRecords.{TopRecords}
 use Rattle.file_check.specs.RecordCounts.{CountsOf}
 use Rattle.file_check.specs.Givens.{GivenTo, flat_given}
-use Rattle.file_check.specs.LastChunk.{IndexFails}
+use Rattle.file_check.specs.CutFiles.{IndexFails}
 use Rattle.file_check.specs.TopRecords.{TopsOf}
 
 -- this is kept of the records

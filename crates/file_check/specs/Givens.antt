@@ -1,7 +1,8 @@
 -- The records that were given in their places, and those of the top level among them.
 use Rattle.std.specs.Prelude.{◌≡◌, ◌⊎◌, ℕ, List, [], ◌∷◌, ◌++◌, filter, if◌then◌else◌}
 use Rattle.mcap_model.specs.Scan.{tops_of}
-use Rattle.mcap_model.specs.Tops.{Top, Placed, is_flat_kind, is_chunk, inner_tops, placed_inside, offset_behind, walked}
+use Rattle.mcap_model.specs.Tops.{Top, Placed, is_flat_kind, is_chunk, inner_tops, placed_inside, offset_behind}
+use Rattle.mcap_model.specs.WalkedRecords.{walked}
 
 -- the Schemas, Channels and Messages among them
 abbrev pub flat_given : List Placed → List Top

@@ -1,13 +1,13 @@
 -- The last chunk and the Message Indexes behind it.
 use Rattle.std.specs.Prelude.{◌≡◌, ℕ, List, ◌∷◌, ◌++◌, [], Result, Ok, Err, Option, Some, None, true, false}
 use Rattle.mcap_wire.specs.declared.faults.Memory.{Memory}
-use Rattle.mcap_model.specs.Places.{At}
 use Rattle.mcap_model.specs.Tops.{Top, offset_behind}
-use Rattle.mcap_model.specs.Whole.{offset_of, V9}
+use Rattle.mcap_model.specs.Whole.{V9}
 use Rattle.mcap_model.specs.Valid.{Keeps}
 use Rattle.index_check.specs.Behind.{IsChunkOpen}
 use Rattle.index_check.specs.Chunks.{EndsWithChunk}
 use Rattle.file_check.specs.declared.last_chunk.LastChunk.{LastChunk}
+use Rattle.file_check.specs.CutFiles.{IndexFails}
 
 -- the records end with the chunk that is kept and its Message Indexes
 pub record KeepsLastChunk (tops : List Top) (last : LastChunk) : Type 0 where
@@ -18,14 +18,6 @@ pub record KeepsLastChunk (tops : List Top) (last : LastChunk) : Type 0 where
 pub record LastOf (tops : List Top) (last : LastChunk) : Type 0 where
   pub kept : last.is_open ≡ true → KeepsLastChunk tops last
   pub none : last.is_open ≡ false → EndsWithChunk tops → ⊥
-
--- one of the records breaks V9 at that offset
-pub record IndexFails (tops : List Top) (offset : ℕ) : Type 0 where
-  pub place : ℕ
-  pub top : Top
-  pub at : At tops place top
-  pub there : offset ≡ offset_of tops place
-  pub breaks : V9 tops place top → ⊥
 
 -- the record behind these was taken; or V9 fails at that offset, whatever follows
 abbrev pub LastTaken : List Top → Top → LastChunk → Result (Option ℕ) Memory → Type 0

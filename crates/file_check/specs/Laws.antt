@@ -9,8 +9,7 @@ use Rattle.mcap_model.specs.Tops.{Top}
 use Rattle.mcap_model.specs.Kept.{reading_limits, is_beyond, compressed}
 use Rattle.mcap_model.specs.File.{file_of}
 use Rattle.mcap_model.specs.Whole.{StandsAt, IsWhole}
-use Rattle.mcap_model.specs.Valid.{IsValid}
-use Rattle.mcap_model.specs.Laws.{CanBeWritten}
+use Rattle.mcap_model.specs.Laws.{IsValid, CanBeWritten}
 use Rattle.file_check.specs.Checking.{HaltsBefore, MeetsReadingLimit}
 
 -- a record of the file stands at that offset whose content, or whose end, is past a limit of reading

@@ -1,3 +1,8 @@
+-- What the promise of the program reaches, in the order to read it.
+pub mod Checking
+pub mod Halting
+pub mod CutFiles
+-- What the functions of this crate and its proofs say besides.
 pub mod MessageCounts
 pub mod RecordCounts
 pub mod LastChunk
@@ -6,7 +11,6 @@ pub mod TopRecords
 pub mod Givens
 pub mod Gathering
 pub mod Reading
-pub mod Halting
-pub mod Checking
-pub mod CutFiles
+pub mod CheckSteps
+pub mod HaltFlaws
 pub mod Laws

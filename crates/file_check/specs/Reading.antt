@@ -7,7 +7,8 @@ use Rattle.mcap_model.specs.Kept.{reading_limits, Good}
 use Rattle.mcap_model.specs.Whole.{V9}
 use Rattle.mcap_model.specs.Valid.{Keeps}
 use Rattle.mcap_scan.specs.Sources.{ReadFromFront}
-use Rattle.mcap_scan.specs.Scanning.{RefusalStands, Refuses, IsEnded}
+use Rattle.mcap_scan.specs.Scanning.{Refuses, IsEnded}
+use Rattle.mcap_scan.specs.RefusedReadings.{RefusalStands}
 use Rattle.record_walk.specs.declared.flat_reader.FlatReader.{FlatReader}
 use Rattle.record_walk.specs.Walking.{flat_tables}
 use Rattle.mcap_model.specs.declared.refusals.ReadingRefused.TheVariants as scans
@@ -18,7 +19,7 @@ use Rattle.file_check.specs.declared.gathering.Gathering.{Gathering}
 use Rattle.file_check.specs.declared.gathering.DataEnd.{DataEnd}
 use Rattle.file_check.specs.declared.reading.SectionRefused.{SectionRefused}
 use Rattle.file_check.specs.declared.reading.SectionRefused.TheVariants as refusals
-use Rattle.file_check.specs.LastChunk.{IndexFails}
+use Rattle.file_check.specs.CutFiles.{IndexFails}
 
 -- these records, which are good, were read, and nothing behind them; the source didn't fail
 pub record HasReadGood (before now : SourceState) (tops : List Top) : Type 0 where

@@ -6,7 +6,8 @@ use Rattle.mcap_model.specs.Whole.{V9}
 use Rattle.mcap_model.specs.Valid.{Keeps}
 use Rattle.index_check.specs.Chunks.{HasMessage}
 use Rattle.file_check.specs.declared.top_records.TopRecords.{TopRecords}
-use Rattle.file_check.specs.LastChunk.{LastOf, IndexFails}
+use Rattle.file_check.specs.LastChunk.{LastOf}
+use Rattle.file_check.specs.CutFiles.{IndexFails}
 use Rattle.file_check.specs.IndexedRecords.{IndexedOf}
 
 -- this is kept of the records, which keep V9

@@ -1,11 +1,12 @@
 //! The check of a file, part by part.
 ghost use Rattle.std.specs.Prelude.{◌≡◌, ◌≤◌, ◌<◌, ◌+◌, ◌-◌, ◌^◌, ℕ, List, Some, Err, length, take, drop, IfOk, IfErr};
-ghost use Rattle.mcap_io.specs.Stores.{StoreStays};
+ghost use Rattle.mcap_io.specs.StoreAnswers.{StoreStays};
 ghost use Rattle.file_check.specs.declared.reading.SectionRefused.TheVariants as sections;
 ghost use Rattle.mcap_model.specs.Tops.{Top};
 ghost use Rattle.index_check.specs.Section.{SectionOf};
 ghost use Rattle.summary_check.specs.Files.{IsOfSummary};
-ghost use Rattle.file_check.specs.Checking.{CountsSection, CheckCause, SectionReads, SectionCause, SectionAsks, AsksUpTo, TellsSectionRefused, RefusedCause, TellsJudged, TellsFile, IsUnchecked, told_by};
+ghost use Rattle.file_check.specs.Checking.{CountsSection, CheckCause, IsUnchecked};
+ghost use Rattle.file_check.specs.CheckSteps.{SectionReads, SectionCause, SectionAsks, AsksUpTo, TellsSectionRefused, RefusedCause, TellsJudged, TellsFile, told_by};
 
 use crate::ends::tell_flaw;
 use crate::reading::{SectionRefused, read_section};

@@ -1,10 +1,11 @@
 //! Parts of a file that are read by themselves: its magics, and the head of a record.
 ghost use Rattle.std.specs.Prelude.{◌≡◌, ◌+◌, ◌≤◌, ◌↔◌, ◌^◌, ◌<◌, ℕ, List, Some, length, take, drop, IsTrue, IfOk, IfErr};
-ghost use Rattle.mcap_io.specs.Stores.{StoreStays};
+ghost use Rattle.mcap_io.specs.StoreAnswers.{StoreStays};
 ghost use Rattle.mcap_wire.specs.Layout.{le};
 ghost use Rattle.mcap_model.specs.Rules.{V1};
 ghost use Rattle.mcap_model.specs.Whole.{EndsWithMagic};
-ghost use Rattle.file_check.specs.Checking.{CheckCause, IsFault, HeadStands, TellsFlaw, TellsCut};
+ghost use Rattle.file_check.specs.Checking.{CheckCause, IsFault};
+ghost use Rattle.file_check.specs.CheckSteps.{HeadStands, TellsFlaw, TellsCut};
 
 use crate::flaws::{FailedRule, cut_rule, failed_rule};
 use mcap_io::{Failed, Store};

@@ -1,6 +1,7 @@
 //! Which rule a file breaks where the reading of its records halts.
 ghost use Rattle.std.specs.Prelude.{◌≡◌};
-ghost use Rattle.file_check.specs.Halting.{failed_at, told_flaw, lacks_magic, told_cut};
+ghost use Rattle.file_check.specs.Halting.{failed_at, lacks_magic, told_cut};
+ghost use Rattle.file_check.specs.HaltFlaws.{told_flaw};
 
 /// How many bytes the last magic has.
 const MAGIC_SIZE: u64 = 8;

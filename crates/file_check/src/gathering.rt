@@ -1,6 +1,7 @@
 //! What is kept of the records of a data section so far.
 ghost use Rattle.std.specs.Prelude.{◌≡◌, ◌∷◌, ◌++◌, [], List, IfOk};
-ghost use Rattle.mcap_model.specs.Tops.{Top, Placed, walked};
+ghost use Rattle.mcap_model.specs.Tops.{Top, Placed};
+ghost use Rattle.mcap_model.specs.WalkedRecords.{walked};
 ghost use Rattle.mcap_model.specs.Rules.{HasDataEnd, V6};
 ghost use Rattle.mcap_model.specs.Kept.{reading_limits, Good};
 ghost use Rattle.mcap_model.specs.Whole.{IsSection};

@@ -8,7 +8,8 @@ ghost use Rattle.mcap_model.specs.Valid.{Keeps};
 ghost use Rattle.mcap_model.specs.Whole.{V9};
 ghost use Rattle.mcap_model.specs.Made.{top};
 ghost use Rattle.index_check.specs.Chunks.{HasMessage};
-ghost use Rattle.file_check.specs.LastChunk.{LastOf, IndexFails, LastTaken};
+ghost use Rattle.file_check.specs.LastChunk.{LastOf, LastTaken};
+ghost use Rattle.file_check.specs.CutFiles.{IndexFails};
 
 use index_check::{ChunkMessages, Ids, has_indexes, is_index_right};
 use mcap_wire::Memory;

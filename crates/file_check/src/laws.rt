@@ -1,5 +1,5 @@
 //! Laws of checking, each as the contract of a function that does nothing.
-ghost use Rattle.file_check.specs.Halting.{HaltsAreFlaws, CutsAreFlaws};
+ghost use Rattle.file_check.specs.HaltFlaws.{HaltsAreFlaws, CutsAreFlaws};
 ghost use Rattle.file_check.specs.Laws.{LimitsAreReal, ShortFilesMeetNoLimit, WrittenFilesMeetNoLimit, CompressionsExcludeValidity};
 
 /// Where a reading of the bytes in front of the last magic halts, a rule of the file fails.

@@ -1,10 +1,10 @@
 //! The check of a file that doesn't end with the magic: where its data ends is told, if a reading halts there.
 ghost use Rattle.std.specs.Prelude.{◌≡◌, ◌≤◌, ◌<◌, ◌+◌, ◌-◌, ◌^◌};
-ghost use Rattle.mcap_io.specs.Stores.{StoreStays};
+ghost use Rattle.mcap_io.specs.StoreAnswers.{StoreStays};
 ghost use Rattle.file_check.specs.declared.reading.SectionRefused.TheVariants as sections;
 ghost use Rattle.mcap_model.specs.declared.checked.Verdict.TheVariants as verdicts;
-ghost use Rattle.file_check.specs.Checking.{CheckCause, AsksUpTo, RefusedCause, TellsCutSection, TellsUnended};
-ghost use Rattle.file_check.specs.CutFiles.{TellsCutRefusal, TellsCutStore};
+ghost use Rattle.file_check.specs.Checking.{CheckCause};
+ghost use Rattle.file_check.specs.CheckSteps.{AsksUpTo, RefusedCause, TellsCutSection, TellsUnended, TellsCutRefusal, TellsCutStore};
 
 use crate::checking::read_front;
 use crate::ends::tell_cut;

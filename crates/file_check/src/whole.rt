@@ -1,6 +1,7 @@
 //! The check of a file.
-ghost use Rattle.mcap_io.specs.Stores.{LeavesStore};
-ghost use Rattle.file_check.specs.Checking.{Checks, CheckCause, AsksOnce};
+ghost use Rattle.mcap_io.specs.StoreAnswers.{LeavesStore};
+ghost use Rattle.file_check.specs.Checking.{Checks, CheckCause};
+ghost use Rattle.file_check.specs.CheckSteps.{AsksOnce};
 ghost use Rattle.file_check.specs.CutFiles.{TellsUnbegun, TellsCutFile};
 
 use crate::checking::check_records;

@@ -5,11 +5,12 @@ use Rattle.mcap_io.specs.declared.outside.ObjectKind.TheVariants as kinds
 use Rattle.mcap_io.specs.declared.outside.OpenRefused.{OpenRefused}
 use Rattle.mcap_io.specs.declared.outside.OpenRefused.TheVariants as open_refusals
 use Rattle.mcap_model.specs.Tops.{Top}
-use Rattle.mcap_model.specs.Kept.{Halt, reading_limits, at_end, grammar as breaks, compressed as names, beyond, Halts, SameHalt}
+use Rattle.mcap_model.specs.Kept.{Halt, reading_limits, at_end, grammar as breaks, compressed as names, beyond, Halts}
+use Rattle.mcap_model.specs.Readings.{SameHalt}
 use Rattle.mcap_model.proofs.Halting.{readings_halt_once}
 use Rattle.mcap_model.specs.declared.refusals.ReadingRefused.{ReadingRefused}
 use Rattle.mcap_model.specs.declared.refusals.ReadingRefused.TheVariants as refusals
-use Rattle.mcap_scan.specs.Scanning.{RefusalStands}
+use Rattle.mcap_scan.specs.RefusedReadings.{RefusalStands}
 use Rattle.command_base.specs.declared.file_reading.Reading.{Reading}
 use Rattle.command_base.specs.declared.file_reading.Reading.TheVariants as readings
 use Rattle.command_base.specs.Texts.{halt_status}

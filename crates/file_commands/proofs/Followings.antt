@@ -18,7 +18,8 @@ use Rattle.command_base.specs.OneFile.{failing}
 use Rattle.command_base.specs.Readings.{StoreUse, IsStoreRead, ReadsFile}
 use Rattle.command_base.proofs.ReadNames.{store_shows, reads_not_two}
 use Rattle.file_commands.specs.Cat.{Selection}
-use Rattle.file_commands.specs.Indexed.{IndexedComesTo, led_ending, led_is, replay_ending, ShowsLed, ShowsScan, IndexedCats}
+use Rattle.file_commands.specs.Indexed.{IndexedComesTo, led_ending, replay_ending, ShowsLed, ShowsScan, IndexedCats}
+use Rattle.file_commands.specs.Failing.{led_is}
 
 -- the status is not that of bad words
 pub indexed_not_two : (asked : Selection) (file : List ℕ) (old new : Scene) (answer : ℕ) → IndexedCats asked file old new answer → answer ≡ 2 → ⊥

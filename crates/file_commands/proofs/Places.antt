@@ -5,7 +5,7 @@ use Rattle.std.proofs.lemmas.Bool.{cases_order}
 use Rattle.std.proofs.Math.Seq.{drop-cons}
 use Rattle.mcap_model.specs.Places.{At, Has, Each}
 use Rattle.mcap_model.proofs.Places.{at_within, at_one, at_kept, at_last, at_more, at_read, at_set, has_kept, has_last}
-use Rattle.file_commands.specs.Firsts.{StandsFirst, IsPlaceTable}
+use Rattle.file_commands.specs.IdTables.{StandsFirst, IsPlaceTable}
 
 -- ---- one element more
 

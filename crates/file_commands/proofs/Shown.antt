@@ -7,7 +7,8 @@ use Rattle.mcap_model.proofs.Places.{at_within, at_one, at_read}
 use Rattle.mcap_model.proofs.Lists.{pairs_from}
 use Rattle.mcap_model.proofs.Flat.{at_mapped}
 use Rattle.mcap_model.proofs.NamedTopics.{zip_front, zip_back, zip_more}
-use Rattle.file_commands.specs.Firsts.{AreFirsts, ArePlaces}
+use Rattle.file_commands.specs.Firsts.{AreFirsts}
+use Rattle.file_commands.specs.IdTables.{ArePlaces}
 use Rattle.file_commands.specs.Writing.{ShownAt, ShowIds}
 
 module _ {F : Type 0} (Is : Top → ℕ → F → Type 0) (tops : List Top) where

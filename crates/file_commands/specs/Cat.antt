@@ -1,5 +1,4 @@
 -- What the printing of a file did: to the names of the world, to both outputs, and how it ended.
-use Rattle.std.proofs.Common.{subst}
 use Rattle.std.specs.Prelude.{◌≡◌, ◌⊎◌, ℕ, List, Option, Some, Result, Ok, Err}
 use Rattle.mcap_io.specs.Outside.{SourceState, Told}
 use Rattle.mcap_io.specs.declared.outside.ObjectKind.TheVariants as kinds
@@ -10,13 +9,12 @@ use Rattle.mcap_model.specs.Scan.{Seen, Scan, Replay}
 use Rattle.time_player.specs.Text.{cat_text}
 use Rattle.mcap_model.specs.declared.refusals.ReadingRefused.{ReadingRefused}
 use Rattle.mcap_model.specs.declared.refusals.ReadingRefused.TheVariants as refusals
-use Rattle.mcap_scan.specs.Scanning.{HaltsSo, FaultStands, MemoryStands}
+use Rattle.mcap_scan.specs.RefusedReadings.{HaltsSo, FaultStands, MemoryStands}
 use Rattle.command_base.specs.declared.file_reading.Reading.{Reading}
 use Rattle.command_base.specs.Texts.{halt_status}
 use Rattle.command_base.specs.Ran.{Scene, counts_in, AnyRose}
-use Rattle.command_base.specs.OneFile.{Ending, failing, refusal_ending}
+use Rattle.command_base.specs.OneFile.{Ending, refusal_ending}
 use Rattle.command_base.specs.Readings.{ending_of, IsSourceRead, ReadsFile}
-use Rattle.command_base.proofs.Refusals.{refusal_fails, rises_some}
 
 -- which messages are asked for: of these log times, and of that topic, if any
 pub record Selection : Type 0 where
@@ -53,13 +51,6 @@ IsUnprinted before now refusals.Memory = ((tops : List Top) × MemoryStands befo
 abbrev pub ComesTo : Selection → SourceState → SourceState → Result (List ℕ) ReadingRefused → Type 0
 ComesTo asked before now (Ok text) = IsPrinted asked before now text
 ComesTo asked before now (Err why) = IsUnprinted before now why
-
--- one that failed has a source that failed
-pub cat_fails : (asked : Selection) (before now : SourceState) (file : List ℕ) (why : ReadingRefused) → ComesTo asked before now (Err why) → before.faults ≡ 0 → refusal_ending file why ≡ failing → now.faults ≡ 0 → ⊥
-cat_fails asked before now file why comes unused e none =
-    let fault = refusal_fails file why e in
-    let stands = subst (IsUnprinted before now) fault.1 comes in
-    rises_some before.faults now.faults stands.1.rises unused none
 
 -- how that ended
 abbrev pub cat_ending : List ℕ → Reading (List ℕ) ReadingRefused → Ending

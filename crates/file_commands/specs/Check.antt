@@ -1,5 +1,4 @@
 -- What the check of a file did: to the names of the world, to both outputs, and how it ended.
-use Rattle.std.proofs.Common.{subst}
 use Rattle.std.specs.Prelude.{◌≡◌, ◌⊎◌, ◌==◌, ◌+◌, ◌≤◌, ℕ, List, ◌++◌, length, codes, decimal, if◌then◌else◌, Some, Result, Ok, Err}
 use Rattle.mcap_io.specs.Outside.{Told}
 use Rattle.mcap_io.specs.Stores.{StoreState}
@@ -17,9 +16,8 @@ use Rattle.command_base.specs.declared.file_reading.Reading.{Reading}
 use Rattle.command_base.specs.declared.file_reading.Reading.TheVariants as readings
 use Rattle.command_base.specs.Printing.{TellsAll}
 use Rattle.command_base.specs.Ran.{Scene, counts_in, AnyRose}
-use Rattle.command_base.specs.OneFile.{Ending, failing, refusal_ending, AskedRose}
+use Rattle.command_base.specs.OneFile.{Ending, refusal_ending, AskedRose}
 use Rattle.command_base.specs.Readings.{ending_of, StoreUse, IsStoreRead, ReadsFile}
-use Rattle.command_base.proofs.Refusals.{refusal_fails, rises_some}
 
 -- ---- the file
 
@@ -31,13 +29,6 @@ pub record HasAnswer (store : StoreState) (now : StoreUse) (answer : Result Verd
   pub cut : TellsCutFile store.bytes answer
   pub cause : CheckCause store.faults now.faults answer
   pub asks : (file : List ℕ) → store.bytes ≡ Some file → now.asked ≤ store.asked + (length file + margin)
-
--- a check that failed has a store that failed
-pub check_fails : (store : StoreState) (now : StoreUse) (file : List ℕ) (why : ReadingRefused) → HasAnswer store now (Err why) → store.faults ≡ 0 → refusal_ending file why ≡ failing → now.faults ≡ 0 → ⊥
-check_fails store now file why answer unused e none =
-    let fault = refusal_fails file why e in
-    let cause = subst (λ (w : ReadingRefused). CheckCause {V = Verdict} store.faults now.faults (Err w)) fault.1 answer.cause in
-    rises_some store.faults now.faults cause.0 unused none
 
 -- ---- the line
 

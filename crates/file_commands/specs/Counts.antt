@@ -1,5 +1,5 @@
 -- How many messages each channel has.
-use Rattle.std.specs.Prelude.{◌≡◌, ℕ, ◌<◌, List, [], ◌∷◌, Option, Some, None, ◌==◌, slice_get, if◌then◌else◌}
+use Rattle.std.specs.Prelude.{ℕ, List, [], ◌∷◌, Option, Some, None, ◌==◌, if◌then◌else◌}
 
 -- the count that stands under an id: 0, where none does
 abbrev pub count_under : List (ℕ × ℕ) → ℕ → ℕ
@@ -10,7 +10,3 @@ count_under (c ∷ cs) id = if c.0 == id then c.1 else count_under cs id
 abbrev pub told_count : List (ℕ × ℕ) → ℕ → Option ℕ
 told_count [] id = None
 told_count (c ∷ cs) id = Some (count_under (c ∷ cs) id)
-
--- the counts by their ids: none, where the map is empty
-abbrev pub IsCountTable : List (ℕ × ℕ) → List ℕ → Type 0
-IsCountTable counts table = (id : ℕ) → id < 65536 → slice_get table id ≡ told_count counts id

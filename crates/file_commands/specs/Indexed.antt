@@ -1,5 +1,4 @@
 -- What the printing of a file by its indexes did: to the names of the world, to both outputs, and how it ended.
-use Rattle.std.proofs.Common.{refl, subst, inl}
 use Rattle.std.specs.Prelude.{◌≡◌, ℕ, List, Some, Result, Ok, Err}
 use Rattle.mcap_io.specs.Outside.{Told}
 use Rattle.mcap_io.specs.Stores.{StoreState}
@@ -25,8 +24,7 @@ use Rattle.command_base.specs.declared.file_reading.Reading.TheVariants as readi
 use Rattle.command_base.specs.Texts.{not_indexed, flaw}
 use Rattle.command_base.specs.Ran.{Scene, counts_in, AnyRose}
 use Rattle.command_base.specs.OneFile.{Ending, halted, failing, refusal_ending}
-use Rattle.command_base.specs.Readings.{IsRefusal, ending_of, StoreUse, IsStoreRead, ReadsFile}
-use Rattle.command_base.proofs.Refusals.{refusal_is, rises_some}
+use Rattle.command_base.specs.Readings.{ending_of, StoreUse, IsStoreRead, ReadsFile}
 use Rattle.file_commands.specs.Cat.{Selection}
 
 -- ---- the file
@@ -78,30 +76,6 @@ led_ending file (by_index.Refused why) = broken_ending file why
 
 abbrev pub replay_ending : List ℕ → Reading (List ℕ) IndexedRefused → Ending
 replay_ending file reading = ending_of (λ text. text) (led_ending file) reading
-
--- nothing is read
-pub led_is : (file : List ℕ) (why : IndexedRefused) → IsRefusal (led_ending file why)
-led_is file (by_index.NotIndexed why) = inl refl
-led_is file (by_index.Refused (refusals.Fault faults)) = tt
-led_is file (by_index.Refused (refusals.Grammar n rule)) = inl refl
-led_is file (by_index.Refused (refusals.Compressed n name)) = refusal_is file (refusals.Compressed n name)
-led_is file (by_index.Refused (refusals.Limit n)) = refusal_is file (refusals.Limit n)
-led_is file (by_index.Refused refusals.Memory) = tt
-
--- only a failure of the store ends as one
-led_fault : (file : List ℕ) (why : IndexedRefused) → led_ending file why ≡ failing → (faults : ℕ) × (why ≡ by_index.Refused (refusals.Fault faults))
-led_fault file (by_index.NotIndexed why) e = absurd cc
-led_fault file (by_index.Refused (refusals.Fault faults)) e = (faults, refl)
-led_fault file (by_index.Refused (refusals.Grammar n rule)) e = absurd cc
-led_fault file (by_index.Refused (refusals.Compressed n name)) e = absurd cc
-led_fault file (by_index.Refused (refusals.Limit n)) e = absurd cc
-led_fault file (by_index.Refused refusals.Memory) e = absurd cc
-
-pub led_fails : (asked : Selection) (store : StoreState) (now : StoreUse) (file : List ℕ) (why : IndexedRefused) → IndexedComesTo asked store now (Err why) → store.faults ≡ 0 → led_ending file why ≡ failing → now.faults ≡ 0 → ⊥
-led_fails asked store now file why comes unused e none =
-    let fault = led_fault file why e in
-    let cause = subst (λ (w : IndexedRefused). ReplayCause {P = Replayed} store.faults now.faults (Err w)) fault.1 comes.cause in
-    rises_some store.faults now.faults cause.0 unused none
 
 -- Where nothing failed, the lines are those of the messages to which the indexes in these bytes lead, or the reason holds
 -- of them.

@@ -1,5 +1,4 @@
 -- What the telling of a file did: to the names of the world, to both outputs, and how it ended.
-use Rattle.std.proofs.Common.{subst}
 use Rattle.std.specs.Prelude.{◌≡◌, ◌⊎◌, ℕ, List, Some, None, Result, Ok, Err}
 use Rattle.mcap_io.specs.Outside.{Told}
 use Rattle.mcap_io.specs.Stores.{StoreState}
@@ -17,9 +16,8 @@ use Rattle.command_base.specs.declared.file_reading.Reading.{Reading}
 use Rattle.command_base.specs.declared.file_reading.Reading.TheVariants as readings
 use Rattle.command_base.specs.Printing.{TellsAll}
 use Rattle.command_base.specs.Ran.{Scene, counts_in, AnyRose}
-use Rattle.command_base.specs.OneFile.{Ending, failing, indexed_ending}
+use Rattle.command_base.specs.OneFile.{Ending, indexed_ending}
 use Rattle.command_base.specs.Readings.{ending_of, StoreUse, IsStoreRead, ReadsFile}
-use Rattle.command_base.proofs.Refusals.{indexed_fails, rises_some}
 use Rattle.file_commands.specs.Told.{InfoText}
 
 -- ---- the file
@@ -59,13 +57,6 @@ FindsInfo store now (Err (by_index.Refused why)) = IsSummaryUnread store now why
 pub record InfoComesTo (store : StoreState) (now : StoreUse) (came : Result (List ℕ) IndexedRefused) : Type 0 where
   pub finds : FindsInfo store now came
   pub asks : (file : List ℕ) → store.bytes ≡ Some file → AskedFor file store.asked now.asked
-
--- one that failed has a store that failed
-pub info_fails : (store : StoreState) (now : StoreUse) (file : List ℕ) (why : IndexedRefused) → InfoComesTo store now (Err why) → store.faults ≡ 0 → indexed_ending file why ≡ failing → now.faults ≡ 0 → ⊥
-info_fails store now file why comes unused e none =
-    let fault = indexed_fails file why e in
-    let finds = subst (λ (w : IndexedRefused). FindsInfo store now (Err w)) fault.1 comes.finds in
-    rises_some store.faults now.faults finds.1.0 unused none
 
 -- how that ended
 abbrev pub info_ending : List ℕ → Reading (List ℕ) IndexedRefused → Ending

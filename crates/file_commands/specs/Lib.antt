@@ -1,11 +1,16 @@
-pub mod Firsts
+-- What the promise of the program reaches, in the order to read it.
+pub mod Cat
+pub mod Check
 pub mod Counts
+pub mod Firsts
 pub mod Json
 pub mod Told
+pub mod Info
+pub mod FileCommand
+pub mod Indexed
+-- What the functions of this crate and its proofs say besides.
+pub mod IdTables
+pub mod ToldSteps
 pub mod Writing
 pub mod Laws
-pub mod Info
-pub mod Check
-pub mod FileCommand
-pub mod Cat
-pub mod Indexed
+pub mod Failing

@@ -1,9 +1,10 @@
 //! Printing the messages of a file in the order of their log times.
 ghost use Rattle.mcap_model.specs.Plain.{asked_topic};
-ghost use Rattle.command_base.specs.Ran.{scene};
+ghost use Rattle.command_base.specs.Scenes.{scene};
 ghost use Rattle.command_base.specs.OneFile.{refusal_ending};
 ghost use Rattle.command_base.proofs.Refusals.{refusal_is};
-ghost use Rattle.file_commands.specs.Cat.{selection, ComesTo, cat_fails, Cats};
+ghost use Rattle.file_commands.specs.Cat.{selection, ComesTo, Cats};
+ghost use Rattle.file_commands.specs.Failing.{cat_fails};
 
 use command_base::{
     Complaint, FileReading, SourceReading, answer_source, lacks_memory, reading_complaint,

@@ -6,7 +6,7 @@ ghost use Rattle.rec_data.specs.Fields.{ChannelFields};
 ghost use Rattle.rec_data.specs.Parsed.{channel_fields};
 ghost use Rattle.mcap_model.specs.Fields.{IsChannel};
 ghost use Rattle.mcap_model.specs.Places.{Each};
-ghost use Rattle.file_commands.specs.Counts.{IsCountTable};
+ghost use Rattle.file_commands.specs.IdTables.{IsCountTable};
 ghost use Rattle.file_commands.specs.Firsts.{AreFirsts};
 ghost use Rattle.file_commands.specs.Json.{channel_value, channels_value};
 ghost use Rattle.file_commands.specs.Writing.{AddsTokens, ShowIds, ShownAt};

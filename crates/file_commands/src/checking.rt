@@ -1,9 +1,10 @@
 //! Checking a file by all rules of the format.
 ghost use Rattle.std.specs.Prelude.{◌≡◌};
-ghost use Rattle.command_base.specs.Ran.{scene};
+ghost use Rattle.command_base.specs.Scenes.{scene};
 ghost use Rattle.command_base.specs.OneFile.{refusal_ending};
 ghost use Rattle.command_base.proofs.Refusals.{refusal_is};
-ghost use Rattle.file_commands.specs.Check.{HasAnswer, check_fails, verdict_line, reading_status, final_status, FileChecks};
+ghost use Rattle.file_commands.specs.Check.{HasAnswer, verdict_line, reading_status, final_status, FileChecks};
+ghost use Rattle.file_commands.specs.Failing.{check_fails};
 
 use crate::verdict::line_of_verdict;
 use command_base::{

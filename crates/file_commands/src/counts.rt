@@ -1,6 +1,6 @@
 //! How many messages each channel has.
 ghost use Rattle.std.specs.Prelude.{◌≡◌, IfOk, slice_get};
-ghost use Rattle.file_commands.specs.Counts.{IsCountTable};
+ghost use Rattle.file_commands.specs.IdTables.{IsCountTable};
 
 use crate::firsts::IDS;
 use mcap_wire::{CountsRef, Memory};

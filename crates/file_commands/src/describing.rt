@@ -1,8 +1,9 @@
 //! Telling of a file by its summary.
-ghost use Rattle.command_base.specs.Ran.{scene};
+ghost use Rattle.command_base.specs.Scenes.{scene};
 ghost use Rattle.command_base.specs.OneFile.{indexed_ending};
 ghost use Rattle.command_base.proofs.Refusals.{indexed_is};
-ghost use Rattle.file_commands.specs.Info.{InfoComesTo, info_fails, Describes};
+ghost use Rattle.file_commands.specs.Info.{InfoComesTo, Describes};
+ghost use Rattle.file_commands.specs.Failing.{info_fails};
 
 use crate::info::info_text;
 use command_base::{

@@ -1,6 +1,6 @@
 //! The commands of one file without options.
 ghost use Rattle.std.specs.Prelude.{◌≢◌};
-ghost use Rattle.command_base.specs.Ran.{scene};
+ghost use Rattle.command_base.specs.Scenes.{scene};
 ghost use Rattle.file_commands.specs.FileCommand.{RunsOnFile};
 
 use crate::checking::check_file;

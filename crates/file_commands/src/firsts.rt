@@ -1,6 +1,6 @@
 //! Where each id of a list stands first.
 ghost use Rattle.std.specs.Prelude.{IfOk};
-ghost use Rattle.file_commands.specs.Firsts.{IsPlaceTable, ArePlaces};
+ghost use Rattle.file_commands.specs.IdTables.{IsPlaceTable, ArePlaces};
 
 use mcap_wire::Memory;
 use std::alloc::Global;

@@ -1,11 +1,12 @@
 //! Printing the messages of a file to which its indexes lead.
 ghost use Rattle.std.specs.Prelude.{◌≡◌, List, ℕ};
 ghost use Rattle.mcap_model.specs.Plain.{asked_topic};
-ghost use Rattle.command_base.specs.Texts.{complained};
-ghost use Rattle.command_base.specs.Ran.{scene};
+ghost use Rattle.command_base.specs.ComplaintTroubles.{complained};
+ghost use Rattle.command_base.specs.Scenes.{scene};
 ghost use Rattle.command_base.specs.OneFile.{troubles_in, is_lack};
 ghost use Rattle.file_commands.specs.Cat.{selection};
-ghost use Rattle.file_commands.specs.Indexed.{IndexedComesTo, broken_ending, led_ending, led_is, led_fails, IndexedCats};
+ghost use Rattle.file_commands.specs.Indexed.{IndexedComesTo, broken_ending, led_ending, IndexedCats};
+ghost use Rattle.file_commands.specs.Failing.{led_is, led_fails};
 
 use command_base::{Complaint, FileReading, StoreReading, answer_store, reading_complaint};
 use indexed_replay::replay_kept;

@@ -3,7 +3,7 @@ ghost use Rattle.std.specs.Prelude.{IfOk, OnOk};
 ghost use Rattle.json.specs.Tree.{json_tokens};
 ghost use Rattle.rec_index.specs.Parsed.{statistics_fields};
 ghost use Rattle.file_commands.specs.Json.{Info, info_value};
-ghost use Rattle.file_commands.specs.Told.{Informs};
+ghost use Rattle.file_commands.specs.ToldSteps.{Informs};
 ghost use Rattle.file_commands.specs.Writing.{AddsTokens, ShowsParts, SpellsInfo};
 
 use crate::channels::put_channels;

@@ -8,7 +8,8 @@ use Rattle.message_sums.specs.declared.sums.Sums.{Sums}
 use Rattle.command_base.specs.declared.file_reading.Reading.{Reading}
 use Rattle.command_base.specs.declared.file_reading.Reading.TheVariants as readings
 use Rattle.command_base.specs.OneFile.{failing}
-use Rattle.command_base.specs.Readings.{IsSourceRead, NameEnds}
+use Rattle.command_base.specs.Readings.{IsSourceRead}
+use Rattle.command_base.specs.ReadingSteps.{NameEnds}
 use Rattle.generate_command.specs.Back.{Back, SumsComeTo, back_ending, NameReadBack}
 
 -- whether a reading failed doesn't go by its text

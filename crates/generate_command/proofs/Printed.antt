@@ -1,6 +1,7 @@
 -- What a sink takes of the line of sums.
 use Rattle.std.proofs.Common.{◌≡◌, ℕ, List, [], ◌∷◌, Result, Ok, Err, subst, inl, inr, arith}
-use Rattle.mcap_io.specs.Outside.{SinkState, WritesAll}
+use Rattle.mcap_io.specs.Outside.{SinkState}
+use Rattle.mcap_io.specs.OutsideCalls.{WritesAll}
 use Rattle.mcap_io.specs.declared.outside.Short.{Short}
 use Rattle.command_base.specs.Printing.{Tells, Takes}
 use Rattle.message_sums.specs.declared.sums.Sums.{Sums}

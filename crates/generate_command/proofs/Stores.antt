@@ -3,7 +3,8 @@ use Rattle.std.proofs.Common.{◌≡◌, ℕ, ◌^◌, ◌<◌, true, false, Lis
 use Rattle.std.specs.Option.{option_map}
 use Rattle.std.specs.List.{All}
 use Rattle.std.proofs.lemmas.List.{append-nil}
-use Rattle.mcap_io.specs.Outside.{RisesOnce, HasCause, Opens, OpenCause, CountsStand, added, Keeping, Told, Names, OthersSame, Opening, opened, with_opening, went_well, LiveState, SourceState, WorldState, TellsNothingYet, KeepsLive, Notes, PlacedUnder}
+use Rattle.mcap_io.specs.Outside.{RisesOnce, added, Keeping, Told, Names, Opening, opened, LiveState, SourceState, WorldState}
+use Rattle.mcap_io.specs.OutsideCalls.{HasCause, Opens, OpenCause, CountsStand, OthersSame, with_opening, went_well, TellsNothingYet, KeepsLive, Notes, PlacedUnder}
 use Rattle.mcap_io.specs.declared.outside.Failed.{Failed}
 use Rattle.mcap_io.specs.declared.outside.ObjectKind.TheVariants as kinds
 use Rattle.mcap_io.specs.declared.outside.OpenRefused.{OpenRefused}

@@ -23,8 +23,8 @@ use Rattle.chunk_writer.specs.Stops.{Cause as WriterCause}
 use Rattle.feed_lane.specs.Lanes.{messages}
 use Rattle.recorder.specs.declared.options.RecordOptions.{RecordOptions}
 use Rattle.recorder.specs.declared.report.Report.{Report}
-use Rattle.recorder.specs.Recorded.{FeedRecorded, end_answer, sides, Recorded}
-use Rattle.recorder.specs.Laws.{AreReadable, ReadsAs}
+use Rattle.recorder.specs.Recorded.{FeedRecorded, end_answer, sides, Recorded, AreReadable}
+use Rattle.recorder.specs.Laws.{ReadsAs}
 use Rattle.recorder.proofs.ReadBack.{closed_file, recordings_are_read_back}
 use Rattle.message_sums.specs.declared.sums.Sums.{Sums}
 use Rattle.message_sums.specs.Sums.{value_of, bytes_in_payload, sums_of}
@@ -42,7 +42,8 @@ use Rattle.command_base.specs.declared.file_reading.Reading.TheVariants as readi
 use Rattle.generate_command.specs.declared.making.Numbers.{Numbers}
 use Rattle.generate_command.specs.Lines.{sums_line}
 use Rattle.generate_command.specs.Back.{Back, back_ending, NameReadBack}
-use Rattle.generate_command.specs.Making.{OptionsAllowed, generated_source, sources_of, IsPutUnder as NameIsPlaced}
+use Rattle.generate_command.specs.Making.{generated_source, sources_of, IsPutUnder as NameIsPlaced}
+use Rattle.generate_command.specs.Allowed.{OptionsAllowed}
 use Rattle.generate_command.specs.Generating.{writer_closed, is_limit, is_memory_writer, passes_limit, report_lacks_memory, is_sound, ReadsBack, text_after, halts_after, is_lack_after, Generates}
 use Rattle.generate_command.specs.Laws.{made_for, all_made, AreInRange, GeneratedSumsAreTold}
 use Rattle.generate_command.proofs.Totals.{weight, total_of, seen_total, one_each, counted}

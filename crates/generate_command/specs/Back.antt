@@ -1,18 +1,16 @@
 -- Reading back the file that was recorded: what becomes of its name, and what the reading comes to.
-use Rattle.std.proofs.Common.{subst}
 use Rattle.std.specs.Prelude.{◌≡◌, ℕ, List, true, Result, Ok, Err}
 use Rattle.mcap_io.specs.Outside.{SourceState, WorldState, Opening}
 use Rattle.mcap_io.specs.declared.outside.ObjectKind.TheVariants as kinds
 use Rattle.mcap_model.specs.Tops.{Top}
 use Rattle.mcap_model.specs.declared.refusals.ReadingRefused.{ReadingRefused}
-use Rattle.mcap_scan.specs.Scanning.{RefusalStands}
+use Rattle.mcap_scan.specs.RefusedReadings.{RefusalStands}
 use Rattle.message_sums.specs.declared.sums.Sums.{Sums}
 use Rattle.message_sums.specs.Reading.{SumsAll}
 use Rattle.command_base.specs.declared.file_reading.Reading.{Reading}
 use Rattle.command_base.specs.declared.file_reading.ReadName.{ReadName}
 use Rattle.command_base.specs.OneFile.{Ending, failing, refusal_ending, NameRead}
 use Rattle.command_base.specs.Readings.{ending_of, IsSourceRead}
-use Rattle.command_base.proofs.Refusals.{refusal_fails, rises_some}
 use Rattle.generate_command.specs.Lines.{sums_line}
 
 -- what became of the file's name
@@ -23,13 +21,6 @@ Back = ReadName Sums ReadingRefused
 abbrev pub SumsComeTo : SourceState → SourceState → Result Sums ReadingRefused → Type 0
 SumsComeTo before now (Ok sums) = SumsAll before now sums
 SumsComeTo before now (Err why) = (tops : List Top) × RefusalStands why before now tops
-
--- one that failed has a source that failed
-pub back_fails : (before now : SourceState) (file : List ℕ) (why : ReadingRefused) → SumsComeTo before now (Err why) → before.faults ≡ 0 → refusal_ending file why ≡ failing → now.faults ≡ 0 → ⊥
-back_fails before now file why comes unused e none =
-    let fault = refusal_fails file why e in
-    let stands = subst (λ (w : ReadingRefused). (tops : List Top) × RefusalStands w before now tops) fault.1 comes in
-    rises_some before.faults now.faults stands.1.rises unused none
 
 -- how that ended
 abbrev pub back_ending : ℕ → List ℕ → Reading Sums ReadingRefused → Ending

@@ -1,7 +1,14 @@
 -- A law of generations: what is printed is what the numbers say.
-use Rattle.std.specs.Prelude.{◌≡◌, ◌^◌, ◌<◌, ◌≤◌, ℕ, List, true, Option, Some, IsUtf8}
+use Rattle.std.proofs.Common.{subst}
+use Rattle.std.specs.Prelude.{◌≡◌, ℕ, List, Err, ◌^◌, ◌<◌, ◌≤◌, true, Option, Some, IsUtf8}
+use Rattle.mcap_io.specs.Outside.{SourceState, Told}
+use Rattle.mcap_model.specs.Tops.{Top}
+use Rattle.mcap_model.specs.declared.refusals.ReadingRefused.{ReadingRefused}
+use Rattle.mcap_scan.specs.RefusedReadings.{RefusalStands}
+use Rattle.command_base.specs.OneFile.{failing, refusal_ending}
+use Rattle.command_base.proofs.Refusals.{refusal_fails, rises_some}
+use Rattle.generate_command.specs.Back.{SumsComeTo}
 use Rattle.std.specs.List.{flat_map, range_with_len}
-use Rattle.mcap_io.specs.Outside.{Told}
 use Rattle.rec_data.specs.Fields.{MessageFields}
 use Rattle.recorder.specs.declared.options.RecordOptions.{RecordOptions}
 use Rattle.recorder.specs.declared.report.Report.{Report}
@@ -11,7 +18,7 @@ use Rattle.generated_feed.specs.Generator.{generated}
 use Rattle.message_sums.specs.Sums.{sums_of}
 use Rattle.generate_command.specs.declared.making.Numbers.{Numbers}
 use Rattle.generate_command.specs.Lines.{sums_line}
-use Rattle.generate_command.specs.Making.{OptionsAllowed}
+use Rattle.generate_command.specs.Allowed.{OptionsAllowed}
 use Rattle.generate_command.specs.Generating.{Generates}
 
 -- the messages of one feed, and of all feeds, from that of number 0 on
@@ -32,3 +39,12 @@ abbrev pub GeneratedSumsAreTold : Type 0
 GeneratedSumsAreTold = (options : RecordOptions) (numbers : Numbers) (out : List ℕ) (old new : Scene) (report : Option Report) (status : ℕ) (told : Told) → OptionsAllowed options → IsUtf8 options.file.profile → AreInRange numbers
     → options.lossless ≡ true → Generates options numbers out old new report status → status ≡ 0 → old.world.told ≡ Some told
     → TellsAll old.out new.out (sums_line numbers.feeds (sums_of (all_made numbers)))
+
+-- ---- reading back
+
+-- a reading back that failed has a source that failed
+pub back_fails : (before now : SourceState) (file : List ℕ) (why : ReadingRefused) → SumsComeTo before now (Err why) → before.faults ≡ 0 → refusal_ending file why ≡ failing → now.faults ≡ 0 → ⊥
+back_fails before now file why comes unused e none =
+    let fault = refusal_fails file why e in
+    let stands = subst (λ (w : ReadingRefused). (tops : List Top) × RefusalStands w before now tops) fault.1 comes in
+    rises_some before.faults now.faults stands.1.rises unused none

@@ -1,5 +1,8 @@
+-- What the promise of the program reaches, in the order to read it.
 pub mod Lines
 pub mod Back
 pub mod Making
 pub mod Generating
+-- What the functions of this crate and its proofs say besides.
+pub mod Allowed
 pub mod Laws

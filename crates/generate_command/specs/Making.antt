@@ -1,9 +1,8 @@
 -- Recording generated feeds into the file under a name: what became of the name, and what stands there.
-use Rattle.std.specs.Prelude.{◌≡◌, ◌⊎◌, ◌≤◌, ℕ, List, [], ◌∷◌, map, length, Bool, true, false, Option, Some, None}
+use Rattle.std.specs.Prelude.{◌≡◌, ◌⊎◌, ℕ, List, [], ◌∷◌, map, Bool, true, false, Option, Some, None}
 use Rattle.std.specs.List.{All, range_with_len}
 use Rattle.mcap_io.specs.Outside.{SourceState, LiveState, WorldState, Told, Keeping, Opening}
 use Rattle.mcap_io.specs.declared.outside.ObjectKind.TheVariants as kinds
-use Rattle.mcap_wire.specs.Limits.{buffer_limit, chunk_size_limit, profile_limit}
 use Rattle.recorder.specs.declared.options.RecordOptions.{RecordOptions}
 use Rattle.recorder.specs.declared.report.Report.{Report}
 use Rattle.recorder.specs.Recorded.{sides, Recorded}
@@ -11,14 +10,6 @@ use Rattle.command_base.specs.Ran.{kept, refused, AreOpened, Leaves, CountsKept}
 use Rattle.generated_feed.specs.Feeds.{feed_bytes}
 use Rattle.generate_command.specs.declared.making.Numbers.{Numbers}
 use Rattle.generate_command.specs.declared.making.Written.{Written}
-
--- the options of a recording are in their ranges: a buffer of 1 byte to 1 GiB, chunks of 1 byte to 64 MiB, and a profile of at
--- most 65,535 bytes
-pub record OptionsAllowed (options : RecordOptions) : Type 0 where
-  pub some : 1 ≤ options.limit
-  pub small : options.limit ≤ buffer_limit
-  pub size : (n : ℕ) → options.file.chunk ≡ Some n → (1 ≤ n) × (n ≤ chunk_size_limit)
-  pub short : length options.file.profile ≤ profile_limit
 
 -- the feed of that number, of which nothing is read
 abbrev pub generated_source : Numbers → ℕ → SourceState

@@ -2,7 +2,8 @@
 ghost use Rattle.command_base.specs.OneFile.{refusal_ending};
 ghost use Rattle.command_base.proofs.Refusals.{refusal_is};
 ghost use Rattle.generate_command.specs.Lines.{sums_line};
-ghost use Rattle.generate_command.specs.Back.{SumsComeTo, back_fails};
+ghost use Rattle.generate_command.specs.Back.{SumsComeTo};
+ghost use Rattle.generate_command.specs.Laws.{back_fails};
 
 use crate::line::line_of_sums;
 use command_base::{

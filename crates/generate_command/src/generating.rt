@@ -4,11 +4,13 @@ ghost use Rattle.std.specs.List.{list_any};
 ghost use Rattle.mcap_io.specs.Outside.{Rose};
 ghost use Rattle.feed_lane.specs.Causes.{is_over, is_memory, is_memory_stop};
 ghost use Rattle.mcap_model.specs.Places.{Each};
-ghost use Rattle.feed_lane.specs.Feeds.{ListsMessages};
-ghost use Rattle.command_base.specs.Texts.{complained, fault, output_limit, output_fault, no_memory};
+ghost use Rattle.feed_lane.specs.Steps.{ListsMessages};
+ghost use Rattle.command_base.specs.Texts.{fault, output_limit, output_fault, no_memory};
+ghost use Rattle.command_base.specs.ComplaintTroubles.{complained};
 ghost use Rattle.command_base.specs.Printing.{Takes};
-ghost use Rattle.command_base.specs.Ran.{scene, AnyRose, when, Complains};
-ghost use Rattle.generate_command.specs.Making.{OptionsAllowed};
+ghost use Rattle.command_base.specs.Ran.{AnyRose, when, Complains};
+ghost use Rattle.command_base.specs.Scenes.{scene};
+ghost use Rattle.generate_command.specs.Allowed.{OptionsAllowed};
 ghost use Rattle.generate_command.specs.Generating.{writer_closed as closes, is_limit, is_memory_end, is_memory_writer, limit_passed, report_lacks_memory as names_lack, is_sound as stands_whole, ReadsBack, text_after, halts_after, is_lack_after, GenerationLackTold, Generates};
 
 use crate::back::{Back, Summing};

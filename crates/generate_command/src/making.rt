@@ -1,9 +1,10 @@
 //! Recording generated feeds into the file under a name.
 ghost use Rattle.std.specs.Prelude.{◌≡◌, ◌≤◌, ◌<◌, ◌^◌, ◌∷◌, ◌++◌, [], map, vec_len, Some, IfOk, OnOk};
-ghost use Rattle.mcap_io.specs.Outside.{went_well};
+ghost use Rattle.mcap_io.specs.OutsideCalls.{went_well};
 ghost use Rattle.mcap_model.specs.Places.{Each};
-ghost use Rattle.feed_lane.specs.Feeds.{ListsMessages};
-ghost use Rattle.generate_command.specs.Making.{OptionsAllowed, generated_source, sources_of, NameWritten};
+ghost use Rattle.feed_lane.specs.Steps.{ListsMessages};
+ghost use Rattle.generate_command.specs.Making.{generated_source, sources_of, NameWritten};
+ghost use Rattle.generate_command.specs.Allowed.{OptionsAllowed};
 
 use generated_feed::GeneratedFeed;
 use mcap_io::{Failed, OpenRefused, Source, World};

@@ -2,7 +2,8 @@
 use Rattle.std.proofs.Common.{◌≡◌, ℕ, suc, ◌+◌, ◌-◌, ◌<◌, List, [], ◌++◌, drop, map, Result, Ok, Err, OnOk, OnErr, Bool, false, sym, ap, ◌∙◌, append_assoc, arith}
 use Rattle.mcap_model.specs.Tops.{top_bytes, spelled}
 use Rattle.generated_feed.specs.Generator.{next_state, upper_bits, generated_message, messages_from}
-use Rattle.generated_feed.specs.Feeds.{message_top, end_top, unmade, left_to_read}
+use Rattle.generated_feed.specs.Feeds.{message_top, end_top}
+use Rattle.generated_feed.specs.Unread.{unmade, left_to_read}
 
 -- what went well, since it couldn't be refused
 pub made_well : {T E P Q : Type 0} (r : Result T E) → OnOk r P → OnErr r Q → (Q → ⊥) → P

@@ -18,7 +18,7 @@ use Rattle.mcap_model.specs.Places.{Each}
 use Rattle.mcap_model.specs.Tops.{Top, Tops, top_bytes, spelled, offset_behind, flat}
 use Rattle.mcap_model.specs.Fields.{IsHeader, IsChannel, IsMessage}
 use Rattle.mcap_model.specs.Rules.{HasDataEnd, HasChannel, V7, Agrees}
-use Rattle.mcap_model.specs.Laws.{IsReadBack}
+use Rattle.mcap_model.specs.ReadBack.{IsReadBack}
 use Rattle.mcap_model.specs.Kept.{reading_limits, Fits, Good, at_end, at_data_end}
 use Rattle.mcap_model.proofs.Places.{at_none, at_more, at_within}
 use Rattle.mcap_model.proofs.Lists.{cut_at}

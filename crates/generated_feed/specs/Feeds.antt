@@ -1,11 +1,11 @@
--- The bytes of a feed that is generated, and what is left of them.
-use Rattle.std.specs.Prelude.{ℕ, List, [], ◌∷◌, ◌++◌, map, drop, codes, decimal, Bool, true, false}
+-- The bytes of a feed that is generated.
+use Rattle.std.specs.Prelude.{ℕ, List, [], ◌∷◌, ◌++◌, map, codes, decimal}
 use Rattle.mcap_wire.specs.Layout.{magic}
 use Rattle.rec_data.specs.Fields.{ChannelFields, MessageFields}
 use Rattle.rec_data.specs.Records.{header_opcode, header_text, channel_opcode, channel_text, message_opcode, message_text, data_end_opcode, data_end_text}
 use Rattle.mcap_model.specs.Made.{top}
-use Rattle.mcap_model.specs.Tops.{Top, top_bytes, spelled}
-use Rattle.generated_feed.specs.Generator.{messages_from, generated}
+use Rattle.mcap_model.specs.Tops.{Top, spelled}
+use Rattle.generated_feed.specs.Generator.{generated}
 
 -- ---- the records
 
@@ -36,14 +36,3 @@ feed_tops seed feed n = header_top ∷ channel_top feed ∷ (map message_top (ge
 
 abbrev pub feed_bytes : ℕ → ℕ → ℕ → List ℕ
 feed_bytes seed feed n = magic ++ spelled (feed_tops seed feed n)
-
--- ---- a feed that is read
-
--- so many messages from that index on and the Data End, unless that was made
-abbrev pub unmade : Bool → ℕ → ℕ → ℕ → List ℕ
-unmade true n index state = []
-unmade false n index state = spelled (map message_top (messages_from n index state)) ++ top_bytes end_top
-
--- the bytes that were made and not read, and what isn't made yet
-abbrev pub left_to_read : List ℕ → ℕ → List ℕ → List ℕ
-left_to_read waiting from later = drop from waiting ++ later

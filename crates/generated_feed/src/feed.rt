@@ -4,7 +4,8 @@ ghost use Rattle.std.proofs.Common.{◌∙◌};
 ghost use Rattle.mcap_wire.specs.Layout.{magic};
 ghost use Rattle.mcap_model.specs.Tops.{top_bytes};
 ghost use Rattle.generated_feed.specs.declared.generator.TheConstants.{RECORD_ROOM as record_room};
-ghost use Rattle.generated_feed.specs.Feeds.{header_top, channel_top, feed_bytes, unmade, left_to_read};
+ghost use Rattle.generated_feed.specs.Feeds.{header_top, channel_top, feed_bytes};
+ghost use Rattle.generated_feed.specs.Unread.{unmade, left_to_read};
 
 use crate::generator::{CHANNEL_ID, RECORD_ROOM, advance, begin, draw, put_message};
 use mcap_io::{Failed, Source};

@@ -12,8 +12,7 @@ use Rattle.mcap_model.specs.declared.replay.Shown.{Shown}
 use Rattle.mcap_model.specs.Places.{At, Has}
 use Rattle.mcap_model.specs.Tops.{Top}
 use Rattle.mcap_model.specs.Fields.{IsMessage}
-use Rattle.mcap_model.specs.Plain.{is_within}
-use Rattle.mcap_model.specs.Scan.{InRange}
+use Rattle.mcap_model.specs.Scan.{InRange, is_within}
 use Rattle.mcap_model.specs.Led.{IsThere, IsInChunk}
 use Rattle.mcap_model.proofs.Places.{at_none, at_kept}
 use Rattle.mcap_model.proofs.Lists.{at_either, at_second, has_taken, at_taken}
@@ -21,8 +20,9 @@ use Rattle.mcap_model.proofs.Maps.{message_once}
 use Rattle.mcap_model.proofs.Replays.{range_decided}
 use Rattle.indexed_replay.specs.declared.spots.Spot.{Spot}
 use Rattle.time_player.specs.Ordering.{led_as}
-use Rattle.indexed_replay.specs.Steps.{AddsEachOnce, IsLedByEntry, IsLedInRange, place_in, message_cost, entry_cost, entries_cost}
-use Rattle.indexed_replay.specs.Holding.{Overfull}
+use Rattle.indexed_replay.specs.Steps.{AddsEachOnce, IsLedByEntry, IsLedInRange, place_in}
+use Rattle.indexed_replay.specs.Costs.{message_cost, entry_cost, entries_cost}
+use Rattle.indexed_replay.specs.HoldingSteps.{Overfull}
 use Rattle.indexed_replay.proofs.Headed.{there_begun}
 use Rattle.indexed_replay.proofs.Once.{once_none, once_alone, once_joined}
 use Rattle.indexed_replay.proofs.Filling.{over_both}

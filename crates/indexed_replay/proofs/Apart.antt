@@ -20,7 +20,8 @@ use Rattle.mcap_model.specs.declared.refusals.ReadingRefused.TheVariants as refu
 use Rattle.mcap_model.specs.declared.refusals.IndexedRefused.{IndexedRefused}
 use Rattle.mcap_model.specs.declared.refusals.IndexedRefused.TheVariants as by_index
 use Rattle.indexed_replay.specs.Reaching.{HasChunkIndex, BreaksByIndex, second_index}
-use Rattle.indexed_replay.specs.Replaying.{IsReason, RefusedReplayCause, HaveOneIndex, HasOneIndex}
+use Rattle.indexed_replay.specs.Replaying.{IsReason, RefusedReplayCause}
+use Rattle.indexed_replay.specs.ReplayingSteps.{HaveOneIndex, HasOneIndex}
 use Rattle.indexed_replay.specs.Apart.{Leads, AreLeads, HaveOne, HaveTwo, Ascend, FoundTwo, ApartRefused}
 use Rattle.indexed_replay.proofs.Summed.{loaded_summary, summary_once, start_same}
 use Rattle.indexed_replay.proofs.Playing.{are_indexed}

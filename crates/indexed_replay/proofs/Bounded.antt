@@ -18,8 +18,7 @@ use Rattle.mcap_model.proofs.Flat.{good_lists_are_scanned}
 use Rattle.mcap_laws.proofs.Leading.{there_same, is_there, opened, section_first, index_right, index_stands}
 use Rattle.summary_read.specs.Parts.{of_kind}
 use Rattle.indexed_replay.specs.Reaching.{HasChunkIndex, ChunkEndsAt, Beside, nothing, heads, AskedBeside}
-use Rattle.indexed_replay.specs.Chunks.{plain_length, ChunkCost, empty_map, plain_chunk}
-use Rattle.indexed_replay.specs.Gathering.{IndexesCost, no_index, next_index}
+use Rattle.indexed_replay.specs.Costs.{plain_length, ChunkCost, empty_map, plain_chunk, IndexesCost, no_index, next_index}
 use Rattle.indexed_replay.proofs.Chunking.{name_length}
 use Rattle.mcap_model.proofs.Once.{chunk_index_once}
 use Rattle.indexed_replay.proofs.Weighed.{weights_fit}

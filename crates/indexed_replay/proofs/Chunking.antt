@@ -2,8 +2,7 @@
 use Rattle.std.proofs.Common.{◌≡◌, ℕ, ◌+◌, ◌-◌, ◌^◌, ◌<◌, ◌≤◌, List, ◌++◌, length, take, drop, refl, sym, ap, subst, ◌∙◌, append_assoc, arith}
 use Rattle.std.specs.Prelude.{◌≢◌}
 use Rattle.std.proofs.lemmas.List.{take-append-drop, drop-append-le, drop-drop, drop-take, take-take, take_at, drop_at, length-append}
-use Rattle.mcap_wire.specs.Layout.{le, number, prefixed}
-use Rattle.mcap_wire.specs.Reading.{NumberAt, text_length}
+use Rattle.mcap_wire.specs.Layout.{le, number, prefixed, NumberAt, text_length}
 use Rattle.mcap_wire.proofs.Numbers.{length-le, number-le}
 use Rattle.rec_index.specs.Fields.{ChunkFields}
 use Rattle.mcap_model.specs.Tops.{Top, declared_length, first_top}
@@ -11,7 +10,8 @@ use Rattle.mcap_model.specs.Fields.{IsChunk}
 use Rattle.mcap_model.proofs.Readings.{length-top}
 use Rattle.indexed_replay.specs.Reaching.{ChunkEndsAt, LacksChunk}
 use Rattle.indexed_replay.specs.Steps.{FrontStands, LacksRecord}
-use Rattle.indexed_replay.specs.Chunks.{front_length, plain_length, FrontAsked}
+use Rattle.indexed_replay.specs.Chunks.{FrontAsked}
+use Rattle.indexed_replay.specs.Costs.{front_length, plain_length}
 use Rattle.indexed_replay.proofs.Headed.{there_begun}
 
 -- ---- the compression in a content

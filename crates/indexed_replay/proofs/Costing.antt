@@ -11,19 +11,17 @@ use Rattle.mcap_model.specs.declared.replay.Range.{Range}
 use Rattle.mcap_model.specs.Places.{At, Has, Each}
 use Rattle.mcap_model.specs.Tops.{Top, top_bytes, spelled}
 use Rattle.mcap_model.specs.Fields.{MessageFields, IsMessage, IsMessageIndex, ChunkIndexFields, IsChunkIndex}
-use Rattle.mcap_model.specs.Plain.{is_within}
+use Rattle.mcap_model.specs.Scan.{is_within}
 use Rattle.mcap_model.specs.Whole.{offset_among, IsEntryOf}
 use Rattle.mcap_model.specs.Led.{HasSummary, IsThere, log_time_in, is_timely, Meets, ChunkCosts}
 use Rattle.mcap_model.specs.Led as led
-use Rattle.mcap_model.specs.Plain as plain
+use Rattle.mcap_model.specs.Scan as plain
 use Rattle.mcap_model.proofs.Places.{at_none, at_one}
 use Rattle.mcap_model.proofs.Lists.{each_cons, each_joined, pairs_at, pairs_from}
 use Rattle.mcap_model.proofs.Readings.{length-top}
 use Rattle.mcap_model.proofs.Maps.{message_once, message_long}
 use Rattle.mcap_model.proofs.Once.{message_index_once}
-use Rattle.indexed_replay.specs.Steps.{message_cost, entry_cost, entries_cost}
-use Rattle.indexed_replay.specs.Lists.{own_list}
-use Rattle.indexed_replay.specs.Chunks.{NamesCost, no_name, next_name}
+use Rattle.indexed_replay.specs.Costs.{message_cost, entry_cost, entries_cost, own_list, NamesCost, no_name, next_name}
 use Rattle.indexed_replay.proofs.Headed.{there_begun}
 use Rattle.indexed_replay.proofs.Messaging.{whole_cost}
 use Rattle.indexed_replay.proofs.Weighed.{AreApart, apart_joined, weight_at, weight_is}

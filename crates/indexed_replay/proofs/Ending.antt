@@ -26,7 +26,8 @@ use Rattle.mcap_model.specs.declared.refusals.IndexedRefused.{IndexedRefused}
 use Rattle.mcap_model.specs.declared.refusals.IndexedRefused.TheVariants as by_index
 use Rattle.indexed_replay.specs.Reaching.{IsNotIndexed, at_loading, while_loading, nothing, AskedBeside}
 use Rattle.indexed_replay.specs.Replaying.{IsReason, FileIsLed, SaysNoSummary, IsScanReplayed, PlayedStatesChunks, ReplayCause}
-use Rattle.indexed_replay.specs.Played.{PartsAgree, CountsJudged}
+use Rattle.indexed_replay.specs.Played.{PartsAgree}
+use Rattle.indexed_replay.specs.LoadedReplays.{CountsJudged}
 use Rattle.indexed_replay.proofs.Headed.{there_begun}
 use Rattle.indexed_replay.proofs.Full.{none_refuses}
 use Rattle.indexed_replay.proofs.Summed.{loaded_summary, start_same}

@@ -6,9 +6,9 @@ use Rattle.mcap_model.specs.Places.{At}
 use Rattle.std.proofs.lemmas.Option.{same_Some}
 use Rattle.mcap_model.proofs.Places.{at_none}
 use Rattle.mcap_model.proofs.Lists.{at_either, at_second}
-use Rattle.time_player.specs.Keeping.{data_in}
+use Rattle.time_player.specs.DataOfMessages.{data_in}
 use Rattle.indexed_replay.specs.Steps.{AddsEachOnce}
-use Rattle.indexed_replay.specs.Holding.{Overfull}
+use Rattle.indexed_replay.specs.HoldingSteps.{Overfull}
 use Rattle.indexed_replay.proofs.Once.{once_joined, once_alone}
 
 data_joined : (xs ys : List Shown) → data_in (xs ++ ys) ≡ data_in xs + data_in ys

@@ -14,8 +14,9 @@ use Rattle.mcap_model.specs.declared.refusals.IndexedRefused.{IndexedRefused}
 use Rattle.indexed_replay.specs.declared.spots.Request.{Request}
 use Rattle.indexed_replay.specs.Steps.{AddsEachOnce}
 use Rattle.indexed_replay.specs.Lists.{IsLedOnChannel}
-use Rattle.indexed_replay.specs.Chunks.{spot_of, IsLedAmong, NameFills, ChunkCost}
-use Rattle.indexed_replay.specs.Gathering.{AreApart, IndexFills, IsLedFrom, IndexesCost, next_index, last_index}
+use Rattle.indexed_replay.specs.Chunks.{IsLedAmong, NameFills}
+use Rattle.indexed_replay.specs.Costs.{spot_of, ChunkCost, IndexesCost, next_index, last_index}
+use Rattle.indexed_replay.specs.Gathering.{AreApart, IndexFills, IsLedFrom}
 use Rattle.indexed_replay.proofs.Adding.{taken_or, taken_front, taken_last, adds_none, adds_same, adds_both}
 use Rattle.indexed_replay.proofs.Filling.{over_both}
 

@@ -20,9 +20,10 @@ use Rattle.indexed_replay.specs.declared.spots.Spot.{Spot}
 use Rattle.indexed_replay.specs.declared.spots.Request.{Request}
 use Rattle.indexed_replay.specs.Reaching.{NamesOffset, LeadsTo, LacksIndex, LacksMessage, no_index, IsTooLong, at_index, at_message, head_length}
 use Rattle.indexed_replay.specs.Replaying.{IsReason}
-use Rattle.indexed_replay.specs.Steps.{FrontStands, AddsEachOnce, IsLedInRange, EntryRefused, EntriesShown, entries_cost, ListAsked}
-use Rattle.indexed_replay.specs.Lists.{IsWantedChannel, Undeclared, KnowsSummaryChannels, HasTimely, IsShownBy, ContentRefused, at_entry, no_channel, too_much, ContentShown, IsLedBy, IsLedOnChannel, ListRefused, ListShown, ListCost, own_list, other_list, no_list, IsListFound}
-use Rattle.indexed_replay.specs.Holding.{OverfullAt}
+use Rattle.indexed_replay.specs.Steps.{FrontStands, AddsEachOnce, IsLedInRange, EntryRefused, EntriesShown, ListAsked}
+use Rattle.indexed_replay.specs.Costs.{entries_cost, ListCost, own_list, other_list, no_list}
+use Rattle.indexed_replay.specs.Lists.{IsWantedChannel, Undeclared, KnowsSummaryChannels, HasTimely, IsShownBy, ContentRefused, at_entry, no_channel, too_much, ContentShown, IsLedBy, IsLedOnChannel, ListRefused, ListShown, IsListFound}
+use Rattle.indexed_replay.specs.HoldingSteps.{OverfullAt}
 use Rattle.indexed_replay.proofs.Headed.{there_begun}
 use Rattle.indexed_replay.proofs.Filling.{over_same}
 use Rattle.indexed_replay.proofs.Adding.{adds_none, adds_same, same_there}

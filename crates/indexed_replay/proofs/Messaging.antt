@@ -15,7 +15,8 @@ use Rattle.mcap_model.proofs.Maps.{message_once, message_long}
 use Rattle.indexed_replay.specs.Reaching.{LacksMessage}
 use Rattle.std.proofs.Math.Seq.{take-append-add}
 use Rattle.indexed_replay.proofs.Headed.{there_begun}
-use Rattle.indexed_replay.specs.Steps.{FrontStands, LacksRecord, IsLedByEntry, place_in, message_cost}
+use Rattle.indexed_replay.specs.Steps.{FrontStands, LacksRecord, IsLedByEntry, place_in}
+use Rattle.indexed_replay.specs.Costs.{message_cost}
 
 -- ---- a message with another payload
 

@@ -4,7 +4,7 @@ use Rattle.std.specs.Prelude.{◌≢◌}
 use Rattle.std.proofs.lemmas.Bool.{cases_eq}
 use Rattle.std.proofs.lemmas.Option.{same_Some}
 use Rattle.std.specs.List.{AllZip}
-use Rattle.mcap_wire.specs.Reading.{text_length}
+use Rattle.mcap_wire.specs.Layout.{text_length}
 use Rattle.mcap_model.specs.declared.replay.Range.{Range}
 use Rattle.mcap_model.specs.declared.replay.Shown.{Shown}
 use Rattle.mcap_wire.specs.Maps.{KeysDiffer}
@@ -23,9 +23,10 @@ use Rattle.indexed_replay.specs.declared.spots.Spot.{Spot}
 use Rattle.indexed_replay.specs.Reaching.{IsReached, ChunkEndsAt, LacksIndex, BreaksByIndex, no_chunk, at_chunk, NamesNone, AskedBeside}
 use Rattle.indexed_replay.specs.Replaying.{IsReason}
 use Rattle.indexed_replay.specs.Steps.{AddsEachOnce}
-use Rattle.indexed_replay.specs.Holding.{OverfullAt}
-use Rattle.indexed_replay.specs.Lists.{IsLedBy, IsLedOnChannel, ListCost}
-use Rattle.indexed_replay.specs.Chunks.{spot_of, IsLedAmong, NameFills, ChunkRefused, ChunkAsked, plain_length, IsPackedAs, FrontAsked, NamesCost, no_name, next_name, last_name, ChunkCost, empty_map, plain_chunk, compressed_chunk, lacking_chunk}
+use Rattle.indexed_replay.specs.HoldingSteps.{OverfullAt}
+use Rattle.indexed_replay.specs.Lists.{IsLedBy, IsLedOnChannel}
+use Rattle.indexed_replay.specs.Costs.{ListCost, spot_of, plain_length, IsPackedAs, NamesCost, no_name, next_name, last_name, ChunkCost, empty_map, plain_chunk, compressed_chunk, lacking_chunk}
+use Rattle.indexed_replay.specs.Chunks.{IsLedAmong, NameFills, ChunkRefused, ChunkAsked, FrontAsked}
 use Rattle.indexed_replay.proofs.Adding.{same_there, taken_or, taken_front, taken_last, adds_none, adds_both}
 use Rattle.indexed_replay.proofs.Filling.{over_both}
 

@@ -17,7 +17,7 @@ use Rattle.mcap_model.proofs.Places.{at_none}
 use Rattle.mcap_model.proofs.Lists.{pairs_at, pairs_from}
 use Rattle.mcap_model.proofs.NamedTopics.{zip_front, zip_back}
 use Rattle.mcap_model.proofs.Readings.{length-top}
-use Rattle.time_player.specs.Keeping.{data_in}
+use Rattle.time_player.specs.DataOfMessages.{data_in}
 use Rattle.summary_read.specs.Parts.{Parts, IsLoaded, of_kind, offsets_of_kind}
 use Rattle.mcap_model.specs.declared.refusals.IndexedRefused.{IndexedRefused}
 use Rattle.indexed_replay.specs.declared.spots.Request.{Request}

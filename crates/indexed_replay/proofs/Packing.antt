@@ -3,9 +3,9 @@ use Rattle.std.proofs.Common.{◌≡◌, ℕ, ◌+◌, ◌^◌, ◌<◌, ◌≤�
 use Rattle.std.specs.Prelude.{◌≢◌}
 use Rattle.std.proofs.lemmas.List.{take-append-drop, take-append-le, drop-drop, take_at, drop_at, append-nil, length-append, length-take-le}
 use Rattle.mcap_wire.specs.declared.faults.Why.{Why}
-use Rattle.mcap_wire.specs.Layout.{le, number, string, prefixed}
-use Rattle.mcap_wire.specs.Reading.{text_length}
-use Rattle.mcap_wire.specs.Contents.{Values, row, RowBegins, Fails}
+use Rattle.mcap_wire.specs.Layout.{le, number, string, prefixed, text_length}
+use Rattle.mcap_wire.specs.Contents.{Values, row, RowBegins}
+use Rattle.mcap_wire.specs.ContentReading.{Fails}
 use Rattle.mcap_wire.proofs.Contents.{not_refused, shows_decided}
 use Rattle.mcap_wire.proofs.Numbers.{length-le, number-le}
 use Rattle.rec_index.specs.Fields.{ChunkFields}

@@ -8,12 +8,13 @@ use Rattle.std.proofs.lemmas.List.Sorted.{IsPermutation-sym, sum_by-IsPermutatio
 use Rattle.mcap_model.specs.declared.replay.Range.{Range}
 use Rattle.mcap_model.specs.declared.replay.Shown.{Shown}
 use Rattle.mcap_model.specs.Places.{At, Has}
-use Rattle.mcap_model.specs.Plain.{is_within}
+use Rattle.mcap_model.specs.Scan.{is_within}
 use Rattle.mcap_model.proofs.Places.{at_none, at_more, has_kept, has_last}
 use Rattle.mcap_model.proofs.Replays.{range_decided}
 use Rattle.mcap_model.specs.declared.refusals.ReadingRefused.{ReadingRefused}
 use Rattle.indexed_replay.specs.declared.spots.Spot.{Spot}
-use Rattle.indexed_replay.specs.Steps.{IsLedInRange, EntriesShown, entry_cost, AreTimely}
+use Rattle.indexed_replay.specs.Steps.{IsLedInRange, EntriesShown, AreTimely}
+use Rattle.indexed_replay.specs.Costs.{entry_cost}
 use Rattle.indexed_replay.proofs.Adding.{taken_or, taken_front, taken_last, sum_next, adds_same}
 use Rattle.indexed_replay.proofs.Apart.{has_moved}
 use Rattle.indexed_replay.proofs.Filling.{over_same}

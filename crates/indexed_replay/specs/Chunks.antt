@@ -1,9 +1,8 @@
 -- What a chunk adds to a replay.
-use Rattle.std.specs.Prelude.{◌≡◌, ◌≢◌, ◌⊎◌, ℕ, ◌+◌, ◌≤◌, List, [], ◌∷◌, length, Bool, true, false, Option, Some, Result, Ok, Err}
+use Rattle.std.specs.Prelude.{◌≡◌, ◌≢◌, ◌⊎◌, ℕ, ◌+◌, ◌≤◌, List, [], ◌∷◌, length, Bool, false, Option, Some, Result, Ok, Err}
 use Rattle.mcap_io.specs.Stores.{StoreState}
-use Rattle.mcap_wire.specs.Reading.{text_length}
+use Rattle.mcap_wire.specs.Layout.{text_length}
 use Rattle.mcap_wire.specs.Contents.{Kind, a_number, a_text, ShowsRow}
-use Rattle.mcap_model.specs.declared.replay.Range.{Range}
 use Rattle.mcap_model.specs.declared.replay.Shown.{Shown}
 use Rattle.mcap_model.specs.Places.{Has}
 use Rattle.mcap_model.specs.Tops.{Top}
@@ -13,13 +12,13 @@ use Rattle.mcap_model.specs.Led.{IsThere}
 use Rattle.mcap_model.specs.declared.refusals.ReadingRefused.{ReadingRefused}
 use Rattle.mcap_model.specs.declared.refusals.ReadingRefused.TheVariants as refusals
 use Rattle.mcap_model.specs.declared.refusals.IndexedRefused.{IndexedRefused}
-use Rattle.indexed_replay.specs.declared.spots.Spot.{Spot}
 use Rattle.indexed_replay.specs.declared.spots.Request.{Request}
-use Rattle.indexed_replay.specs.Reaching.{IsReached, ChunkEndsAt, LacksChunk, LacksIndex, IsTooLong, head_length, AskedBeside}
+use Rattle.indexed_replay.specs.Reaching.{IsReached, ChunkEndsAt, LacksChunk, IsTooLong, AskedBeside}
 use Rattle.indexed_replay.specs.Replaying.{IsReason}
 use Rattle.indexed_replay.specs.Steps.{AddsEachOnce}
-use Rattle.indexed_replay.specs.Holding.{OverfullAt}
-use Rattle.indexed_replay.specs.Lists.{KnowsSummaryChannels, IsLedBy, IsLedOnChannel, ListCost}
+use Rattle.indexed_replay.specs.HoldingSteps.{OverfullAt}
+use Rattle.indexed_replay.specs.Lists.{KnowsSummaryChannels, IsLedBy, IsLedOnChannel}
+use Rattle.indexed_replay.specs.Costs.{front_length, plain_length, IsPackedAs, spot_of, NamesCost, ChunkCost}
 
 -- ---- the front of a chunk
 
@@ -58,23 +57,6 @@ NamesPack told index at len size why = (file : List ℕ) (t : Top) → told ≡ 
 
 -- ---- what is asked for of it
 
--- how much of a chunk's content stands in front of its records, beside the compression
-abbrev pub front_length : ℕ
-front_length = 40
-
--- the bytes of a chunk without a compression in front of its records
-abbrev pub plain_length : ℕ
-plain_length = head_length + front_length
-
--- a record of a chunk's opcode stands there, whose content has room for a compression of that length, which isn't 0
-pub record IsPackedAs (file : List ℕ) (offset size : ℕ) : Type 0 where
-  pub chunk : Top
-  pub there : IsThere file offset chunk
-  pub kind : chunk.op ≡ 6
-  pub named : text_length chunk.content 28 ≡ size
-  pub some : size ≢ 0
-  pub room : front_length + size ≤ length chunk.content
-
 -- From the one count on no more was asked for than the bytes in front of the records of a chunk without a compression; where
 -- one is named, than these, and the front of the content with that name.
 pub record FrontAsked (file : List ℕ) (at before now : ℕ) : Type 0 where
@@ -86,10 +68,7 @@ AsksFront len at old new = (file : List ℕ) → old.bytes ≡ Some file → len
 
 -- ---- the Message Indexes that are named
 
-abbrev pub spot_of : ℕ → ℕ × ℕ → Spot
-spot_of chunk named = record { chunk = chunk; list = named.1; channel = named.0 }
-
--- one of them leads to the message
+-- one of these Message Indexes leads to the message
 pub record IsLedAmong (file : List ℕ) (request : Request) (chunk : ℕ) (indexes : List (ℕ × ℕ)) (s : Shown) : Type 0 where
   pub named : ℕ × ℕ
   pub there : Has {X = ℕ × ℕ} indexes named
@@ -115,13 +94,6 @@ ShowsNames told request at end f shown result = (file : List ℕ) → told ≡ S
 
 -- ---- what is asked for
 
--- What the Message Indexes that are named cost one after the other, up to the first that isn't there; and whether there is
--- such a one, at which a replay ends.
-pub data NamesCost (file : List ℕ) (range : Range) (chunk : ℕ) : List (ℕ × ℕ) → ℕ → Bool → Type 0 where
-  no_name : NamesCost file range chunk [] 0 false
-  next_name : (named : ℕ × ℕ) (others : List (ℕ × ℕ)) (cost rest : ℕ) (ends : Bool) → ListCost file range (spot_of chunk named) cost → NamesCost file range chunk others rest ends → NamesCost file range chunk (named ∷ others) (cost + rest) ends
-  last_name : (named : ℕ × ℕ) (others : List (ℕ × ℕ)) (cost : ℕ) → ListCost file range (spot_of chunk named) cost → LacksIndex file named.0 named.1 → NamesCost file range chunk (named ∷ others) cost true
-
 -- What a Chunk Index at that offset leads to was asked for; where it is refused, more beside. Behind one at which a replay ends
 -- it doesn't go on.
 abbrev pub ChunkAsked : List ℕ → Request → ℕ → ChunkIndexFields → (ℕ × Bool) → (ℕ × ℕ) → Result Unit IndexedRefused → Type 0
@@ -132,15 +104,6 @@ ChunkAsked file request at f cost asked (Err why) = KnowsSummaryChannels file re
 abbrev pub AsksNames : Request → ℕ → ℕ → ChunkIndexFields → StoreState → StoreState → Result Unit IndexedRefused → Type 0
 AsksNames request at end f old new result = (file : List ℕ) (cost : ℕ) (ends : Bool) → old.bytes ≡ Some file → length file ≡ request.len → ChunkEndsAt file f.offset end → NamesCost file request.range f.offset f.indexes cost ends
     → ChunkAsked file request at f (cost, ends) (old.asked, new.asked) result
-
--- What a Chunk Index costs, and whether a replay ends there. An empty map costs nothing. Of a chunk without a compression it is
--- what stands in front of its records, and what its Message Indexes cost; of one that names a compression its front with that
--- name besides; and of what is no chunk as much as such a front has.
-pub data ChunkCost (file : List ℕ) (range : Range) (f : ChunkIndexFields) : ℕ → Bool → Type 0 where
-  empty_map : f.indexes ≡ [] → ChunkCost file range f 0 false
-  plain_chunk : (end cost : ℕ) (ends : Bool) → ChunkEndsAt file f.offset end → NamesCost file range f.offset f.indexes cost ends → ChunkCost file range f (plain_length + cost) ends
-  compressed_chunk : (size : ℕ) → f.indexes ≢ [] → IsPackedAs file f.offset size → ChunkCost file range f (plain_length + (front_length + size)) true
-  lacking_chunk : f.indexes ≢ [] → ((end : ℕ) → ChunkEndsAt file f.offset end → ⊥) → ((size : ℕ) → IsPackedAs file f.offset size → ⊥) → ChunkCost file range f plain_length true
 
 abbrev pub AsksChunk : Request → ℕ → ChunkIndexFields → StoreState → StoreState → Result Unit IndexedRefused → Type 0
 AsksChunk request at f old new result = (file : List ℕ) (cost : ℕ) (ends : Bool) → old.bytes ≡ Some file → length file ≡ request.len → ChunkCost file request.range f cost ends → ChunkAsked file request at f (cost, ends) (old.asked, new.asked) result

@@ -1,7 +1,6 @@
 -- What the Chunk Indexes of a summary add to a replay, and the Channels that are known.
-use Rattle.std.specs.Prelude.{◌≡◌, ◌⊎◌, ℕ, ◌+◌, ◌<◌, ◌≤◌, List, [], ◌∷◌, length, true, false, Option, Some, Result, Ok, Err}
+use Rattle.std.specs.Prelude.{◌≡◌, ◌⊎◌, ℕ, ◌+◌, ◌<◌, ◌≤◌, List, length, Option, Some, Result, Ok, Err}
 use Rattle.mcap_io.specs.Stores.{StoreState}
-use Rattle.mcap_model.specs.declared.replay.Range.{Range}
 use Rattle.mcap_model.specs.declared.replay.Shown.{Shown}
 use Rattle.mcap_model.specs.declared.table.Declared.{Declared}
 use Rattle.mcap_model.specs.Places.{At, Has}
@@ -15,9 +14,10 @@ use Rattle.indexed_replay.specs.declared.spots.Request.{Request}
 use Rattle.indexed_replay.specs.Reaching.{HasChunkIndex, AskedBeside}
 use Rattle.indexed_replay.specs.Replaying.{IsReason}
 use Rattle.indexed_replay.specs.Steps.{AddsEachOnce}
-use Rattle.indexed_replay.specs.Holding.{OverfullAt}
+use Rattle.indexed_replay.specs.HoldingSteps.{OverfullAt}
 use Rattle.indexed_replay.specs.Lists.{KnowsSummaryChannels, IsLedOnChannel}
-use Rattle.indexed_replay.specs.Chunks.{spot_of, IsLedAmong, ChunkCost}
+use Rattle.indexed_replay.specs.Costs.{spot_of, IndexesCost}
+use Rattle.indexed_replay.specs.Chunks.{IsLedAmong}
 
 -- ---- channels
 
@@ -81,16 +81,6 @@ abbrev pub Gathers : Option (List ℕ) → Request → List Top → List ℕ →
 Gathers told request tops offsets shown result = (file : List ℕ) → told ≡ Some file → length file ≡ request.len → KnowsSummaryChannels file request.tables.now.channels → AreApart tops → AllShown file request tops offsets shown result
 
 -- ---- what is asked for
-
--- At most so much of the chunk of that Chunk Index, where it meets the range; and a replay doesn't end there.
-abbrev pub CostsUpTo : List ℕ → Range → Top → ℕ → Type 0
-CostsUpTo file range t cost = (f : ChunkIndexFields) → IsChunkIndex t f → Meets range f → (n : ℕ) × ChunkCost file range f n false × (n ≤ cost)
-
--- what the Chunk Indexes cost one after the other, up to the first that meets the range and at which a replay ends
-pub data IndexesCost (file : List ℕ) (range : Range) : List Top → ℕ → Type 0 where
-  no_index : IndexesCost file range [] 0
-  next_index : (t : Top) (others : List Top) (cost rest : ℕ) → CostsUpTo file range t cost → IndexesCost file range others rest → IndexesCost file range (t ∷ others) (cost + rest)
-  last_index : (t : Top) (others : List Top) (f : ChunkIndexFields) (cost : ℕ) → IsChunkIndex t f → Meets range f → ChunkCost file range f cost true → IndexesCost file range (t ∷ others) cost
 
 -- what the Chunk Indexes lead to was asked for; where one is refused, more beside
 abbrev pub AllAsked : List ℕ → Request → List Top → List ℕ → ℕ → (ℕ × ℕ) → Result Unit IndexedRefused → Type 0

@@ -6,23 +6,24 @@ use Rattle.mcap_model.specs.declared.replay.Range.{Range}
 use Rattle.mcap_model.specs.declared.replay.Shown.{Shown}
 use Rattle.mcap_model.specs.declared.table.Declared.{Declared}
 use Rattle.mcap_model.specs.Places.{At, Has}
-use Rattle.mcap_model.specs.Tops.{Top, top_bytes}
-use Rattle.mcap_model.specs.Fields.{ChannelFields, IsChannel, IsMessageIndex, ChunkIndexFields}
+use Rattle.mcap_model.specs.Tops.{Top}
+use Rattle.mcap_model.specs.Fields.{ChannelFields, IsChannel, ChunkIndexFields}
 use Rattle.mcap_model.specs.Made.{top}
 use Rattle.mcap_model.specs.Plain.{DeclareChannels, asked_topic}
 use Rattle.mcap_model.specs.Scan.{InRange, OnTopic}
-use Rattle.mcap_model.specs.Led.{HasSummary, FirstTopic, IsThere, LedByIndex}
+use Rattle.mcap_model.specs.Led.{HasSummary, FirstTopic, LedByIndex}
 use Rattle.mcap_model.specs.declared.refusals.ReadingRefused.{ReadingRefused}
 use Rattle.mcap_model.specs.declared.refusals.IndexedRefused.{IndexedRefused}
 use Rattle.mcap_model.specs.declared.refusals.IndexedRefused.TheVariants as by_index
 use Rattle.mcap_model.specs.declared.refusals.NotIndexed.TheVariants as lacks
 use Rattle.indexed_replay.specs.declared.spots.Spot.{Spot}
 use Rattle.indexed_replay.specs.declared.spots.Request.{Request}
-use Rattle.indexed_replay.specs.Reaching.{NamesOffset, LeadsNowhere, LacksIndex, head_length}
+use Rattle.indexed_replay.specs.Reaching.{NamesOffset, LeadsNowhere, LacksIndex}
 use Rattle.indexed_replay.specs.Replaying.{IsReason}
 use Rattle.time_player.specs.Ordering.{led_as}
-use Rattle.indexed_replay.specs.Holding.{OverfullAt}
-use Rattle.indexed_replay.specs.Steps.{AddsEachOnce, IsLedInRange, LacksListed, EntriesRefused, entries_cost, LacksList}
+use Rattle.indexed_replay.specs.HoldingSteps.{OverfullAt}
+use Rattle.indexed_replay.specs.Steps.{AddsEachOnce, IsLedInRange, LacksListed, EntriesRefused}
+use Rattle.indexed_replay.specs.Costs.{entries_cost, ListCost}
 
 -- ---- channels
 
@@ -107,13 +108,6 @@ ListShown file request at spot shown (Err why) = ListRefused file request at spo
 
 abbrev pub ShowsList : Option (List ℕ) → Request → ℕ → Spot → (List Shown × List Shown) → Result Bool IndexedRefused → Type 0
 ShowsList told request at spot shown result = (file : List ℕ) → told ≡ Some file → length file ≡ request.len → KnowsSummaryChannels file request.tables.now.channels → ListShown file request at spot shown result
-
--- What its reading asks for: all of it and the messages in the range; or all of what stands there as a Message Index, which
--- isn't one of that channel; or the head of what else stands there.
-pub data ListCost (file : List ℕ) (range : Range) (spot : Spot) : ℕ → Type 0 where
-  own_list : (list : Top) (entries : List (ℕ × ℕ)) → IsThere file spot.list list → IsMessageIndex list spot.channel entries → ListCost file range spot (length (top_bytes list) + entries_cost file range spot.chunk entries)
-  other_list : (list : Top) → IsThere file spot.list list → list.op ≡ 7 → LacksIndex file spot.channel spot.list → ListCost file range spot (length (top_bytes list))
-  no_list : LacksList file spot.list → ListCost file range spot head_length
 
 abbrev pub AsksList : Request → Spot → StoreState → StoreState → Type 0
 AsksList request spot old new = (file : List ℕ) (cost : ℕ) → old.bytes ≡ Some file → length file ≡ request.len → ListCost file request.range spot cost → new.asked ≤ old.asked + cost

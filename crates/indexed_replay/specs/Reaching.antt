@@ -1,8 +1,7 @@
 -- What a replay by the index reaches of a file: the Chunk Indexes of its summary that meet a range, the Message Indexes that
 -- they name, and the messages to which these lead. Why such a file isn't indexed, and where a rule fails on what is reached.
 use Rattle.std.specs.Prelude.{◌≡◌, ◌≢◌, ◌⊎◌, ℕ, ◌+◌, ◌*◌, ◌<◌, ◌≤◌, List, [], ◌++◌, length, drop, sum_by, AllPairs, Some}
-use Rattle.mcap_wire.specs.Layout.{content_limit}
-use Rattle.mcap_wire.specs.Reading.{text_length}
+use Rattle.mcap_wire.specs.Layout.{content_limit, text_length}
 use Rattle.mcap_model.specs.declared.replay.Range.{Range}
 use Rattle.mcap_model.specs.Places.{At, Has, Each}
 use Rattle.mcap_model.specs.Tops.{Top, top_bytes, spelled}

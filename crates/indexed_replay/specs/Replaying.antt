@@ -17,7 +17,7 @@ use Rattle.mcap_model.specs.declared.refusals.ReadingRefused.{ReadingRefused}
 use Rattle.mcap_model.specs.declared.refusals.ReadingRefused.TheVariants as refusals
 use Rattle.mcap_model.specs.declared.refusals.IndexedRefused.{IndexedRefused}
 use Rattle.mcap_model.specs.declared.refusals.IndexedRefused.TheVariants as by_index
-use Rattle.indexed_replay.specs.Reaching.{AreOfOne, IsNotIndexed, BreaksByIndex, ReachesPacked, LeadsPastLimit}
+use Rattle.indexed_replay.specs.Reaching.{IsNotIndexed, BreaksByIndex, ReachesPacked, LeadsPastLimit}
 
 -- ---- what is answered
 
@@ -69,18 +69,6 @@ PlayedStatesChunks file (Err why) = Unit {0}
 abbrev pub TellsChunks : Option (List ℕ) → Result Replayed IndexedRefused → Type 0
 TellsChunks told result = (file : List ℕ) → told ≡ Some file → PlayedStatesChunks file result
 
--- no chunk has two Chunk Indexes
-abbrev pub HaveOneIndex : List ℕ → Type 0
-HaveOneIndex file = (first second : ℕ) → AreOfOne file first second → first ≡ second
-
-abbrev pub HasOneIndex : List ℕ → Result Replayed IndexedRefused → Type 0
-HasOneIndex file (Ok played) = HaveOneIndex file
-HasOneIndex file (Err why) = Unit {0}
-
--- no file is played in which a chunk has two
-abbrev pub TellsOneIndex : Option (List ℕ) → Result Replayed IndexedRefused → Type 0
-TellsOneIndex told result = (file : List ℕ) → told ≡ Some file → HasOneIndex file result
-
 -- ---- files without a summary
 
 -- the answer is that there is no summary, unless the store failed or memory lacked
@@ -122,10 +110,6 @@ RefusedReplayCause before now (refusals.Grammar offset rule) = now ≡ before
 RefusedReplayCause before now (refusals.Compressed offset name) = now ≡ before
 RefusedReplayCause before now (refusals.Limit offset) = now ≡ before
 RefusedReplayCause before now refusals.Memory = now ≡ before
-
-abbrev pub ReadingCause : {P : Type 0} → ℕ → ℕ → Result P ReadingRefused → Type 0
-ReadingCause before now (Ok it) = now ≡ before
-ReadingCause before now (Err why) = RefusedReplayCause before now why
 
 abbrev pub ReplayCause : {P : Type 0} → ℕ → ℕ → Result P IndexedRefused → Type 0
 ReplayCause before now (Ok played) = now ≡ before

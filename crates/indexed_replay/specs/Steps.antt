@@ -1,5 +1,5 @@
 -- The steps of a replay by the index.
-use Rattle.std.specs.Prelude.{◌≡◌, ◌≢◌, ◌⊎◌, ℕ, ◌+◌, ◌-◌, ◌<◌, ◌≤◌, List, ◌++◌, length, take, drop, sum_by, AllPairs, Bool, true, false, if◌then◌else◌, Option, Some, None, Result, Ok, Err, Vec}
+use Rattle.std.specs.Prelude.{◌≡◌, ◌≢◌, ◌⊎◌, ℕ, ◌+◌, ◌<◌, ◌≤◌, List, ◌++◌, length, take, drop, AllPairs, Bool, true, false, Option, Some, None, Result, Ok, Err, Vec}
 use Rattle.mcap_io.specs.Stores.{StoreState}
 use Rattle.mcap_io.specs.declared.outside.Failed.{Failed}
 use Rattle.rec_index.specs.Records.{ShowsMessageIndex}
@@ -7,9 +7,8 @@ use Rattle.mcap_model.specs.declared.replay.Place.{Place}
 use Rattle.mcap_model.specs.declared.replay.Range.{Range}
 use Rattle.mcap_model.specs.declared.replay.Shown.{Shown}
 use Rattle.mcap_model.specs.Places.{Has}
-use Rattle.mcap_model.specs.Tops.{Top, top_bytes, opcode, declared_length, is_whole, first_top}
+use Rattle.mcap_model.specs.Tops.{Top, top_bytes, opcode, declared_length, first_top}
 use Rattle.mcap_model.specs.Made.{top}
-use Rattle.mcap_model.specs.Plain.{is_within}
 use Rattle.mcap_model.specs.Scan.{InRange}
 use Rattle.mcap_model.specs.Led.{IsThere, IsInChunk}
 use Rattle.time_player.specs.Ordering.{led_as}
@@ -20,7 +19,8 @@ use Rattle.indexed_replay.specs.declared.fronts.Front.{Front}
 use Rattle.indexed_replay.specs.declared.fronts.Front.TheVariants as fronts
 use Rattle.indexed_replay.specs.declared.spots.Spot.{Spot}
 use Rattle.indexed_replay.specs.Reaching.{LacksIndex, LacksMessage, IsTooLong, head_length}
-use Rattle.indexed_replay.specs.Holding.{OverfullAt}
+use Rattle.indexed_replay.specs.HoldingSteps.{OverfullAt}
+use Rattle.indexed_replay.specs.Costs.{message_cost, entries_cost, LacksList}
 
 -- ---- the front of a record
 
@@ -93,10 +93,6 @@ MessageIs file spot entry shown (Err why) = EntryRefused file spot.chunk entry w
 abbrev pub TellsMessage : Option (List ℕ) → ℕ → Spot → ℕ × ℕ → (List Shown × List Shown) → Result Bool ReadingRefused → Type 0
 TellsMessage told len spot entry shown result = (file : List ℕ) → told ≡ Some file → length file ≡ len → MessageIs file spot entry shown result
 
--- what the reading of a message asks for: 31 bytes, and the rest of the record, where a whole one stands there
-abbrev pub message_cost : List ℕ → ℕ → ℕ
-message_cost file at = 31 + (if is_whole (drop at file) then declared_length (drop at file) - 22 else 0)
-
 abbrev pub AsksMessage : ℕ → ℕ → StoreState → StoreState → Type 0
 AsksMessage len at old new = (file : List ℕ) → old.bytes ≡ Some file → length file ≡ len → new.asked ≤ old.asked + message_cost file at
 
@@ -126,13 +122,6 @@ EntriesShown file range spot entries shown (Err why) = EntriesRefused file range
 abbrev pub TellsEntries : Option (List ℕ) → ℕ → Range → Spot → List (ℕ × ℕ) → (List Shown × List Shown) → Result Bool ReadingRefused → Type 0
 TellsEntries told len range spot entries shown result = (file : List ℕ) → told ≡ Some file → length file ≡ len → EntriesShown file range spot entries shown result
 
--- what the reading of the messages in the range asks for
-abbrev pub entry_cost : List ℕ → Range → ℕ → ℕ × ℕ → ℕ
-entry_cost file range chunk entry = if is_within range entry.0 then message_cost file (chunk + 49 + entry.1) else 0
-
-abbrev pub entries_cost : List ℕ → Range → ℕ → List (ℕ × ℕ) → ℕ
-entries_cost file range chunk entries = sum_by (entry_cost file range chunk) entries
-
 -- an entry doesn't come behind another, by offset and then by time
 abbrev pub EntryNotBehind : ℕ × ℕ → ℕ × ℕ → Type 0
 EntryNotBehind e d = (e.1 < d.1) ⊎ ((e.1 ≡ d.1) × (e.0 ≤ d.0))
@@ -150,10 +139,6 @@ abbrev pub AsksEntries : ℕ → Range → ℕ → List (ℕ × ℕ) → StoreSt
 AsksEntries len range chunk entries old new = (file : List ℕ) → old.bytes ≡ Some file → length file ≡ len → new.asked ≤ old.asked + entries_cost file range chunk entries
 
 -- ---- a Message Index
-
--- no Message Index stands there, of whatever channel
-abbrev pub LacksList : List ℕ → ℕ → Type 0
-LacksList file at = (t : Top) → IsThere file at t → t.op ≡ 7 → ⊥
 
 -- the content of the Message Index that stands there, or none does
 abbrev pub ListIs : {Y : Type 0} → List ℕ → ℕ → Result (Option (Vec ℕ Y)) ReadingRefused → Type 0

@@ -1,8 +1,9 @@
 //! Whether a Message Index belongs to the chunk whose index names it.
 ghost use Rattle.std.specs.Prelude.{◌≤◌};
-ghost use Rattle.mcap_io.specs.Stores.{StoreStays};
+ghost use Rattle.mcap_io.specs.StoreAnswers.{StoreStays};
 ghost use Rattle.indexed_replay.specs.Belonging.{AsksHeads, JudgesAstray, TellsWalk};
-ghost use Rattle.indexed_replay.specs.Replaying.{RefusedReplayCause, ReadingCause};
+ghost use Rattle.indexed_replay.specs.Replaying.{RefusedReplayCause};
+ghost use Rattle.indexed_replay.specs.ReplayingSteps.{ReadingCause};
 
 use crate::fronts::{Front, read_front};
 use mcap_io::{Failed, Store};

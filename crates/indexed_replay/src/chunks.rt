@@ -1,11 +1,13 @@
 //! The messages of a chunk, to which its Chunk Index leads.
 ghost use Rattle.std.specs.Prelude.{◌+◌, ◌^◌, ◌<◌, ◌≤◌};
-ghost use Rattle.mcap_io.specs.Stores.{StoreStays};
+ghost use Rattle.mcap_io.specs.StoreAnswers.{StoreStays};
 ghost use Rattle.rec_index.specs.Parsed.{chunk_index_fields};
-ghost use Rattle.indexed_replay.specs.Replaying.{ReadingCause, RefusedReplayCause, ReplayCause};
+ghost use Rattle.indexed_replay.specs.Replaying.{RefusedReplayCause, ReplayCause};
+ghost use Rattle.indexed_replay.specs.ReplayingSteps.{ReadingCause};
 ghost use Rattle.indexed_replay.specs.Reaching.{head_length};
-ghost use Rattle.indexed_replay.specs.Holding.{HoldsExactly, HoldsWithin};
-ghost use Rattle.indexed_replay.specs.Chunks.{AsksChunk, AsksFront, AsksNames, ChecksChunk, NamesPack, TellsChunkShown, ShowsNames, front_length};
+ghost use Rattle.indexed_replay.specs.HoldingSteps.{HoldsExactly, HoldsWithin};
+ghost use Rattle.indexed_replay.specs.Chunks.{AsksChunk, AsksFront, AsksNames, ChecksChunk, NamesPack, TellsChunkShown, ShowsNames};
+ghost use Rattle.indexed_replay.specs.Costs.{front_length};
 ghost use Rattle.time_player.specs.Keeping.{kept_in};
 
 use crate::belonging::refuse_astray;

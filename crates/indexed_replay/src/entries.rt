@@ -1,8 +1,8 @@
 //! The messages to which the entries of a Message Index lead.
 ghost use Rattle.std.specs.Prelude.{◌≡◌, ◌<◌, ◌≤◌, ℕ, length, false, true, Some, slice_get, IfOk, OnErr};
-ghost use Rattle.mcap_io.specs.Stores.{StoreStays};
-ghost use Rattle.indexed_replay.specs.Replaying.{ReadingCause};
-ghost use Rattle.indexed_replay.specs.Holding.{HoldsExactly, HoldsWithin};
+ghost use Rattle.mcap_io.specs.StoreAnswers.{StoreStays};
+ghost use Rattle.indexed_replay.specs.ReplayingSteps.{ReadingCause};
+ghost use Rattle.indexed_replay.specs.HoldingSteps.{HoldsExactly, HoldsWithin};
 ghost use Rattle.indexed_replay.specs.Steps.{AreTimely, AsksEntries, EntriesAscend, TellsEntries};
 ghost use Rattle.indexed_replay.specs.Lists.{HasTimely};
 ghost use Rattle.time_player.specs.Keeping.{kept_in};

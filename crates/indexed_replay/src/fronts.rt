@@ -1,6 +1,6 @@
 //! The front of a record that stands at an offset of a store.
 ghost use Rattle.std.specs.Prelude.{◌≤◌, length};
-ghost use Rattle.mcap_io.specs.Outside.{HasCause};
+ghost use Rattle.mcap_io.specs.OutsideCalls.{HasCause};
 ghost use Rattle.summary_read.specs.Steps.{AsksAtMost};
 ghost use Rattle.indexed_replay.specs.Steps.{RecordLiesWithin, TellsRecordFront};
 

@@ -1,11 +1,11 @@
 //! All messages to which the Chunk Indexes of a summary lead.
 ghost use Rattle.std.specs.Prelude.{◌↔◌, ◌≤◌, IsTrue};
-ghost use Rattle.mcap_io.specs.Stores.{StoreStays};
+ghost use Rattle.mcap_io.specs.StoreAnswers.{StoreStays};
 ghost use Rattle.rec_index.specs.Parsed.{chunk_index_fields};
 ghost use Rattle.mcap_model.specs.Led.{Meets};
 ghost use Rattle.indexed_replay.specs.Replaying.{ReplayCause};
 ghost use Rattle.indexed_replay.specs.Gathering.{AsksAll, Gathers};
-ghost use Rattle.indexed_replay.specs.Holding.{HoldsExactly, HoldsWithin};
+ghost use Rattle.indexed_replay.specs.HoldingSteps.{HoldsExactly, HoldsWithin};
 ghost use Rattle.time_player.specs.Keeping.{kept_in};
 
 use crate::chunks::show_chunk;

@@ -1,10 +1,11 @@
 //! The messages to which a Message Index leads.
 ghost use Rattle.std.specs.Prelude.{◌≡◌, ◌≤◌, ◌↔◌, ℕ, List, IsTrue, IfOk, IfErr, IfSome};
-ghost use Rattle.mcap_io.specs.Stores.{StoreStays};
+ghost use Rattle.mcap_io.specs.StoreAnswers.{StoreStays};
 ghost use Rattle.rec_index.specs.Records.{ShowsMessageIndex};
 ghost use Rattle.mcap_model.specs.Plain.{asked_topic, DeclareChannels};
-ghost use Rattle.indexed_replay.specs.Replaying.{ReadingCause, ReplayCause};
-ghost use Rattle.indexed_replay.specs.Holding.{HoldsExactly, HoldsWithin};
+ghost use Rattle.indexed_replay.specs.Replaying.{ReplayCause};
+ghost use Rattle.indexed_replay.specs.ReplayingSteps.{ReadingCause};
+ghost use Rattle.indexed_replay.specs.HoldingSteps.{HoldsExactly, HoldsWithin};
 ghost use Rattle.indexed_replay.specs.Steps.{AsksListAt, TellsIndex, TellsList};
 ghost use Rattle.indexed_replay.specs.Lists.{AsksContent, AsksList, FindsList, HasTimely, ShowsList, ShowsContent, Undeclared, IsWantedChannel};
 ghost use Rattle.time_player.specs.Keeping.{kept_in};

@@ -1,8 +1,8 @@
 //! One message, read at its place in a chunk.
 ghost use Rattle.std.specs.Prelude.{◌+◌, ◌≤◌};
-ghost use Rattle.mcap_io.specs.Stores.{StoreStays};
-ghost use Rattle.indexed_replay.specs.Replaying.{ReadingCause};
-ghost use Rattle.indexed_replay.specs.Holding.{HoldsExactly, HoldsWithin};
+ghost use Rattle.mcap_io.specs.StoreAnswers.{StoreStays};
+ghost use Rattle.indexed_replay.specs.ReplayingSteps.{ReadingCause};
+ghost use Rattle.indexed_replay.specs.HoldingSteps.{HoldsExactly, HoldsWithin};
 ghost use Rattle.indexed_replay.specs.Steps.{AsksMessage, TellsMessage};
 ghost use Rattle.time_player.specs.Keeping.{kept_in};
 

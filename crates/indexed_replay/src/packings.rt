@@ -1,6 +1,6 @@
 //! What a chunk has in front of its records.
 ghost use Rattle.std.specs.Prelude.{IfErr, IfOk};
-ghost use Rattle.mcap_wire.specs.Contents.{Fails};
+ghost use Rattle.mcap_wire.specs.ContentReading.{Fails};
 ghost use Rattle.indexed_replay.specs.Chunks.{ShowsFront, front_kinds};
 
 use mcap_wire::{Bad, at_field, take_text, take_u32, take_u64};

@@ -1,11 +1,13 @@
 //! The replay of a store by the index of its file.
 ghost use Rattle.std.specs.Prelude.{◌≡◌, ◌≤◌, Ok};
-ghost use Rattle.mcap_io.specs.Stores.{LeavesStore, TellsLength};
+ghost use Rattle.mcap_io.specs.StoreAnswers.{LeavesStore, TellsLength};
 ghost use Rattle.mcap_model.specs.Plain.{asked_topic};
 ghost use Rattle.indexed_replay.specs.Apart.{HaveOne};
 ghost use Rattle.indexed_replay.specs.Holding.{TellsRoom};
-ghost use Rattle.indexed_replay.specs.Played.{AsksBound, AsksIndexed, AsksLoaded, AsksUnloaded, CountsJudged, PlaysLoaded};
-ghost use Rattle.indexed_replay.specs.Replaying.{PlaysIndexed, PlaysScan, ReplayCause, TellsChunks, TellsNoSummary, TellsOneIndex};
+ghost use Rattle.indexed_replay.specs.Played.{AsksBound, AsksIndexed, AsksUnloaded};
+ghost use Rattle.indexed_replay.specs.LoadedReplays.{AsksLoaded, CountsJudged, PlaysLoaded};
+ghost use Rattle.indexed_replay.specs.Replaying.{PlaysIndexed, PlaysScan, ReplayCause, TellsChunks, TellsNoSummary};
+ghost use Rattle.indexed_replay.specs.ReplayingSteps.{TellsOneIndex};
 
 use crate::channels::take_channels;
 use crate::gathering::gather;

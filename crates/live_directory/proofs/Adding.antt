@@ -5,9 +5,10 @@ use Rattle.std.proofs.lemmas.Bool.Decides.{nat_tests}
 use mathlib.Core.List.{IsPrefix}
 use prog.Atomic.{either}
 use Rattle.logbook.specs.Pages.{Cell, cell, keeps, no_nib, step, Moves, Goes}
-use Rattle.live_entry.specs.Following.{EntriesFollow}
+use Rattle.live_entry.specs.Entries.{EntriesFollow}
 use Rattle.live_directory.specs.declared.front.Added.{Added}
-use Rattle.live_directory.specs.Published.{end_of, entries_of, IsHistory}
+use Rattle.live_directory.specs.Published.{end_of, entries_of}
+use Rattle.live_directory.specs.Histories.{IsHistory}
 use Rattle.live_directory.specs.Rules.{IsBookOf, AddsBatch}
 use Rattle.live_directory.proofs.Beginnings.{prefix_whole}
 use Rattle.live_directory.proofs.Histories.{history_after}

@@ -1,9 +1,10 @@
 -- The empty history.
 use Rattle.std.proofs.Common.{◌≡◌, ℕ, zero, suc, List, [], ◌∷◌, Option, take, refl, subst, sym}
 use Rattle.live_entry.proofs.Nothing.{nothing_follows}
-use Rattle.live_entry.specs.Following.{EntriesFollow}
+use Rattle.live_entry.specs.Entries.{EntriesFollow}
 use Rattle.live_directory.specs.declared.front.Added.{Added}
-use Rattle.live_directory.specs.Published.{IsHistory, EndsLast, entries_of}
+use Rattle.live_directory.specs.Published.{entries_of}
+use Rattle.live_directory.specs.Histories.{IsHistory, EndsLast}
 
 module _ {X : Type 0} (tells : X → Option (List ℕ)) where
   nothing_ends : EndsLast {X = X} []

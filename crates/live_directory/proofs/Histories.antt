@@ -6,10 +6,11 @@ use Rattle.std.proofs.lemmas.List.{take-append-le, take_all}
 use Rattle.std.proofs.lemmas.Bool.{cases_lt}
 use mathlib.Core.List.{IsPrefix}
 use Rattle.live_entry.specs.declared.entry.Entry.{Entry}
-use Rattle.live_entry.specs.Following.{EntriesFollow}
+use Rattle.live_entry.specs.Entries.{EntriesFollow}
 use Rattle.mcap_model.specs.declared.ends.End.{End}
 use Rattle.live_directory.specs.declared.front.Added.{Added}
-use Rattle.live_directory.specs.Published.{entries_of, end_or, end_of, EndsLast, AlwaysFollow, IsHistory, published_front, AtLeast}
+use Rattle.live_directory.specs.Published.{entries_of, end_or, end_of}
+use Rattle.live_directory.specs.Histories.{EndsLast, AlwaysFollow, IsHistory, published_front, AtLeast}
 
 pub when_true : (P Q : Type 0) (b : Bool) → b ≡ true → MatchBool b P Q → P
 when_true P Q true e p = p

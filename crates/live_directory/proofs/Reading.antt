@@ -4,8 +4,9 @@ use Rattle.std.specs.Prelude.{All}
 use Rattle.std.proofs.lemmas.List.Elements.{All-push}
 use mathlib.Core.List.{IsPrefix}
 use Rattle.live_directory.specs.declared.front.Added.{Added}
-use Rattle.live_directory.specs.Published.{IsHistory}
-use Rattle.live_directory.specs.Reading.{ReaderState, Learns, unread, AreUnread}
+use Rattle.live_directory.specs.Histories.{IsHistory}
+use Rattle.live_directory.specs.Reading.{ReaderState, unread}
+use Rattle.live_directory.specs.ReaderSteps.{Learns, AreUnread}
 use Rattle.live_directory.proofs.Histories.{front_grows}
 
 module _ {X : Type 0} where

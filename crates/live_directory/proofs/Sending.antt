@@ -4,7 +4,8 @@ use Rattle.std.specs.Prelude.{Bool, true, false}
 use Rattle.live_entry.specs.declared.entry.Entry.{Entry}
 use Rattle.mcap_model.specs.declared.ends.End.{End}
 use Rattle.live_directory.specs.declared.front.Added.{Added}
-use Rattle.live_directory.specs.Published.{added_batch, entries_of, end_of}
+use Rattle.live_directory.specs.Published.{entries_of, end_of}
+use Rattle.live_directory.specs.Histories.{added_batch}
 use Rattle.live_directory.specs.Writing.{OutboxState, outbox_history, unseen, seen_of, Waits, EndAdded, EndWaits, Publishes, Defers, Seals, StaysUnsealed}
 use Rattle.live_directory.proofs.Histories.{entries_of-append, entries_of_snoc, end_of_snoc}
 

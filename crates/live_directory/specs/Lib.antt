@@ -1,5 +1,9 @@
+-- What the promise of the program reaches, in the order to read it.
 pub mod Published
+pub mod Reading
+-- What the functions of this crate and its proofs say besides.
+pub mod Histories
 pub mod Rules
 pub mod Visits
 pub mod Writing
-pub mod Reading
+pub mod ReaderSteps

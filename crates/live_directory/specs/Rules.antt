@@ -2,7 +2,7 @@
 use Rattle.std.specs.Prelude.{ℕ, ◌≡◌, ◌==◌, true, Option, List, [], ◌∷◌, ◌++◌, length, MatchBool}
 use Rattle.logbook.specs.Pages.{Cell, Step, View, Book, Named}
 use Rattle.live_directory.specs.declared.front.Added.{Added}
-use Rattle.live_directory.specs.Published.{IsHistory}
+use Rattle.live_directory.specs.Histories.{IsHistory}
 
 -- The first word is the length of the history. A book has two words, of which the second stays 0.
 pub record IsBookOf {X : Type 0} (tells : X → Option (List ℕ)) (cells : List Cell) (log : List (Added X)) : Type 0 where

@@ -5,7 +5,8 @@ use Rattle.live_entry.specs.declared.entry.Entry.{Entry}
 use Rattle.mcap_model.specs.declared.ends.End.{End}
 use Rattle.live_directory.specs.declared.front.Added.{Added}
 use Rattle.live_directory.specs.declared.front.Batch.{Batch}
-use Rattle.live_directory.specs.Published.{added_batch, entries_of, end_of}
+use Rattle.live_directory.specs.Histories.{added_batch}
+use Rattle.live_directory.specs.Published.{entries_of, end_of}
 
 -- The history that readers find, the entries that are pending, and whether memory lacked in publishing.
 pub record DirectoryState (X : Type 0) : Type 0 where
@@ -84,11 +85,6 @@ pub record EndAdded {X : Type 0} (before now : OutboxState X) (end : End) : Type
 pub record EndWaits {X : Type 0} (before now : OutboxState X) : Type 0 where
   pub shown : now.shown ≡ before.shown
   pub entries : entries_of (unseen now) ≡ entries_of (unseen before)
-
--- one element or none
-abbrev pub at_most_one : {A : Type 0} → Option A → List A
-at_most_one None = []
-at_most_one (Some x) = x ∷ []
 
 -- a batch or none
 abbrev pub at_most_batch : {X : Type 0} → Option (Batch X) → List (Added X)

@@ -1,9 +1,9 @@
 //! The writer of a directory.
 ghost use Rattle.std.specs.Prelude.{◌≡◌, ◌≤◌, ◌++◌, [], None, false, IfOk, MatchResult};
-ghost use Rattle.live_entry.specs.Following.{EntriesFollow};
+ghost use Rattle.live_entry.specs.Entries.{EntriesFollow};
 ghost use Rattle.live_directory.specs.Published.{entries_of, end_of};
 ghost use Rattle.live_directory.specs.Writing.{Publishes, Defers, Seals, StaysUnsealed, empty_directory};
-ghost use Rattle.live_directory.specs.Reading.{AreUnread};
+ghost use Rattle.live_directory.specs.ReaderSteps.{AreUnread};
 
 use crate::front::{Added, Batch};
 use crate::naming::{Naming, Opened};

@@ -1,8 +1,9 @@
 //! One history of what was published, of which each thread knows a beginning.
 ghost use Rattle.std.specs.Prelude.{◌≡◌, ◌+◌, ◌<◌, ◌^◌, ◌++◌, ◌∷◌, [], None, length, MatchBool};
 ghost use mathlib.Core.List.{IsPrefix};
-ghost use Rattle.live_entry.specs.Following.{EntriesFollow};
-ghost use Rattle.live_directory.specs.Published.{added_batch, entries_of, end_of, IsHistory, published_front};
+ghost use Rattle.live_entry.specs.Entries.{EntriesFollow};
+ghost use Rattle.live_directory.specs.Published.{entries_of, end_of};
+ghost use Rattle.live_directory.specs.Histories.{added_batch, IsHistory, published_front};
 ghost use Rattle.live_directory.specs.Rules.{named_book};
 
 use crate::front::{Added, Batch, Front};
@@ -52,7 +53,7 @@ impl<X: Extent> Play<Added<X>, u64> for Add {
 
 impl<X> Plain<Batch<X>, Added<X>, u64> for Add {
     ghost use Rattle.std.specs.Prelude.{None};
-    ghost use Rattle.live_directory.specs.Published.{added_batch};
+    ghost use Rattle.live_directory.specs.Histories.{added_batch};
 
     ghost ask = { λ batch. added_batch batch.entries.items batch.end };
 
@@ -90,7 +91,7 @@ pub struct Note<X: Extent, J: Naming> {
 impl<X: Extent, J: Naming> Model for Note<X, J> {
     ghost use Rattle.std.specs.Prelude.{◌≡◌, List, length};
     ghost use Rattle.live_directory.specs.declared.front.Added.{Added};
-    ghost use Rattle.live_directory.specs.Published.{IsHistory, published_front};
+    ghost use Rattle.live_directory.specs.Histories.{IsHistory, published_front};
 
     ghost Value = { List (Added X) };
 

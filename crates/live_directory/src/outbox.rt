@@ -1,7 +1,8 @@
 //! The batches of a writer on their way: into the history, into the log of the two copies, and to the readers.
 ghost use Rattle.std.specs.Prelude.{◌≡◌, ◌≤◌, ◌↔◌, ◌++◌, ◌∷◌, [], drop, None, IfOk, IsTrue, MatchResult};
-ghost use Rattle.live_entry.specs.Following.{EntriesFollow};
-ghost use Rattle.live_directory.specs.Published.{added_batch, entries_of, end_of, IsHistory};
+ghost use Rattle.live_entry.specs.Entries.{EntriesFollow};
+ghost use Rattle.live_directory.specs.Published.{entries_of, end_of};
+ghost use Rattle.live_directory.specs.Histories.{added_batch, IsHistory};
 ghost use Rattle.live_directory.specs.Writing.{OutboxState, outbox_history, Waits, EndAdded, EndWaits};
 
 use crate::front::{Added, Batch};
@@ -39,7 +40,8 @@ where
     Visiting: Protocol<Shelf<X, J>, Visits<X>>,
 {
     ghost use Rattle.std.specs.Prelude.{◌≡◌, ◌++◌, drop};
-    ghost use Rattle.live_directory.specs.Writing.{OutboxState, at_most_one, at_most_batch};
+    ghost use Rattle.live_directory.specs.Writing.{OutboxState, at_most_batch};
+    ghost use Rattle.live_directory.specs.Published.{at_most_one};
 
     ghost Value = { OutboxState X };
 

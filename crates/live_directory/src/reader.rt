@@ -2,10 +2,12 @@
 ghost use Rattle.std.specs.Prelude.{◌≡◌, ◌≤◌, ◌++◌, [], suc, length, take, OnOk, OnErr, MatchResult, ℕ};
 ghost use mathlib.Core.List.{IsPrefix};
 ghost use Rattle.left_right.specs.Sides.{view};
-ghost use Rattle.live_entry.specs.Following.{EntriesFollow};
-ghost use Rattle.live_directory.specs.Published.{entries_of, published_front, AtLeast, IsHistory};
+ghost use Rattle.live_entry.specs.Entries.{EntriesFollow};
+ghost use Rattle.live_directory.specs.Published.{entries_of};
+ghost use Rattle.live_directory.specs.Histories.{published_front, AtLeast, IsHistory};
 ghost use Rattle.live_directory.specs.Visits.{no_visits, one_visit};
-ghost use Rattle.live_directory.specs.Reading.{ReaderState, Learns, Refreshes, Visited, Tries, unread};
+ghost use Rattle.live_directory.specs.Reading.{ReaderState, unread};
+ghost use Rattle.live_directory.specs.ReaderSteps.{Learns, Refreshes, Visited, Tries};
 
 use crate::front::Front;
 use crate::naming::Naming;
@@ -43,7 +45,8 @@ where
     ghost use Rattle.std.specs.Prelude.{◌≡◌, ◌≤◌, length, take, IsSome};
     ghost use Rattle.left_right.specs.Sides as Sides;
     ghost use Rattle.live_directory.specs.Published.{entries_of};
-    ghost use Rattle.live_directory.specs.Reading.{ReaderState, visits_in};
+    ghost use Rattle.live_directory.specs.Reading.{ReaderState};
+    ghost use Rattle.live_directory.specs.ReaderSteps.{visits_in};
 
     ghost Value = { ReaderState X };
 

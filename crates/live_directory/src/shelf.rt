@@ -1,6 +1,6 @@
 //! What is published, of which there are two copies.
 ghost use Rattle.std.specs.Prelude.{◌≡◌, ◌-◌, [], ◌∷◌, ◌++◌, length, drop, IfOk, MatchResult};
-ghost use Rattle.live_directory.specs.Published.{added_batch};
+ghost use Rattle.live_directory.specs.Histories.{added_batch};
 
 use crate::front::{Added, Batch};
 use crate::naming::Naming;
@@ -24,7 +24,7 @@ pub struct Shelved<X: Extent, J: Naming> {
 impl<X: Extent, J: Naming> Model for Shelved<X, J> {
     ghost use Rattle.std.specs.Prelude.{◌≡◌, ◌-◌, [], ◌∷◌, length, drop};
     ghost use Rattle.live_directory.specs.declared.front.Added.{Added};
-    ghost use Rattle.live_directory.specs.Published.{added_batch};
+    ghost use Rattle.live_directory.specs.Histories.{added_batch};
 
     ghost Value = { Added X };
 

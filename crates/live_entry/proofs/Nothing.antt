@@ -13,7 +13,8 @@ use Rattle.mcap_model.specs.File.{library}
 use Rattle.mcap_model.proofs.Places.{at_none, each_more}
 use Rattle.mcap_model.proofs.Edges.{header_top, header_fits, ascii}
 use Rattle.live_entry.specs.declared.entry.Entry.{Entry}
-use Rattle.live_entry.specs.Following.{AreGood, EntriesFollow}
+use Rattle.live_entry.specs.Following.{AreGood}
+use Rattle.live_entry.specs.Entries.{EntriesFollow}
 
 empty : IsUtf8 []
 empty = ([], (refl, refl))

@@ -1,10 +1,15 @@
 -- What an entry has of its block, and what its extent tells.
-use Rattle.std.specs.Prelude.{◌≡◌, ℕ, List, length, Option, Some}
+use Rattle.std.specs.Prelude.{◌≡◌, ℕ, List, length, Option, Some, filter, not}
 use Rattle.rec_data.specs.declared.owned.Rec.{Rec}
 use Rattle.mcap_io.specs.Outside.{LiveState}
 use Rattle.mcap_model.specs.Blocks.{block_bytes, chunk_bytes, least, greatest, log_times, logged}
 use Rattle.mcap_model.specs.Built.{declarations}
 use Rattle.live_entry.specs.declared.entry.Entry.{Entry}
+use Rattle.std.specs.List.{AllZip}
+use Rattle.mcap_model.specs.Tops.{top_bytes, inner_tops, is_flat_kind}
+use Rattle.mcap_model.specs.Fields.{ChunkFields, IsChunk}
+use Rattle.mcap_model.specs.Scan.{is_message_top}
+use Rattle.live_entry.specs.Following.{Stored, Stretch, Follow, IsStored}
 
 -- an entry has the numbers of the block of these records, which stands at that offset
 pub record IsEntry {X : Type 0} (e : Entry X) (offset : ℕ) (records : List Rec) : Type 0 where
@@ -34,3 +39,17 @@ pub record HasBlockExtent {X : Type 0} (seen : SeenExtents X) (e : Entry X) (off
   pub numbers : IsEntry e offset records
   pub long : seen.size e.extent ≡ length (block_bytes records)
   pub told : TellsPiece (seen.tells e.extent) seen.held (block_bytes records)
+
+-- ---- entries and blocks that follow one another
+
+-- an entry has the numbers of a block
+pub record HasNumbers {X : Type 0} (e : Entry X) (s : Stretch) : Type 0 where
+  pub chunk_length : e.chunk_length ≡ length (top_bytes s.chunk)
+  pub times : (f : ChunkFields) → IsChunk s.chunk f → (e.start_time ≡ f.start) × (e.end_time ≡ f.end)
+  pub messages : e.messages ≡ length (filter is_message_top (inner_tops s.chunk))
+  pub declared : e.declared ≡ length (filter (λ t. not (is_message_top t)) (filter is_flat_kind (inner_tops s.chunk)))
+
+-- Where the extents of these entries tell, their bytes follow one another, and each entry has the numbers of its block.
+abbrev pub EntriesFollow : {X : Type 0} → (X → Option (List ℕ)) → List (Entry X) → Type 0
+EntriesFollow tells entries = (stored : List Stored) → AllZip (IsStored tells) entries stored
+    → (stretches : List Stretch) × Follow stored stretches × AllZip HasNumbers entries stretches

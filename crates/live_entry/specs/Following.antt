@@ -1,13 +1,13 @@
 -- When the blocks of a file that is being written follow one another, and which messages they hold.
-use Rattle.std.specs.Prelude.{◌≡◌, ◌<◌, ℕ, List, [], ◌∷◌, ◌++◌, length, filter, AllPairs, Option, Some, not}
+use Rattle.std.specs.Prelude.{◌≡◌, ◌<◌, ℕ, List, [], ◌∷◌, ◌++◌, AllPairs, Option, Some}
 use Rattle.std.specs.List.{AllZip, flat_map}
 use Rattle.mcap_model.specs.Places.{At, Each}
-use Rattle.mcap_model.specs.Tops.{Top, Placed, top_bytes, spelled, inner_tops, is_flat_kind, placed_from}
-use Rattle.mcap_model.specs.Fields.{ChunkFields, IsChunk, MessageFields, IsMessage, IsMessageIndex, IsHeader}
+use Rattle.mcap_model.specs.Tops.{Top, Placed, spelled, inner_tops, placed_from}
+use Rattle.mcap_model.specs.Fields.{MessageFields, IsMessage, IsMessageIndex, IsHeader}
 use Rattle.mcap_model.specs.Kept.{Good, reading_limits}
 use Rattle.mcap_model.specs.Whole.{V9}
 use Rattle.mcap_model.specs.Valid.{Keeps}
-use Rattle.mcap_model.specs.Scan.{ScanOf, Seen, is_message_top}
+use Rattle.mcap_model.specs.Scan.{ScanOf, Seen}
 use Rattle.live_entry.specs.declared.entry.Entry.{Entry}
 
 -- ---- blocks
@@ -82,15 +82,3 @@ ScanStored stored stretches messages = ScanOf (placed_in stored stretches) messa
 pub record IsStored {X : Type 0} (tells : X → Option (List ℕ)) (e : Entry X) (p : Stored) : Type 0 where
   pub told : tells e.extent ≡ Some p.bytes
   pub offset : e.offset ≡ p.at
-
--- an entry has the numbers of a block
-pub record HasNumbers {X : Type 0} (e : Entry X) (s : Stretch) : Type 0 where
-  pub chunk_length : e.chunk_length ≡ length (top_bytes s.chunk)
-  pub times : (f : ChunkFields) → IsChunk s.chunk f → (e.start_time ≡ f.start) × (e.end_time ≡ f.end)
-  pub messages : e.messages ≡ length (filter is_message_top (inner_tops s.chunk))
-  pub declared : e.declared ≡ length (filter (λ t. not (is_message_top t)) (filter is_flat_kind (inner_tops s.chunk)))
-
--- Where the extents of these entries tell, their bytes follow one another, and each entry has the numbers of its block.
-abbrev pub EntriesFollow : {X : Type 0} → (X → Option (List ℕ)) → List (Entry X) → Type 0
-EntriesFollow tells entries = (stored : List Stored) → AllZip (IsStored tells) entries stored
-    → (stretches : List Stretch) × Follow stored stretches × AllZip HasNumbers entries stretches

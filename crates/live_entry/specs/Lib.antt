@@ -1,2 +1,4 @@
-pub mod Entries
+-- What the promise of the program reaches, in the order to read it.
 pub mod Following
+-- What the functions of this crate and its proofs say besides.
+pub mod Entries

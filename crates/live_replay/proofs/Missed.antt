@@ -10,7 +10,8 @@ use Rattle.mcap_model.proofs.OpenedChunks.{inside_back}
 use Rattle.mcap_model.proofs.Replays.{range_decided}
 use Rattle.mcap_model.proofs.Unpacking.{chunks_are_opened}
 use Rattle.live_entry.specs.declared.entry.Entry.{Entry}
-use Rattle.live_entry.specs.Following.{Stretch, IsStretch, HasNumbers, stretch_tops}
+use Rattle.live_entry.specs.Following.{Stretch, IsStretch, stretch_tops}
+use Rattle.live_entry.specs.Entries.{HasNumbers}
 use Rattle.live_replay.specs.Keeping.{IsAmong, Gains}
 use Rattle.live_replay.specs.Blocks.{MayStandBehind, HasTime}
 use Rattle.live_replay.proofs.Gaining.{nothing_gained}

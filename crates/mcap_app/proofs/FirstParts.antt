@@ -7,7 +7,7 @@ use Rattle.std.proofs.lemmas.List.{take-append-drop}
 use Rattle.std.proofs.lemmas.Grind.{flat_map-append}
 use Rattle.std.proofs.lemmas.Option.{same_Some}
 use Rattle.mcap_wire.specs.Layout.{framed, magic}
-use Rattle.mcap_wire.specs.Limits.{profile_limit}
+use Rattle.mcap_wire.specs.RecordingLimits.{profile_limit}
 use Rattle.rec_data.specs.Records.{header_text}
 use Rattle.rec_data.specs.declared.owned.Rec.{Rec}
 use Rattle.mcap_io.specs.Outside.{WorldState, Told}
@@ -17,7 +17,8 @@ use Rattle.mcap_model.specs.declared.options.FileOptions.{FileOptions}
 use Rattle.mcap_model.specs.Places.{At, Each}
 use Rattle.mcap_model.specs.Tops.{Top, offset_behind}
 use Rattle.mcap_model.specs.Rules.{V1}
-use Rattle.mcap_model.specs.Kept.{Halt, SameHalt, at_end, grammar, compressed, beyond}
+use Rattle.mcap_model.specs.Kept.{Halt, at_end, grammar, compressed, beyond}
+use Rattle.mcap_model.specs.Readings.{SameHalt}
 use Rattle.mcap_model.specs.History.{is_message, Follows, Numbered}
 use Rattle.mcap_model.specs.Blocks.{Piece, block_in, blocks_in, pieces_of}
 use Rattle.mcap_model.specs.File.{front as front_bytes, library, file_of}
@@ -32,12 +33,12 @@ use Rattle.mcap_model.proofs.WrittenChunks.{empty_utf8}
 use Rattle.mcap_model.proofs.Pieces.{pieces_make_files}
 use Rattle.mcap_model.proofs.Readings.{kept_once}
 use Rattle.mcap_model.proofs.Repairs.{repairs_once}
-use Rattle.record_cache.specs.Buffers.{IsKept}
+use Rattle.record_cache.specs.KeptRecords.{IsKept}
 use Rattle.chunk_writer.specs.Limits.{Holds}
 use Rattle.chunk_writer.specs.declared.tape.Written.{Written}
 use Rattle.chunk_writer.specs.Stops.{StopsAt}
-use Rattle.recorder.specs.Laws.{AreReadable, ReadsAs}
-use Rattle.recorder.specs.Recorded.{Sides, sides, Recorded}
+use Rattle.recorder.specs.Laws.{ReadsAs}
+use Rattle.recorder.specs.Recorded.{Sides, sides, Recorded, AreReadable}
 use Rattle.recorder.specs.declared.options.RecordOptions.{RecordOptions}
 use Rattle.recorder.specs.declared.report.Report.{Report}
 use Rattle.recorder.proofs.ReadBack.{IsClosedFile, closed_file, can_be_read, files_read_back}
@@ -51,7 +52,8 @@ use Rattle.command_base.specs.Ran.{Scene, counts_in, AnyRose}
 use Rattle.output_commands.specs.declared.recovering.Recovery.{Recovery}
 use Rattle.output_commands.specs.declared.recovering.Recovery.TheVariants as recoveries
 use Rattle.output_commands.specs.Recover.{HoldsRecovered, RecoveryDecides, RecoversFile}
-use Rattle.record_command.specs.Record.{AreAllowed, back_sources}
+use Rattle.record_command.specs.Record.{back_sources}
+use Rattle.record_command.specs.RecordSteps.{AreAllowed}
 use Rattle.mcap_app.specs.Laws.{IsChunkSize, IsFirstPart, FitsWritingLimits, records_in_pieces, KeepsFirst, RecoversFirst, PassesWritingLimit, RecordingsLeaveFirstParts, RecordingsAreRecovered}
 use Rattle.mcap_app.proofs.Recordings.{Recording, of_records}
 use Rattle.mcap_app.proofs.Unrepeated.{unrepeated}

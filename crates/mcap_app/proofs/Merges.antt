@@ -19,7 +19,8 @@ use Rattle.mcap_model.specs.Fields.{IsHeader}
 use Rattle.mcap_model.specs.Kept.{Good, Halts, reading_limits, at_end}
 use Rattle.mcap_model.specs.Repaired.{is_extra, ProfileIs}
 use Rattle.mcap_model.specs.Merged.{CommonProfile, AreRead, Merged as MergesTo}
-use Rattle.mcap_model.specs.Laws.{IsReadBack, IsExtra, CanBeWritten}
+use Rattle.mcap_model.specs.Laws.{CanBeWritten}
+use Rattle.mcap_model.specs.ReadBack.{IsReadBack, IsExtra}
 use Rattle.mcap_model.specs.Blocks.{pieces_of, blocks_in}
 use Rattle.mcap_model.specs.File.{file_of}
 use Rattle.mcap_model.proofs.Places.{at_none}

@@ -17,8 +17,7 @@ use Rattle.mcap_model.specs.declared.refusals.ReadingRefused.{ReadingRefused}
 use Rattle.mcap_model.specs.declared.refusals.ReadingRefused.TheVariants as scans
 use Rattle.mcap_model.specs.declared.ends.Stop.{Stop}
 use Rattle.mcap_model.specs.declared.ends.Stop.TheVariants as stops
-use Rattle.mcap_recover.specs.Readings.{lacks}
-use Rattle.mcap_recover.specs.Recovering.{recovered_options}
+use Rattle.mcap_recover.specs.Recovering.{lacks, recovered_options}
 use Rattle.command_base.specs.Printing.{TellsAll}
 use Rattle.command_base.specs.Ran.{Scene, kept, failed_so, named_when, failed_names}
 use Rattle.output_commands.specs.declared.recovering.Recovery.{Recovery}

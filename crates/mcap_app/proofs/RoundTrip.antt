@@ -14,13 +14,14 @@ use Rattle.mcap_model.specs.File.{file_of}
 use Rattle.mcap_model.specs.Laws.{HoldsSeen}
 use Rattle.mcap_model.proofs.Halting.{readings_halt_once}
 use Rattle.recorder.specs.declared.report.Report.{Report}
-use Rattle.recorder.specs.Laws.{AreReadable, ReadsAs}
+use Rattle.recorder.specs.Laws.{ReadsAs}
+use Rattle.recorder.specs.Recorded.{AreReadable}
 use Rattle.recorder.proofs.ReadBack.{recordings_are_read_back}
 use Rattle.command_base.specs.declared.file_reading.Reading.{Reading}
 use Rattle.command_base.specs.declared.file_reading.Reading.TheVariants as readings
 use Rattle.command_base.specs.Ran.{Scene, counts_in, AnyRose}
 use Rattle.recorder.specs.declared.options.RecordOptions.{RecordOptions}
-use Rattle.record_command.specs.Record.{AreAllowed}
+use Rattle.record_command.specs.RecordSteps.{AreAllowed}
 use Rattle.mcap_model.specs.declared.refusals.ReadingRefused.{ReadingRefused}
 use Rattle.command_base.specs.OneFile.{refusal_ending}
 use Rattle.command_base.specs.Readings.{IsSourceRead}

@@ -7,7 +7,8 @@ use Rattle.command_words.specs.declared.command.Command.TheVariants as commands
 use Rattle.mcap_model.specs.declared.options.FileOptions.{FileOptions}
 use Rattle.mcap_model.specs.declared.replay.Range.{Range}
 use Rattle.command_words.specs.Items.{Item, given}
-use Rattle.command_words.specs.Commands.{GivesNumber, SizesChunks, Derives, IsFileOptions, Flags, HasWatchers, MayWatch, watch_name, watch_names, watchers_with}
+use Rattle.command_words.specs.Commands.{GivesNumber, SizesChunks, Derives, IsFileOptions, Flags, HasWatchers, MayWatch, watchers_with}
+use Rattle.command_words.specs.Defaults.{watch_name, watch_names}
 use Rattle.recorder.specs.declared.report.Report.{Report}
 use Rattle.command_base.specs.Ran.{Scene}
 use Rattle.record_command.proofs.Answered.{not_two as record_not_two}
@@ -17,12 +18,13 @@ use Rattle.file_commands.proofs.Followings.{indexed_not_two}
 use Rattle.output_commands.proofs.Recoveries.{recovers_not_two}
 use Rattle.output_commands.proofs.Merges.{merges_not_two}
 use Rattle.generate_command.proofs.Statuses.{generates_not_two}
-use Rattle.generate_command.specs.Making.{OptionsAllowed}
+use Rattle.generate_command.specs.Allowed.{OptionsAllowed}
 use Rattle.record_command.specs.Record.{Records}
 use Rattle.record_command.specs.Watched.{requested}
 use Rattle.record_command.specs.WatchedAnswer.{RecordsWatched}
 use Rattle.recorder.specs.declared.options.RecordOptions.{RecordOptions}
-use Rattle.mcap_app.specs.Runs.{IsAllowed, IsWatchable, LacksForWords, RecordsBeside, Runs, generate_options}
+use Rattle.mcap_app.specs.Runs.{RecordsBeside, Runs, generate_options}
+use Rattle.mcap_app.specs.Ways.{IsAllowed, IsWatchable, LacksForWords}
 
 -- no command has the status of bad words
 pub not_two : (command : Command) (old new : Scene) (report : Option Report) (status : ℕ) → Runs command old new report status → status ≡ 2 → ⊥

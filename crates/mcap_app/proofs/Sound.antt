@@ -8,7 +8,8 @@ use Rattle.mcap_model.specs.declared.checked.Verdict.{Verdict}
 use Rattle.mcap_model.specs.declared.checked.Verdict.TheVariants as verdicts
 use Rattle.mcap_model.specs.declared.options.FileOptions.{FileOptions}
 use Rattle.mcap_model.specs.Tops.{Top, spelled}
-use Rattle.mcap_model.specs.Kept.{Halt, HaltsAt, Halts, SameHalt, reading_limits, is_beyond, at_end, grammar as breaks, compressed as names, beyond, no_magic, at_data_end, behind_kept}
+use Rattle.mcap_model.specs.Kept.{Halt, HaltsAt, Halts, reading_limits, is_beyond, at_end, grammar as breaks, compressed as names, beyond, no_magic, at_data_end, behind_kept}
+use Rattle.mcap_model.specs.Readings.{SameHalt}
 use Rattle.mcap_model.specs.File.{file_of}
 use Rattle.mcap_model.specs.Places.{At, Each}
 use Rattle.mcap_model.specs.Fields.{IsFooter}
@@ -40,7 +41,7 @@ use Rattle.command_base.specs.declared.file_reading.Reading.{Reading}
 use Rattle.command_base.specs.declared.file_reading.Reading.TheVariants as readings
 use Rattle.file_commands.specs.Check.{verdict_status, Decides, FileChecks}
 use Rattle.command_base.specs.Ran.{Scene, counts_in, AnyRose}
-use Rattle.record_command.specs.Record.{AreAllowed}
+use Rattle.record_command.specs.RecordSteps.{AreAllowed}
 use Rattle.mcap_app.specs.Laws.{IsSaid, PrintsSound, RecordingsAreSound}
 use Rattle.mcap_app.proofs.Recordings.{Recording, of_records}
 use Rattle.mcap_app.proofs.RoundTrip.{closed_left}

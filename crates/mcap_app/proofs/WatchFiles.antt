@@ -26,7 +26,7 @@ use Rattle.mcap_model.proofs.Readings.{kept_once, halts_are_last, good_from_the_
 use Rattle.mcap_model.proofs.Histories.{numbered_ids_agree, recs_are_flat}
 use Rattle.mcap_laws.proofs.Scanned.{stand_of, read_so, scan_of_flat}
 use Rattle.recorder.specs.declared.report.WriterReport.{WriterReport}
-use Rattle.recorder.specs.Laws.{AreReadable}
+use Rattle.recorder.specs.Recorded.{AreReadable}
 use Rattle.recorder.proofs.ReadBack.{IsClosedFile, closed_file, can_be_read, recs_back}
 use Rattle.time_player.specs.Text.{cat_text}
 use Rattle.watching.specs.declared.report.WatchEnd.{WatchEnd}

@@ -11,14 +11,15 @@ use Rattle.mcap_model.specs.declared.ends.End.TheVariants as ends
 use Rattle.mcap_model.specs.declared.options.FileOptions.{FileOptions}
 use Rattle.mcap_model.specs.Tops.{Top, offset_behind, flat}
 use Rattle.mcap_model.specs.Rules.{V1}
-use Rattle.mcap_model.specs.History.{is_message, flat_history}
+use Rattle.mcap_model.specs.History.{is_message}
+use Rattle.mcap_model.specs.Histories.{flat_history}
 use Rattle.mcap_model.specs.Scan.{Seen, Scan, Replay}
 use Rattle.mcap_model.specs.Blocks.{pieces_of, blocks_in}
 use Rattle.mcap_model.specs.File.{file_of, IsPrefix}
-use Rattle.mcap_model.specs.Valid.{IsValid, IsFullyIndexed}
+use Rattle.mcap_model.specs.Valid.{IsFullyIndexed}
+use Rattle.mcap_model.specs.Laws.{IsValid, HoldsSeen}
 use Rattle.mcap_model.specs.Recovery.{piece_records, FrontIsRepaired}
 use Rattle.time_player.specs.Text.{cat_text}
-use Rattle.mcap_model.specs.Laws.{HoldsSeen}
 use Rattle.mcap_model.specs.Merged.{Merged as MergesTo}
 use Rattle.chunk_writer.specs.Limits.{Holds}
 use Rattle.recorder.specs.declared.report.Report.{Report}
@@ -31,7 +32,8 @@ use Rattle.mcap_recover.specs.declared.answers.Why.TheVariants as whys
 use Rattle.mcap_recover.specs.Recovering.{recovered_options}
 use Rattle.mcap_merge.specs.declared.answers.Merged.{Merged}
 use Rattle.mcap_merge.specs.Filed.{merged_options}
-use Rattle.record_command.specs.Record.{AreAllowed, Records}
+use Rattle.record_command.specs.Record.{Records}
+use Rattle.record_command.specs.RecordSteps.{AreAllowed}
 use Rattle.file_commands.specs.Cat.{Selection, Cats}
 use Rattle.file_commands.specs.Check.{verdict_line, FileChecks}
 use Rattle.output_commands.specs.declared.recovering.Recovery.{Recovery}

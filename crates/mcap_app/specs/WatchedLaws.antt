@@ -7,7 +7,8 @@ use Rattle.mcap_model.specs.declared.ends.End.TheVariants as ends
 use Rattle.mcap_model.specs.declared.replay.Range.{Range}
 use Rattle.mcap_model.specs.Places.{Each}
 use Rattle.mcap_model.specs.Tops.{Top, flat}
-use Rattle.mcap_model.specs.History.{is_message, flat_history}
+use Rattle.mcap_model.specs.History.{is_message}
+use Rattle.mcap_model.specs.Histories.{flat_history}
 use Rattle.mcap_model.specs.Scan.{Seen, Scan, Replay}
 use Rattle.mcap_model.specs.Laws.{HoldsSeen}
 use Rattle.time_player.specs.Text.{cat_text}
@@ -15,7 +16,7 @@ use Rattle.watching.specs.Text.{end_line}
 use Rattle.command_base.specs.Ran.{Scene, counts_in, AnyRose}
 use Rattle.recorder.specs.declared.options.RecordOptions.{RecordOptions}
 use Rattle.recorder.specs.declared.report.Report.{Report}
-use Rattle.record_command.specs.Record.{AreAllowed}
+use Rattle.record_command.specs.RecordSteps.{AreAllowed}
 use Rattle.record_command.specs.Watched.{requested}
 use Rattle.record_command.specs.WatchedAnswer.{RecordsWatched}
 use Rattle.file_commands.specs.Cat.{Cats}

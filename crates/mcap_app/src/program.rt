@@ -4,13 +4,14 @@ ghost use Rattle.command_words.specs.declared.command.Command.{Command as Wanted
 ghost use Rattle.command_words.specs.Commands.{AreBad, Derives, usage_text};
 ghost use Rattle.command_base.specs.Texts.{bad_words, no_memory, said};
 ghost use Rattle.mcap_model.specs.Places.{Each};
-ghost use Rattle.feed_lane.specs.Feeds.{ListsMessages};
+ghost use Rattle.feed_lane.specs.Steps.{ListsMessages};
 ghost use Rattle.command_base.specs.Printing.{Takes};
-ghost use Rattle.command_base.specs.Ran.{scene};
-ghost use Rattle.record_command.specs.Record.{AreAllowed, AreFew};
-ghost use Rattle.command_words.specs.Commands.{watch_names as names_of_watches};
+ghost use Rattle.command_base.specs.Scenes.{scene};
+ghost use Rattle.record_command.specs.RecordSteps.{AreAllowed, AreFew};
+ghost use Rattle.command_words.specs.Defaults.{watch_names as names_of_watches};
 ghost use Rattle.record_command.specs.Watched.{requested};
-ghost use Rattle.mcap_app.specs.Runs.{IsAllowed, IsWatchable, RecordsBeside, Runs, LacksForWords, records, generates, reads, writes, way_of, generate_options};
+ghost use Rattle.mcap_app.specs.Runs.{RecordsBeside, Runs, generate_options};
+ghost use Rattle.mcap_app.specs.Ways.{IsAllowed, IsWatchable, LacksForWords, records, generates, reads, writes, way_of};
 
 use command_base::{refuse_for_memory, refuse_words};
 use command_words::{

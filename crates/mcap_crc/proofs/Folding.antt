@@ -9,7 +9,8 @@ use lib.Lanes.{zip2}
 use Rattle.mcap_crc.specs.Register.{shifted, shifted_by, register_after}
 use Rattle.std.specs.Prelude.{All}
 use Rattle.mcap_crc.specs.Fold.{folded_byte}
-use Rattle.mcap_crc.specs.Remainder.{remainder, xored}
+use Rattle.mcap_crc.specs.Remainder.{remainder}
+use Rattle.mcap_crc.specs.Checksums.{xored}
 use Rattle.mcap_crc.proofs.Below.{all_below, each_below}
 use Rattle.mcap_crc.proofs.Register.{exchanged, remainder_is, shifted_by-xor, shifted_by-add, shifted_by_zero, register_after-append, register_after-cut}
 use Rattle.mcap_crc.proofs.Blocks.{number, register_number}

@@ -1,5 +1,5 @@
 -- CRC-32, as what is left of a long division of bits.
-use Rattle.std.specs.Prelude.{◌≡◌, ℕ, zero, suc, ◌+◌, ◌*◌, ◌/◌, ◌%◌, ◌==◌, Bool, true, false, not, if◌then◌else◌, List, [], ◌∷◌, ◌++◌, length, drop, map, replicate, bit_xor, codes}
+use Rattle.std.specs.Prelude.{ℕ, zero, suc, ◌+◌, ◌*◌, ◌/◌, ◌%◌, ◌==◌, Bool, true, false, not, if◌then◌else◌, List, [], ◌∷◌, ◌++◌, length, drop, map, replicate, codes}
 use Rattle.std.specs.List.{flat_map}
 
 -- the lowest k bits of a number, the lowest first
@@ -47,13 +47,3 @@ unfoldable pub remainder : List ℕ → ℕ
 remainder bytes =
     let bits = message_bits bytes in
     number_of (inverted (divided (length bits) (inverted (bits ++ replicate 32 false))))
-
--- a checksum is that of this message
-abbrev pub IsChecksumOf : ℕ → List ℕ → Type 0
-IsChecksumOf crc bytes = crc ≡ remainder bytes
-
--- two messages of one length, xored byte by byte
-abbrev pub xored : List ℕ → List ℕ → List ℕ
-xored [] others = []
-xored (byte ∷ bytes) [] = []
-xored (byte ∷ bytes) (other ∷ others) = bit_xor byte other ∷ xored bytes others

@@ -1,6 +1,7 @@
 //! What holds of CRC-32 whoever computes it, for readers: no function here does anything.
 ghost use Rattle.std.specs.Prelude.{◌≡◌, ◌<◌, ◌^◌, ℕ, List, [], ◌++◌, length, bit_xor, All};
-ghost use Rattle.mcap_crc.specs.Remainder.{remainder, xored};
+ghost use Rattle.mcap_crc.specs.Remainder.{remainder};
+ghost use Rattle.mcap_crc.specs.Checksums.{xored};
 
 /// The CRC-32 of nothing is 0.
 pub fn of_nothing()

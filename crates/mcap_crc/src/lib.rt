@@ -6,7 +6,8 @@
 #![tactic(auto)]
 
 ghost use Rattle.std.specs.Prelude.{◌≡◌, ℕ, List, [], ◌++◌};
-ghost use Rattle.mcap_crc.specs.Remainder.{IsChecksumOf, remainder};
+ghost use Rattle.mcap_crc.specs.Remainder.{remainder};
+ghost use Rattle.mcap_crc.specs.Checksums.{IsChecksumOf};
 
 mod bytewise;
 mod folded;

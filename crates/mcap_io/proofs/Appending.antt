@@ -8,7 +8,8 @@ use Rattle.mcap_io.specs.declared.outside.AppendRefused.{AppendRefused}
 use Rattle.mcap_io.specs.declared.outside.AppendRefused.TheVariants as append_refusals
 use Rattle.mcap_io.specs.declared.outside.EachRefused.{EachRefused}
 use Rattle.mcap_io.specs.declared.memory.FailingWrite.{FailingWrite}
-use Rattle.mcap_io.specs.Outside.{Adds, AppendLeaves}
+use Rattle.mcap_io.specs.Outside.{Adds}
+use Rattle.mcap_io.specs.OutsideCalls.{AppendLeaves}
 use Rattle.mcap_io.specs.Appending.{BeginsAt, EndsAt, IsPieceAt, FallsIn, EachLeaves}
 use Rattle.mcap_io.specs.Planned.{next_call, planned, calls_on, NoneFails, AppendsAsPlanned, FailsAsPlanned}
 use Rattle.mcap_io.proofs.Calls.{adds-adds}

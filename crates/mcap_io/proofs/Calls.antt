@@ -5,7 +5,8 @@ use Rattle.std.specs.Prelude.{◌==◌, IsErr}
 use Rattle.std.proofs.lemmas.Bool.{both_ways, eqb-true, eqb-false}
 use Rattle.std.proofs.lemmas.List.{nil_from_length}
 use Rattle.mcap_io.specs.declared.outside.Failed.{Failed}
-use Rattle.mcap_io.specs.Outside.{HasCause, Adds, AddsPart}
+use Rattle.mcap_io.specs.Outside.{Adds, AddsPart}
+use Rattle.mcap_io.specs.OutsideCalls.{HasCause}
 
 -- two additions are one of both pieces
 pub adds-adds : (old mid new : Option (List ℕ)) (xs ys : List ℕ) → Adds old mid xs → Adds mid new ys → Adds old new (xs ++ ys)

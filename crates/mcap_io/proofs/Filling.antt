@@ -4,7 +4,8 @@ use Rattle.std.proofs.Math.Seq.{take-append-add}
 use Rattle.std.proofs.Math.ListN.{drop_of_length-le}
 use Rattle.std.proofs.lemmas.List.{take-append-le, drop-drop, length-take-le, take_all, take_rest, take-append-drop}
 use borrow.Rule.Slice.PartMut.{put_mid, post_of}
-use Rattle.mcap_io.specs.Outside.{GivesFront, TakesFront, Adds, AddsPart}
+use Rattle.mcap_io.specs.Outside.{Adds, AddsPart}
+use Rattle.mcap_io.specs.OutsideCalls.{GivesFront, TakesFront}
 use Rattle.mcap_io.proofs.Calls.{adds-adds}
 
 -- the slice begins with the first n bytes of what was left, and these were taken

@@ -1,8 +1,9 @@
 -- Reading the front of a store in pieces.
 use Rattle.std.proofs.Common.{◌≡◌, refl, ℕ, ◌+◌, ◌-◌, ◌≤◌, List, ◌++◌, length, take, drop, Option, Some, None, Result, ap, sym, ◌∙◌, arith, length-take, length-drop}
 use Rattle.std.proofs.lemmas.List.{take-append-le, drop-drop, drop-take, take-take}
-use Rattle.mcap_io.specs.Outside.{GivesFront}
-use Rattle.mcap_io.specs.Stores.{StoreState, ReadsPart}
+use Rattle.mcap_io.specs.OutsideCalls.{GivesFront}
+use Rattle.mcap_io.specs.Stores.{StoreState}
+use Rattle.mcap_io.specs.StoreAnswers.{ReadsPart}
 use Rattle.mcap_io.specs.declared.outside.Failed.{Failed}
 use Rattle.mcap_io.specs.StoreSources.{front_left, StaysStore}
 

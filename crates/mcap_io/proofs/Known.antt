@@ -3,7 +3,7 @@ use Rattle.std.proofs.Common.{◌≡◌, ℕ, ◌+◌, ◌-◌, ◌≤◌, List,
 use Rattle.std.proofs.lemmas.List.{take-append-le, drop-drop, drop-take, take-append-drop, take-take, drop-append-le}
 use Rattle.mcap_io.specs.declared.outside.Failed.{Failed}
 use Rattle.mcap_io.specs.Ahead.{ahead, AheadReads}
-use Rattle.mcap_io.specs.Outside.{GivesFront}
+use Rattle.mcap_io.specs.OutsideCalls.{GivesFront}
 
 -- nothing was read ahead
 pub ahead-none : (buffer : List ℕ) (from to : ℕ) (known : Option (List ℕ)) → to ≤ from → ahead buffer from to known ≡ known

@@ -3,7 +3,8 @@ use Rattle.std.proofs.Common.{◌≡◌, ℕ, zero, suc, List, [], ◌∷◌, �
 use Rattle.std.proofs.lemmas.List.{get_or_at}
 use Rattle.mcap_io.specs.declared.outside.ObjectKind.{ObjectKind}
 use Rattle.mcap_io.specs.declared.outside.ObjectKind.TheVariants as kinds
-use Rattle.mcap_io.specs.Outside.{Keeping, Opening, IsOut, NoneIsOut, IsNewestOut, Notes, opened, taken_back}
+use Rattle.mcap_io.specs.Outside.{Keeping, Opening, opened, taken_back}
+use Rattle.mcap_io.specs.OutsideCalls.{IsOut, NoneIsOut, IsNewestOut, Notes}
 
 -- of entries that are all not out, none stands in the middle
 none_there : (kind : ObjectKind) (name : List ℕ) (before : List Opening) (entry : Opening) (behind : List Opening) → NoneIsOut kind name (before ++ entry ∷ behind) → IsOut kind name entry → ⊥

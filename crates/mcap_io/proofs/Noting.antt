@@ -9,9 +9,11 @@ use Rattle.mcap_io.specs.declared.outside.ObjectKind.{ObjectKind}
 use Rattle.mcap_io.specs.declared.outside.ObjectKind.TheVariants as kinds
 use Rattle.mcap_io.specs.declared.openings.Kept.{Kept}
 use Rattle.mcap_io.specs.declared.openings.Opened.{Opened}
-use Rattle.mcap_io.specs.Outside.{Names, Told, Opening, SourceState, WorldState, IsOut, NoneIsOut, Notes, KeepsName, KeepsSource, KeepsWritten, went_well, with_opening}
+use Rattle.mcap_io.specs.Outside.{Names, Told, Opening, SourceState, WorldState}
+use Rattle.mcap_io.specs.OutsideCalls.{IsOut, NoneIsOut, Notes, KeepsName, KeepsSource, KeepsWritten, went_well, with_opening}
 use Rattle.mcap_io.specs.Standing.{shown, shown_keeping}
-use Rattle.mcap_io.specs.Stores.{StoreState, KeepsStore}
+use Rattle.mcap_io.specs.Stores.{StoreState}
+use Rattle.mcap_io.specs.StoreAnswers.{KeepsStore}
 
 -- the entry, with the keeping
 abbrev kept_entry : Opened → Kept → Opened

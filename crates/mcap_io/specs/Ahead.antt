@@ -2,7 +2,7 @@
 use Rattle.std.specs.Prelude.{◌≡◌, ℕ, ◌-◌, List, ◌++◌, take, drop, Option, Some, Result, Ok, Err}
 use Rattle.std.specs.Option.{option_map}
 use Rattle.mcap_io.specs.declared.outside.Failed.{Failed}
-use Rattle.mcap_io.specs.Outside.{GivesFront}
+use Rattle.mcap_io.specs.OutsideCalls.{GivesFront}
 
 -- the bytes of the buffer between the two places, and then the known bytes
 abbrev pub ahead : List ℕ → ℕ → ℕ → Option (List ℕ) → Option (List ℕ)

@@ -3,7 +3,8 @@ use Rattle.std.specs.Prelude.{◌≡◌, ℕ, ◌+◌, ◌≤◌, List, ◌∷�
 use Rattle.std.specs.List.{concat}
 use Rattle.mcap_io.specs.declared.outside.AppendRefused.TheVariants as append_refusals
 use Rattle.mcap_io.specs.declared.outside.EachRefused.{EachRefused}
-use Rattle.mcap_io.specs.Outside.{Adds, AppendCause, AppendLeaves}
+use Rattle.mcap_io.specs.Outside.{Adds}
+use Rattle.mcap_io.specs.OutsideCalls.{AppendCause, AppendLeaves}
 
 -- one of the pieces begins at that offset of their bytes
 pub record BeginsAt (pieces : List (List ℕ)) (at : ℕ) : Type 0 where

@@ -1,10 +1,14 @@
+-- What the promise of the program reaches, in the order to read it.
+pub mod Outside
+pub mod Stores
+-- What the functions of this crate and its proofs say besides.
 pub mod Ahead
 pub mod Appending
 pub mod Files
 pub mod Gathered
 pub mod Inputs
-pub mod Outside
-pub mod Stores
+pub mod OutsideCalls
+pub mod StoreAnswers
 pub mod StoreSources
 pub mod Planned
 pub mod Standing

@@ -2,7 +2,8 @@
 use Rattle.std.specs.Prelude.{◌≡◌, ℕ, List, ◌∷◌, ◌++◌, map, length, Option, Some, None, String, Vec, string_bytes}
 use Rattle.std.specs.Option.{option_map}
 use Rattle.std.specs.BTreeMap.{BTreeMap, get_by_text}
-use Rattle.mcap_io.specs.Outside.{Names, Keeping, Opening, WorldState, IsOut, NoneIsOut}
+use Rattle.mcap_io.specs.Outside.{Names, Keeping, Opening, WorldState}
+use Rattle.mcap_io.specs.OutsideCalls.{IsOut, NoneIsOut}
 use Rattle.mcap_io.specs.Planned.{left_of}
 use Rattle.mcap_io.specs.declared.outside.ObjectKind.{ObjectKind}
 use Rattle.mcap_io.specs.declared.memory.QuietSource.{QuietSource}

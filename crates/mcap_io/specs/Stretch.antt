@@ -2,7 +2,7 @@
 use Rattle.std.specs.Prelude.{◌≡◌, ℕ, ◌<◌, List, length, take, drop, Option, Some, Result, Ok, Err}
 use Rattle.mcap_io.specs.declared.outside.Failed.{Failed}
 use Rattle.mcap_io.specs.declared.outside.ReadRefused.{ReadRefused}
-use Rattle.mcap_io.specs.Outside.{TakesFront}
+use Rattle.mcap_io.specs.OutsideCalls.{TakesFront}
 
 -- the first n bytes of the slice are the front of what was left, as long as the slice unless the input ended
 abbrev pub Fills : Option (List ℕ) → Option (List ℕ) → List ℕ → Result ℕ Failed → Type 0

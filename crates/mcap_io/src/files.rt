@@ -7,8 +7,10 @@ ghost use Rattle.mcap_io.specs.Files.{nothing, PlacedAs, IsWritten};
 ghost use Rattle.mcap_io.specs.Appending.{EachLeaves, EachCause};
 ghost use Rattle.mcap_io.specs.Gathered.{Stores, StoresEach};
 ghost use Rattle.mcap_io.specs.Inputs.{LetsGo};
-ghost use Rattle.mcap_io.specs.Stores.{IsUnused, GivesPart};
-ghost use Rattle.mcap_io.specs.Outside.{HasCause, OpenCause, ReadGives, Adds, AppendCause, AppendLeaves, LetsViewGo, RisesOnce, added};
+ghost use Rattle.mcap_io.specs.Stores.{IsUnused};
+ghost use Rattle.mcap_io.specs.StoreAnswers.{GivesPart};
+ghost use Rattle.mcap_io.specs.Outside.{Adds, RisesOnce, added};
+ghost use Rattle.mcap_io.specs.OutsideCalls.{HasCause, OpenCause, ReadGives, AppendCause, AppendLeaves, LetsViewGo};
 
 use crate::ahead::{ROOM, ReadAhead};
 use crate::gather::Gather;

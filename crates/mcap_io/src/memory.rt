@@ -3,8 +3,9 @@ ghost use Rattle.std.proofs.Common.{◌∙◌};
 ghost use Rattle.std.specs.Prelude.{refl, ◌≡◌, ◌+◌, ◌≤◌, ◌<◌, ◌↔◌, ℕ, List, length, [], Some, Ok, Contains, IsTrue, IsErr, IfOk, IfErr, OnOk, vec_len};
 ghost use Rattle.std.specs.List.{concat};
 ghost use Rattle.mcap_io.specs.Appending.{EachLeaves, EachCause};
-ghost use Rattle.mcap_io.specs.Outside.{HasCause, ReadGives, Writes, Adds, AppendCause, AppendLeaves};
-ghost use Rattle.mcap_io.specs.Stores.{GivesPart};
+ghost use Rattle.mcap_io.specs.Outside.{Adds};
+ghost use Rattle.mcap_io.specs.OutsideCalls.{HasCause, ReadGives, Writes, AppendCause, AppendLeaves};
+ghost use Rattle.mcap_io.specs.StoreAnswers.{GivesPart};
 ghost use Rattle.mcap_io.specs.Planned.{left_of, planned, next_call, WritesAsPlanned, AppendsAsPlanned, EachAsPlanned};
 
 use crate::outside::{

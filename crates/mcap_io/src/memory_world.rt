@@ -1,8 +1,10 @@
 //! A world in memory: its names stand in a map.
 ghost use Rattle.std.specs.Prelude.{◌≡◌, ◌↔◌, Some, None, [], map, Contains, IfOk, OnOk, OnErr, IsErr, IsTrue};
 ghost use Rattle.std.specs.Option.{option_copied, option_map};
-ghost use Rattle.mcap_io.specs.Outside.{OthersSame, KeepsName, OpenCause, HasCause, TellsName, TookNothingYet, TellsNothingYet, Opens, CountsStand, KeepsSource, KeepsSink, KeepsLive, LetsViewGo, added};
-ghost use Rattle.mcap_io.specs.Stores.{IsUnused, TellsStore, KeepsStore};
+ghost use Rattle.mcap_io.specs.Outside.{TellsName, added};
+ghost use Rattle.mcap_io.specs.OutsideCalls.{OthersSame, KeepsName, OpenCause, HasCause, TookNothingYet, TellsNothingYet, Opens, CountsStand, KeepsSource, KeepsSink, KeepsLive, LetsViewGo};
+ghost use Rattle.mcap_io.specs.Stores.{IsUnused, TellsStore};
+ghost use Rattle.mcap_io.specs.StoreAnswers.{KeepsStore};
 ghost use Rattle.mcap_io.specs.Planned.{next_call, OpensAsPlanned};
 ghost use Rattle.mcap_io.specs.Standing.{standing, shown, seen};
 

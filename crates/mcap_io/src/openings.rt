@@ -1,6 +1,6 @@
 //! The log of a memory world: its openings, and how each object was taken back.
 ghost use Rattle.std.specs.Prelude.{◌≡◌, ◌+◌, ◌≤◌, ◌++◌, ◌∷◌, ◌↔◌, [], length, map, vec_capacity, string_bytes, None, IfOk, IsTrue};
-ghost use Rattle.mcap_io.specs.Outside.{IsOut, Notes};
+ghost use Rattle.mcap_io.specs.OutsideCalls.{IsOut, Notes};
 ghost use Rattle.mcap_io.specs.Standing.{shown, shown_keeping, NewestAt};
 
 use crate::memory::QuietSource;

@@ -2,8 +2,10 @@
 ghost use Rattle.std.specs.Prelude.{◌≡◌, ◌+◌, ◌≤◌, ◌<◌, ℕ, List, Option, Some, length, Ok, IfOk, IfErr, OnOk};
 ghost use Rattle.std.specs.List.{concat};
 ghost use Rattle.mcap_io.specs.Appending.{EachLeaves, EachCause};
-ghost use Rattle.mcap_io.specs.Stores.{IsUnused, TellsStore, KeepsStore, GivesPart};
-ghost use Rattle.mcap_io.specs.Outside.{SourceState, SinkState, LiveState, WorldState, HasCause, OpenCause, AppendCause, ReadGives, Writes, Adds, AppendLeaves, Opens, CountsStand, KeepsSource, KeepsSink, KeepsLive, LetsViewGo, TellsName, TookNothingYet, TellsNothingYet, added};
+ghost use Rattle.mcap_io.specs.Stores.{IsUnused, TellsStore};
+ghost use Rattle.mcap_io.specs.StoreAnswers.{KeepsStore, GivesPart};
+ghost use Rattle.mcap_io.specs.Outside.{SourceState, SinkState, LiveState, WorldState, Adds, TellsName, added};
+ghost use Rattle.mcap_io.specs.OutsideCalls.{HasCause, OpenCause, AppendCause, ReadGives, Writes, AppendLeaves, Opens, CountsStand, KeepsSource, KeepsSink, KeepsLive, LetsViewGo, TookNothingYet, TellsNothingYet};
 
 use crate::pieces::{Pieces, piece_at};
 use crate::store::Store;

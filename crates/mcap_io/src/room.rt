@@ -16,7 +16,7 @@ pub struct Room {
 
 impl Room {
     ghost use Rattle.std.specs.Prelude.{[], length, IfErr, OnErr, IsErrOf};
-    ghost use Rattle.mcap_io.specs.Outside.{ReadCause, StretchTaken};
+    ghost use Rattle.mcap_io.specs.OutsideCalls.{ReadCause, StretchTaken};
     ghost use Rattle.mcap_io.specs.Rooms.{held_in};
 
     /// A room that holds nothing, and takes no memory yet.

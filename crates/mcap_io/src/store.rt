@@ -1,6 +1,7 @@
 //! Stores: bytes that are read at any place.
 ghost use Rattle.std.specs.Prelude.{◌≡◌, ◌+◌, ◌≤◌, ℕ, List, Some, length};
-ghost use Rattle.mcap_io.specs.Stores.{StoreState, Measures, ReadsPart};
+ghost use Rattle.mcap_io.specs.Stores.{StoreState};
+ghost use Rattle.mcap_io.specs.StoreAnswers.{Measures, ReadsPart};
 
 use crate::outside::Failed;
 

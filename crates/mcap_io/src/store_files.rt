@@ -1,7 +1,8 @@
 //! Stores over files. What a file gives no clause can say, so they tell nothing.
 ghost use Rattle.std.specs.Prelude.{◌≡◌, ◌+◌, ◌≤◌, ◌^◌, length, min, IsErr};
 ghost use Rattle.mcap_io.specs.Files.{nothing};
-ghost use Rattle.mcap_io.specs.Stores.{IsUnused, Measures, ReadsPart};
+ghost use Rattle.mcap_io.specs.Stores.{IsUnused};
+ghost use Rattle.mcap_io.specs.StoreAnswers.{Measures, ReadsPart};
 
 use crate::blocks::Blocks;
 use crate::inputs::FileId;

@@ -2,7 +2,7 @@
 ghost use Rattle.std.specs.Prelude.{◌≡◌, ◌+◌, ◌≤◌, ◌↔◌, Contains, IsTrue, IsErr, Some, length};
 ghost use Rattle.std.proofs.Common.{subst};
 ghost use Rattle.mcap_io.specs.Outside.{one_more};
-ghost use Rattle.mcap_io.specs.Stores.{Measures, ReadsPart};
+ghost use Rattle.mcap_io.specs.StoreAnswers.{Measures, ReadsPart};
 
 use crate::outside::Failed;
 use crate::store::Store;

@@ -1,6 +1,6 @@
 //! Parts of a store, read to vectors of their own.
 ghost use Rattle.std.specs.Prelude.{◌+◌, ◌≤◌};
-ghost use Rattle.mcap_io.specs.Stores.{TakesPart};
+ghost use Rattle.mcap_io.specs.StoreAnswers.{TakesPart};
 
 use crate::outside::{Failed, ReadRefused};
 use crate::store::Store;

@@ -1,6 +1,6 @@
 //! Whole stretches: reading up to a length, and writing all of a piece.
 ghost use Rattle.std.specs.Prelude.{◌≡◌, ◌≤◌, ◌<◌, ◌+◌, ◌-◌, length, take, drop, vec_len, [], IfOk, IfErr, OnErr, IsErrOf};
-ghost use Rattle.mcap_io.specs.Outside.{HasCause, ReadCause, StretchTaken, WritesAll};
+ghost use Rattle.mcap_io.specs.OutsideCalls.{HasCause, ReadCause, StretchTaken, WritesAll};
 ghost use Rattle.mcap_io.specs.Stretch.{Fills, FillsFront, FillsBehind};
 
 use crate::outside::{Failed, ReadRefused, Short, Sink, Source};

@@ -1,6 +1,6 @@
 //! A sink over a writer of std.
 ghost use Rattle.std.specs.Prelude.{◌≡◌, ◌≤◌, ◌<◌, length, IfOk};
-ghost use Rattle.mcap_io.specs.Outside.{Writes};
+ghost use Rattle.mcap_io.specs.OutsideCalls.{Writes};
 
 use crate::outside::{Failed, Sink};
 use std::io::{ErrorKind, Write};

@@ -10,7 +10,8 @@ use Rattle.mcap_model.specs.Fields.{MessageFields, IsMessage, IsMessageIndex}
 use Rattle.mcap_model.specs.History.{rec_top}
 use Rattle.mcap_model.specs.Blocks.{Piece, block, logged_channels, entries_for, chunk_bytes, indexes_bytes, written_fields}
 use Rattle.mcap_model.specs.Whole.{indexes_behind, AreEntries, IndexIsRight, BelongsTo, IsIndexed, IsIndexOf, IsNamed, NamesIndexes}
-use Rattle.mcap_model.specs.Laws.{IsReadBack, IsNumberedRec, IsExtra, chunk_top, index_top}
+use Rattle.mcap_model.specs.Laws.{IsNumberedRec, chunk_top, index_top}
+use Rattle.mcap_model.specs.ReadBack.{IsReadBack, IsExtra}
 use Rattle.mcap_model.proofs.ReadBack.{at_map, message_back}
 use Rattle.mcap_model.proofs.WrittenChunks.{written_shows}
 use Rattle.mcap_model.proofs.Lists.{pairs_at, has_taken, take_second, each_taken}

@@ -19,7 +19,8 @@ use Rattle.mcap_model.specs.Blocks.{Piece, block, alone, pieces_of, pieces_bytes
 use Rattle.mcap_model.specs.File.{front, section, file_of, IsPrefix}
 use Rattle.mcap_model.specs.Written.{IsRec}
 use Rattle.mcap_model.specs.Repaired.{is_extra, ProfileIs, Repairs}
-use Rattle.mcap_model.specs.Laws.{IsReadBack, IsExtra, chunk_top, index_top}
+use Rattle.mcap_model.specs.Laws.{chunk_top, index_top}
+use Rattle.mcap_model.specs.ReadBack.{IsReadBack, IsExtra}
 use Rattle.mcap_model.specs.Recovery.{piece_records, bytes_with_records, offset_behind_piece, FrontsAreRepaired}
 use Rattle.mcap_model.proofs.Places.{at_none, at_kept}
 use Rattle.mcap_model.proofs.Lists.{cut_at, cut_flat, take_second, length-take_at, each_taken, each_joined}

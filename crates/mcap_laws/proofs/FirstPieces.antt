@@ -20,7 +20,8 @@ use Rattle.mcap_model.specs.File.{library}
 use Rattle.mcap_model.specs.Whole.{is_index, BelongsTo, IsIndexed, V9}
 use Rattle.mcap_model.specs.Valid.{Keeps}
 use Rattle.mcap_model.specs.Recovery.{piece_records}
-use Rattle.mcap_model.specs.Laws.{IsReadBack, IsNumberedRec, IsExtra, PieceIsShort, chunk_top, index_top}
+use Rattle.mcap_model.specs.Laws.{IsNumberedRec, PieceIsShort, chunk_top, index_top}
+use Rattle.mcap_model.specs.ReadBack.{IsReadBack, IsExtra}
 use Rattle.mcap_model.proofs.Places.{at_none, at_kept, at_within}
 use Rattle.mcap_model.proofs.Lists.{BeginsOther, cut_at, cut_flat, each_cons, each_taken}
 use Rattle.mcap_model.proofs.Readings.{length-top}

@@ -13,11 +13,13 @@ use Rattle.mcap_model.specs.Fields.{IsHeader, MessageFields, IsMessage, IsChanne
 use Rattle.mcap_model.specs.Rules.{Agrees, stands_in_section}
 use Rattle.mcap_model.specs.History.{rec_top, channel_of, is_channel, without_repeats}
 use Rattle.mcap_model.specs.Blocks.{Piece, block, Logged, logged, logged_channels, entries_for, least, greatest, chunk_bytes, indexes_bytes, pieces_bytes, written_fields}
-use Rattle.mcap_model.specs.Summary.{Noted, Group, groups_of, extras_of_kind, statistics_content, chunk_index_content, attachment_index_content, metadata_index_content, channels_of, written_index, indexed_attachment}
+use Rattle.mcap_model.specs.Summary.{Noted, Group, groups_of, extras_of_kind, statistics_content, chunk_index_content, attachment_index_content, metadata_index_content, channels_of, written_index, group_bytes}
+use Rattle.mcap_model.specs.AttachmentIndexes.{indexed_attachment}
 use Rattle.mcap_model.specs.File.{blocks_from, extras_from}
 use Rattle.mcap_model.specs.Whole.{StandsAt, InSummary, ChunkIndexIsRight, V12, AttachmentIndexIsRight, MetadataIndexIsRight, V13}
 use Rattle.mcap_model.specs.Valid.{Keeps, HasIndex, SummaryHasChannel}
-use Rattle.mcap_model.specs.Laws.{IsReadBack, IsNumberedRec, IsExtra, chunk_top, index_top}
+use Rattle.mcap_model.specs.Laws.{IsNumberedRec, chunk_top, index_top}
+use Rattle.mcap_model.specs.ReadBack.{IsReadBack, IsExtra}
 use Rattle.mcap_model.proofs.Places.{at_within, at_kept}
 use Rattle.mcap_model.proofs.ReadBack.{at_map}
 use Rattle.mcap_model.proofs.Readings.{top_of}
@@ -41,7 +43,6 @@ use Rattle.mcap_laws.proofs.Tails.{full_groups, full_tops, full_apart, each_full
 use Rattle.mcap_laws.proofs.StatisticsRight.{id_of_channel, either_has}
 use Rattle.mcap_laws.proofs.SummaryRules.{foot_is, never}
 use Rattle.mcap_model.proofs.Files.{summary_crc}
-use Rattle.mcap_model.specs.Summary.{group_bytes}
 use Rattle.mcap_model.proofs.Flat.{at_mapped}
 
 -- the offset of the first piece

@@ -17,7 +17,8 @@ use Rattle.mcap_model.specs.Tops.{Top, top_bytes, spelled, records_in, chunk_rec
 use Rattle.mcap_model.specs.Fields.{MessageFields, IsMessage, IsMessageIndex, ChunkFields, ChunkIndexFields}
 use Rattle.mcap_model.specs.History.{rec_top, history_bytes}
 use Rattle.mcap_model.specs.Whole.{offset_of, indexes_behind, offset_among, IsEntryOf, AreEntries, IndexIsRight, V9, IsNamed, IsIndexOf, ChunkIndexIsRight}
-use Rattle.mcap_model.specs.Laws.{IsReadBack, chunk_top, index_top}
+use Rattle.mcap_model.specs.Laws.{chunk_top, index_top}
+use Rattle.mcap_model.specs.ReadBack.{IsReadBack}
 use Rattle.mcap_model.proofs.Places.{at_none, at_last, last_apart}
 use Rattle.mcap_model.proofs.Edges.{header_top, end_top}
 use Rattle.mcap_model.proofs.WrittenChunks.{written_shows}

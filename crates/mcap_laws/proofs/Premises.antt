@@ -18,7 +18,8 @@ use Rattle.mcap_model.specs.Blocks.{pieces_of, blocks_in, logged_channels}
 use Rattle.mcap_model.specs.Summary.{messages_on}
 use Rattle.mcap_model.specs.File.{file_of}
 use Rattle.mcap_model.specs.Valid.{IsFullyIndexed}
-use Rattle.mcap_model.specs.Laws.{IsReadBack, IsNumberedRec, IsExtra, EntriesFit, CanBeWritten, GoodHistoriesAgree}
+use Rattle.mcap_model.specs.Laws.{IsNumberedRec, EntriesFit, CanBeWritten, GoodHistoriesAgree}
+use Rattle.mcap_model.specs.ReadBack.{IsReadBack, IsExtra}
 use Rattle.mcap_model.proofs.Places.{at_none}
 use Rattle.mcap_model.proofs.ReadBack.{schema_back}
 use Rattle.mcap_model.proofs.Histories.{recs_flat, recs_are_flat, numbered_ids_agree}

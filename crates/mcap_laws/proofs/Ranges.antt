@@ -10,7 +10,8 @@ use Rattle.mcap_model.specs.Places.{At}
 use Rattle.mcap_model.specs.Tops.{Top}
 use Rattle.mcap_model.specs.History.{rec_top, history_bytes}
 use Rattle.mcap_wire.proofs.Numbers.{length-le}
-use Rattle.mcap_model.specs.Blocks.{chunk_content, Logged, logged_from, logged, reaches, AreBlocks, Piece, blocks_in, pieces_of, pieces_by}
+use Rattle.mcap_model.specs.Blocks.{chunk_content, Logged, logged_from, logged, reaches, Piece, blocks_in, pieces_of}
+use Rattle.mcap_model.specs.Histories.{AreBlocks, pieces_by}
 use Rattle.mcap_model.specs.Summary.{messages_on}
 use Rattle.mcap_model.specs.Whole.{count_of}
 use Rattle.mcap_model.specs.Laws.{EntriesFit, SmallBlocksFit}

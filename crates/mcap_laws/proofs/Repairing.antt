@@ -6,9 +6,8 @@ use Rattle.std.proofs.lemmas.List.Elements.{filter-append}
 use Rattle.rec_data.specs.declared.owned.Rec.{Rec}
 use Rattle.rec_data.specs.declared.owned.Rec.TheVariants.{Schema, Channel, Message}
 use Rattle.rec_data.proofs.OwnedReading.{shown_once}
-use Rattle.mcap_model.specs.Tops.{Top, flat, offset_behind}
+use Rattle.mcap_model.specs.Tops.{Top, flat, offset_behind, placed}
 use Rattle.mcap_model.specs.Scan.{Seen, is_message_top, tops_of}
-use Rattle.mcap_model.specs.Tops.{placed}
 use Rattle.mcap_model.specs.declared.options.FileOptions.{FileOptions}
 use Rattle.mcap_model.specs.Places.{Each}
 use Rattle.mcap_model.specs.Blocks.{Piece, block, alone, pieces_of, logged_channels}
@@ -20,7 +19,8 @@ use Rattle.mcap_model.proofs.Histories.{recs_are_flat}
 use Rattle.mcap_model.specs.History.{rec_top, is_message, declare_same, kept_with, message_of}
 use Rattle.mcap_model.specs.Written.{IsRec}
 use Rattle.mcap_model.specs.Repaired.{is_extra, ProfileIs}
-use Rattle.mcap_model.specs.Laws.{HoldsSeen, IsExtra, IsReadBack, index_top}
+use Rattle.mcap_model.specs.Laws.{HoldsSeen, index_top}
+use Rattle.mcap_model.specs.ReadBack.{IsExtra, IsReadBack}
 use Rattle.mcap_model.specs.Recovery.{FilesAreRepaired, RepairsKeepMessages}
 use Rattle.mcap_model.proofs.Flat.{placed_tops}
 use Rattle.mcap_laws.proofs.Scanned.{ShowsSeen, zip_tops, stand_of, read_so}

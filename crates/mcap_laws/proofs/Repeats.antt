@@ -11,7 +11,8 @@ use Rattle.mcap_model.specs.Tops.{Top}
 use Rattle.mcap_model.specs.Fields.{SchemaFields, IsSchema, ChannelFields, IsChannel}
 use Rattle.mcap_model.specs.Rules.{HasSchema, HasChannel, Agrees}
 use Rattle.mcap_model.specs.History.{rec_top, schema_of, channel_of, declare_same, kept_with, without_repeats}
-use Rattle.mcap_model.specs.Laws.{IsReadBack, IsNumberedRec, RepeatsMayGo}
+use Rattle.mcap_model.specs.Laws.{IsNumberedRec, RepeatsMayGo}
+use Rattle.mcap_model.specs.ReadBack.{IsReadBack}
 use Rattle.mcap_model.proofs.Places.{at_none, at_kept, at_last, at_more, has_kept, has_last, each_more, each_at}
 use Rattle.mcap_model.proofs.ReadBack.{schema_back, channel_back, at_map}
 use Rattle.mcap_model.proofs.Histories.{schema_shown, channel_shown, recs_are_flat}

@@ -12,9 +12,11 @@ use Rattle.mcap_model.specs.Rules.{V6, Agrees}
 use Rattle.mcap_model.specs.Kept.{Good, reading_limits}
 use Rattle.mcap_model.specs.History.{rec_top, schema_of, channel_of, message_of}
 use Rattle.mcap_model.specs.Blocks.{blocks_in, pieces_of}
-use Rattle.mcap_model.specs.Written.{IsRec, IdsAgree}
+use Rattle.mcap_model.specs.Written.{IsRec}
+use Rattle.mcap_model.specs.Histories.{IdsAgree}
 use Rattle.mcap_model.specs.Repaired.{is_extra, ProfileIs}
-use Rattle.mcap_model.specs.Laws.{IsReadBack, IsNumberedRec, IsExtra, EntriesFit}
+use Rattle.mcap_model.specs.Laws.{IsNumberedRec, EntriesFit}
+use Rattle.mcap_model.specs.ReadBack.{IsReadBack, IsExtra}
 use Rattle.mcap_model.specs.Recovery.{RepairsCanBeWritten}
 use Rattle.mcap_model.proofs.Places.{at_none}
 use Rattle.mcap_model.proofs.ReadBack.{schema_back, channel_back, message_back}

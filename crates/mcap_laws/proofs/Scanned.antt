@@ -18,11 +18,12 @@ use Rattle.mcap_model.specs.Fields.{IsHeader, IsMessage}
 use Rattle.mcap_model.specs.Rules.{V7, HasDataEnd, Agrees}
 use Rattle.mcap_model.specs.Kept.{Halts, reading_limits, Fits, Good, at_end, at_data_end}
 use Rattle.mcap_model.specs.Scan.{Seen, IsSeen, is_message_top, tops_of, Scan}
-use Rattle.mcap_model.specs.History.{rec_top, flat_history, is_message}
+use Rattle.mcap_model.specs.History.{rec_top, is_message}
+use Rattle.mcap_model.specs.Histories.{flat_history, IdsAgree}
 use Rattle.mcap_model.specs.Blocks.{Piece, block, alone, pieces_of, logged_channels}
 use Rattle.mcap_model.specs.File.{library, noted, file_of}
-use Rattle.mcap_model.specs.Written.{IdsAgree}
-use Rattle.mcap_model.specs.Laws.{IsReadBack, IsNumberedRec, IsExtra, CanBeRead, HoldsSeen, chunk_top, index_top, PieceIsShort, FilesAreScanned}
+use Rattle.mcap_model.specs.Laws.{IsNumberedRec, CanBeRead, HoldsSeen, chunk_top, index_top, PieceIsShort, FilesAreScanned}
+use Rattle.mcap_model.specs.ReadBack.{IsReadBack, IsExtra}
 use Rattle.mcap_model.proofs.Lists.{cut_at, at_second, take_second, take_first, each_cons, each_joined}
 use Rattle.mcap_model.proofs.Shape.{ends_there}
 use Rattle.mcap_model.proofs.Section.{piece_tops, IsRight, each_flat}

@@ -18,7 +18,8 @@ use Rattle.mcap_model.specs.Blocks.{Piece, block, alone, Logged, logged_from, lo
 use Rattle.mcap_model.specs.Summary.{capped, extras_of_kind, messages_on, schemas_of, channels_of, written_statistics}
 use Rattle.mcap_model.specs.File.{blocks_from, extras_from}
 use Rattle.mcap_model.specs.Whole.{IsSection, count_of, AreChannels, on_channel, AreIds, StatisticsAreRight}
-use Rattle.mcap_model.specs.Laws.{IsReadBack, IsNumberedRec, IsExtra, chunk_top, index_top}
+use Rattle.mcap_model.specs.Laws.{IsNumberedRec, chunk_top, index_top}
+use Rattle.mcap_model.specs.ReadBack.{IsReadBack, IsExtra}
 use Rattle.mcap_model.proofs.Places.{at_none, at_kept}
 use Rattle.mcap_model.proofs.ReadBack.{at_map, schema_back, channel_back}
 use Rattle.mcap_model.proofs.Histories.{schema_shown, channel_shown, message_shown, rec_not}

@@ -21,8 +21,10 @@ use Rattle.mcap_model.specs.Tops.{Top, top_bytes, flattened, flat}
 use Rattle.mcap_model.specs.Fields.{StatisticsFields, IsStatistics}
 use Rattle.mcap_model.specs.History.{rec_top, schema_of, channel_of, is_schema, is_channel, history_bytes, without_repeats}
 use Rattle.mcap_model.specs.Blocks.{Logged, logged, logged_channels, log_times, chunk_bytes, indexes_bytes}
-use Rattle.mcap_model.specs.Summary.{Noted, Group, group_bytes, groups_of, has_some, schemas_of, channels_of, extras_of_kind, messages_on, statistics_content, chunk_index_content, attachment_index_content, metadata_index_content, offset_contents, written_index, indexed_attachment, written_statistics, group_fields}
-use Rattle.mcap_model.specs.Laws.{IsReadBack, IsNumberedRec, IsExtra}
+use Rattle.mcap_model.specs.Summary.{Noted, Group, group_bytes, groups_of, has_some, schemas_of, channels_of, extras_of_kind, messages_on, statistics_content, chunk_index_content, attachment_index_content, metadata_index_content, offset_contents, written_index, written_statistics, group_fields}
+use Rattle.mcap_model.specs.AttachmentIndexes.{indexed_attachment}
+use Rattle.mcap_model.specs.Laws.{IsNumberedRec}
+use Rattle.mcap_model.specs.ReadBack.{IsReadBack, IsExtra}
 use Rattle.mcap_model.proofs.Places.{at_none, pairs_more}
 use Rattle.mcap_model.proofs.ReadBack.{at_map}
 use Rattle.mcap_model.proofs.Readings.{top_of}

@@ -19,8 +19,9 @@ use Rattle.mcap_model.specs.Blocks.{Piece, block, alone, logged, logged_channels
 use Rattle.mcap_model.specs.Summary.{Noted, group_bytes, groups_of, statistics_content, footer_of_offsets}
 use Rattle.mcap_model.specs.File.{front, blocks_from, extras_from, noted, file_of}
 use Rattle.mcap_model.specs.Whole.{is_last, BelongsTo, IsIndexed, V9, V11, V12, V13, V14, V15, V16, StatisticsAreRight}
-use Rattle.mcap_model.specs.Valid.{Keeps, Valid, IsValid, FullyIndexed}
-use Rattle.mcap_model.specs.Laws.{index_top, IsReadBack, IsNumberedRec, IsExtra, CanBeWritten, FilesAreValid, FilesAreIndexed}
+use Rattle.mcap_model.specs.Valid.{Keeps, Valid, FullyIndexed}
+use Rattle.mcap_model.specs.Laws.{IsValid, index_top, IsNumberedRec, CanBeWritten, FilesAreValid, FilesAreIndexed}
+use Rattle.mcap_model.specs.ReadBack.{IsReadBack, IsExtra}
 use Rattle.mcap_model.proofs.Places.{at_none}
 use Rattle.mcap_model.proofs.Readings.{top_of}
 use Rattle.mcap_model.proofs.Histories.{recs_agree}

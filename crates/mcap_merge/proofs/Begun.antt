@@ -13,7 +13,7 @@ use Rattle.mcap_merge.specs.declared.answers.Merged.{Merged}
 use Rattle.mcap_merge.specs.declared.input.Input.{Input}
 use Rattle.mcap_merge.specs.declared.joining.Joiner.{Joiner}
 use Rattle.mcap_merge.specs.declared.starting.Begun.{Begun}
-use Rattle.mcap_merge.specs.Inputs.{read_tops}
+use Rattle.mcap_merge.specs.ReadInputs.{read_tops}
 use Rattle.mcap_merge.specs.Uses.{history_of}
 use Rattle.mcap_merge.specs.Joining.{JoinerStands}
 use Rattle.mcap_merge.specs.Writing.{extras_of}

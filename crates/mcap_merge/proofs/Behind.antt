@@ -5,7 +5,8 @@ use Rattle.std.specs.List.{AllZip}
 use Rattle.std.proofs.lemmas.Bool.{eqb-true, eq-eqb, both_ways}
 use Rattle.std.proofs.lemmas.List.Sums.{sum_by-take-drop}
 use Rattle.mcap_io.specs.Outside.{RisesOnce}
-use Rattle.mcap_io.specs.Stores.{StoreState, StoreStays}
+use Rattle.mcap_io.specs.Stores.{StoreState}
+use Rattle.mcap_io.specs.StoreAnswers.{StoreStays}
 use Rattle.mcap_model.specs.declared.refusals.ReadingRefused.TheVariants as readings
 use Rattle.mcap_model.specs.Places.{At}
 use Rattle.mcap_model.proofs.Places.{at_none, at_one}
@@ -17,7 +18,8 @@ use Rattle.chunk_walk.specs.declared.walk.Walk.{Walk}
 use Rattle.chunk_walk.specs.Pieces.{InputBytes, pieces_size}
 use Rattle.chunk_walk.specs.Stores.{files_of, StoresStay, AskedWithin, unasked, none_left}
 use Rattle.chunk_walk.specs.Stores as walks
-use Rattle.mcap_merge.specs.Reading.{StoreKeeps, FaultsStand, InputRose, AsksWithinLength}
+use Rattle.mcap_merge.specs.Reading.{FaultsStand, InputRose}
+use Rattle.mcap_merge.specs.ReadingSteps.{StoreKeeps, AsksWithinLength}
 use Rattle.mcap_merge.specs.declared.turns.PutRefused.{PutRefused}
 use Rattle.mcap_merge.specs.declared.turns.PutRefused.TheVariants as puts
 use Rattle.mcap_merge.specs.Turns.{PutCounts}

@@ -6,7 +6,8 @@ use Rattle.std.proofs.lemmas.List.Elements.{filter-append}
 use Rattle.rec_data.specs.declared.owned.Rec.{Rec}
 use Rattle.rec_data.specs.declared.owned.Rec.TheVariants.{Schema, Channel, Message}
 use Rattle.mcap_model.specs.History.{message_of, is_message}
-use Rattle.record_core.specs.Ids.{Ids, ids_of, schemas_in, channels_in, fields_of_schema, channel_place, channel_id, new_records}
+use Rattle.record_core.specs.Ids.{Ids, ids_of, schemas_in, channels_in, channel_place, channel_id, new_records}
+use Rattle.record_core.specs.DeclarationFields.{fields_of_schema}
 use Rattle.record_core.specs.Tables.{content_in, ids_in}
 use Rattle.mcap_merge.specs.declared.answers.Merged.{Merged}
 use Rattle.mcap_merge.specs.declared.joining.Joiner.{Joiner}

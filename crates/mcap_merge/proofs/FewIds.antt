@@ -8,7 +8,7 @@ use Rattle.rec_data.specs.declared.channel.ChannelDef.{ChannelDef}
 use Rattle.mcap_model.specs.Places.{At, Has, Each}
 use Rattle.mcap_model.specs.Tops.{Top}
 use Rattle.mcap_model.specs.History.{message_of}
-use Rattle.mcap_model.specs.Laws.{IsReadBack}
+use Rattle.mcap_model.specs.ReadBack.{IsReadBack}
 use Rattle.mcap_model.specs.Merged.{IsUsed, SchemaIsUsed, AtMost}
 use Rattle.mcap_model.proofs.Places.{at_none, at_one, at_within, at_more}
 use Rattle.mcap_model.proofs.Lists.{each_joined}

@@ -21,8 +21,9 @@ use Rattle.chunk_walk.specs.Pieces.{pieces_with, pieces_size, overlap_at}
 use Rattle.chunk_walk.specs.Stores.{StoresFit}
 use Rattle.chunk_walk.specs.Walks.{pieces_in, pieces_loaded, peak_of, PeakStands}
 use Rattle.mcap_merge.specs.declared.input.Input.{Input}
-use Rattle.mcap_merge.specs.Inputs.{Read, read_tops, HoldsInput, HoldInputs}
-use Rattle.mcap_merge.specs.Reading.{SpansFit}
+use Rattle.mcap_merge.specs.Inputs.{HoldsInput, HoldInputs}
+use Rattle.mcap_merge.specs.ReadInputs.{Read, read_tops}
+use Rattle.mcap_merge.specs.ReadingSteps.{SpansFit}
 use Rattle.mcap_merge.specs.Pieces.{pieces_from}
 use Rattle.mcap_merge.specs.Overlap.{length_at, overlap, IsPeak}
 use Rattle.mcap_merge.proofs.Within.{spans_length, spans_apart}

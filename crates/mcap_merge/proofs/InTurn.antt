@@ -17,7 +17,8 @@ use Rattle.mcap_model.proofs.NamedTopics.{unmapped}
 use Rattle.mcap_model.proofs.PlacesApart.{scan_rises}
 use Rattle.mcap_model.proofs.Flat.{at_mapped}
 use Rattle.mcap_merge.specs.declared.input.Input.{Input}
-use Rattle.mcap_merge.specs.Inputs.{Read, read_tops, HoldInputs}
+use Rattle.mcap_merge.specs.Inputs.{HoldInputs}
+use Rattle.mcap_merge.specs.ReadInputs.{Read, read_tops}
 use Rattle.mcap_merge.specs.Writing.{extras_of}
 use Rattle.mcap_merge.proofs.Inserted.{in_order}
 use Rattle.mcap_merge.proofs.Sources.{AreScanned, from_read, sent, message_from}

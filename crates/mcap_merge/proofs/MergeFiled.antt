@@ -11,7 +11,7 @@ use Rattle.mcap_model.specs.declared.refusals.ReadingRefused.TheVariants as refu
 use Rattle.mcap_model.specs.Places.{At, Has, Each}
 use Rattle.mcap_model.specs.Tops.{Top}
 use Rattle.mcap_model.specs.Kept.{Good, reading_limits}
-use Rattle.mcap_model.specs.Laws.{IsExtra}
+use Rattle.mcap_model.specs.ReadBack.{IsExtra}
 use Rattle.mcap_model.proofs.Places.{at_none, at_one, at_within}
 use Rattle.mcap_model.proofs.Lists.{at_flat}
 use Rattle.mcap_model.proofs.NamedTopics.{zip_front, unmapped}
@@ -31,9 +31,10 @@ use Rattle.mcap_merge.specs.declared.merge_stores.Ready.{Ready}
 use Rattle.mcap_merge.specs.declared.turns.PutRefused.{PutRefused}
 use Rattle.mcap_merge.specs.declared.turns.PutRefused.TheVariants as puts
 use Rattle.mcap_merge.specs.Uses.{Use, history_of}
-use Rattle.mcap_merge.specs.Inputs.{Read, read_tops, extra_top, extra_tops, HoldsInput, HoldInputs}
+use Rattle.mcap_merge.specs.Inputs.{extra_top, extra_tops, HoldsInput, HoldInputs}
+use Rattle.mcap_merge.specs.ReadInputs.{Read, read_tops}
 use Rattle.mcap_merge.specs.Pieces.{pieces_from}
-use Rattle.mcap_merge.specs.Reading.{StoreKeeps, AsksWithinLength}
+use Rattle.mcap_merge.specs.ReadingSteps.{StoreKeeps, AsksWithinLength}
 use Rattle.mcap_merge.specs.Writing.{extras_of}
 use Rattle.mcap_merge.specs.Sound.{IsSoundHistory}
 use Rattle.mcap_merge.specs.Overlap.{IsPeak}

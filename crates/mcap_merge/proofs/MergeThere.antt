@@ -7,10 +7,11 @@ use Rattle.mcap_model.specs.Tops.{Top}
 use Rattle.mcap_model.specs.Repaired.{is_extra}
 use Rattle.mcap_model.specs.Merged.{Sent, IsFrom, CommonProfile}
 use Rattle.mcap_merge.specs.declared.input.Input.{Input}
-use Rattle.mcap_merge.specs.Inputs.{Read, read_tops, HoldInputs}
+use Rattle.mcap_merge.specs.Inputs.{HoldInputs}
+use Rattle.mcap_merge.specs.ReadInputs.{Read, read_tops}
 use Rattle.mcap_merge.specs.Uses.{Use, history_of, IsUse, AreUses}
 use Rattle.mcap_merge.specs.Contents.{IdsSuffice}
-use Rattle.mcap_merge.specs.Gathering.{IsPrepared}
+use Rattle.mcap_merge.specs.GatheringSteps.{IsPrepared}
 use Rattle.mcap_merge.specs.Writing.{extras_of}
 use Rattle.mcap_model.proofs.NamedTopics.{zip_back}
 use Rattle.mcap_merge.proofs.ReadBack.{scan_back}

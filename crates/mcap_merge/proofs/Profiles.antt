@@ -9,7 +9,7 @@ use Rattle.rec_data.specs.Records.{header_kinds, header_values}
 use Rattle.mcap_model.specs.Places.{At, Each}
 use Rattle.mcap_model.specs.Tops.{Top}
 use Rattle.mcap_model.specs.Kept.{reading_limits, Good}
-use Rattle.mcap_model.specs.Laws.{IsExtra}
+use Rattle.mcap_model.specs.ReadBack.{IsExtra}
 use Rattle.mcap_model.specs.Repaired.{is_extra, ProfileIs}
 use Rattle.mcap_model.proofs.Lists.{cut_at, filter_passed}
 use Rattle.mcap_model.proofs.NamedTopics.{zip_front, zip_back, unmapped}
@@ -18,9 +18,11 @@ use Rattle.mcap_model.proofs.OneMore.{taken_more}
 use Rattle.mcap_merge.specs.declared.input.Extra.{Extra}
 use Rattle.mcap_merge.specs.declared.input.Input.{Input}
 use Rattle.mcap_model.specs.Merged.{CommonProfile}
-use Rattle.mcap_merge.specs.Inputs.{Read, read_tops, extra_top, extra_tops, HoldsInput, HoldInputs}
+use Rattle.mcap_merge.specs.Inputs.{extra_top, extra_tops, HoldsInput, HoldInputs}
+use Rattle.mcap_merge.specs.ReadInputs.{Read, read_tops}
 use Rattle.mcap_io.specs.Stores.{StoreState}
-use Rattle.mcap_merge.specs.Reading.{IsReadOf, AllReadWhole}
+use Rattle.mcap_merge.specs.Reading.{IsReadOf}
+use Rattle.mcap_merge.specs.ReadingSteps.{AllReadWhole}
 use Rattle.mcap_merge.specs.Writing.{ExtrasMeet, extras_of}
 
 -- lists that stand beside each other are as long

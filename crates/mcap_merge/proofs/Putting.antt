@@ -29,7 +29,8 @@ use Rattle.chunk_walk.specs.Walks.{Text, turns_in, pieces_in, IsTextOf, IsMessag
 use Rattle.chunk_walk.proofs.Stayed.{leaves_on}
 use Rattle.mcap_merge.specs.declared.input.Input.{Input}
 use Rattle.mcap_merge.specs.declared.joining.Joiner.{Joiner}
-use Rattle.mcap_merge.specs.Inputs.{Read, read_tops, HoldsInput, HoldInputs}
+use Rattle.mcap_merge.specs.Inputs.{HoldsInput, HoldInputs}
+use Rattle.mcap_merge.specs.ReadInputs.{Read, read_tops}
 use Rattle.mcap_merge.specs.Uses.{Use, added_by, with_use, history_of}
 use Rattle.mcap_merge.specs.Contents.{IdsSuffice}
 use Rattle.mcap_merge.specs.Joining.{JoinerStands}

@@ -9,7 +9,7 @@ use Rattle.rec_data.proofs.OwnedReading.{rec_shown}
 use Rattle.mcap_model.specs.Places.{At, Each}
 use Rattle.mcap_model.specs.Fields.{MessageFields}
 use Rattle.mcap_model.specs.History.{schema_of, channel_of, message_of}
-use Rattle.mcap_model.specs.Laws.{IsReadBack}
+use Rattle.mcap_model.specs.ReadBack.{IsReadBack}
 use Rattle.mcap_model.specs.Scan.{Seen, IsSeen, Scan, is_message_top, tops_of}
 use Rattle.mcap_model.specs.Tops.{Top, placed}
 use Rattle.mcap_model.proofs.Places.{at_none}
@@ -17,7 +17,7 @@ use Rattle.mcap_model.proofs.Lists.{each_cons, each_joined}
 use Rattle.mcap_model.proofs.NamedTopics.{zip_back}
 use Rattle.id_table.specs.declared.given.Given.{Given}
 use Rattle.id_table.specs.declared.given.Given.TheVariants.{Known, New}
-use Rattle.record_core.specs.Ids.{fields_of_schema, fields_with}
+use Rattle.record_core.specs.DeclarationFields.{fields_of_schema, fields_with}
 use Rattle.record_core.specs.Tables.{id_given, id_of, schema_with}
 use Rattle.mcap_merge.specs.declared.joining.Declared.{Declared}
 use Rattle.mcap_merge.specs.Joining.{declaring_records}

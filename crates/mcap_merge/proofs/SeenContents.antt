@@ -16,7 +16,8 @@ use Rattle.id_table.specs.declared.given.IdRefused.{IdRefused}
 use Rattle.id_table.specs.declared.given.IdRefused.TheVariants.{TooManySchemas, TooManyChannels, Memory}
 use Rattle.record_core.specs.Tables.{SchemaHasId, HasSchemas}
 use Rattle.mcap_merge.specs.declared.input.Input.{Input}
-use Rattle.mcap_merge.specs.Inputs.{Read, read_tops, HoldInputs}
+use Rattle.mcap_merge.specs.Inputs.{HoldInputs}
+use Rattle.mcap_merge.specs.ReadInputs.{Read, read_tops}
 use Rattle.mcap_merge.specs.Joining.{TableIsUsed, LackMet}
 use Rattle.mcap_merge.specs.Contents.{TakesId, TakesOf, LacksIdsOf, IsIdTable, HasContent, id_place, IdsSuffice}
 use Rattle.mcap_merge.proofs.Contents.{content_once}

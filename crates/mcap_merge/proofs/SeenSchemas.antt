@@ -23,7 +23,8 @@ use Rattle.id_table.specs.declared.given.GivenIds.{GivenIds}
 use Rattle.id_table.specs.declared.given.IdRefused.{IdRefused}
 use Rattle.id_table.specs.declared.given.IdRefused.TheVariants.{TooManySchemas, TooManyChannels, Memory}
 use Rattle.mcap_merge.specs.declared.input.Input.{Input}
-use Rattle.mcap_merge.specs.Inputs.{Read, read_tops, HoldInputs}
+use Rattle.mcap_merge.specs.Inputs.{HoldInputs}
+use Rattle.mcap_merge.specs.ReadInputs.{Read, read_tops}
 use Rattle.mcap_merge.specs.Joining.{IsAskedFor, WhyLacks}
 use Rattle.mcap_merge.specs.Schemas.{bare, AreBare, Enters, EntersOf, LacksPlace, LacksPlaceOf, LacksSchemas}
 use Rattle.mcap_merge.proofs.Contents.{content_once}

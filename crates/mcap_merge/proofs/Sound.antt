@@ -11,11 +11,11 @@ use Rattle.mcap_model.specs.Places.{Each}
 use Rattle.mcap_model.specs.Tops.{Top}
 use Rattle.mcap_model.specs.Fields.{MessageFields}
 use Rattle.mcap_model.specs.History.{message_of, is_message}
-use Rattle.mcap_model.specs.Laws.{IsReadBack, IsExtra}
+use Rattle.mcap_model.specs.ReadBack.{IsReadBack, IsExtra}
 use Rattle.mcap_model.specs.Merged.{Sent, MergesBefore, IsMerged, MergeOf}
 use Rattle.mcap_model.proofs.Lists.{pairs_at, pairs_from}
 use Rattle.mcap_model.proofs.NamedTopics.{zip_front, zip_back}
-use Rattle.record_walk.specs.Heads.{time_in}
+use Rattle.record_walk.specs.HeadTimes.{time_in}
 use Rattle.chunk_walk.specs.declared.answers.Turn.{Turn}
 use Rattle.chunk_walk.specs.Cursors.{TurnBefore}
 use Rattle.chunk_walk.specs.Walks.{Text}

@@ -10,7 +10,8 @@ use Rattle.mcap_model.proofs.Places.{at_one, at_within, at_read}
 use Rattle.mcap_model.proofs.NamedTopics.{zip_front, zip_back, unmapped}
 use Rattle.mcap_model.proofs.Flat.{at_mapped, good_lists_are_scanned}
 use Rattle.mcap_merge.specs.declared.input.Input.{Input}
-use Rattle.mcap_merge.specs.Inputs.{Read, read_tops, HoldsInput, HoldInputs}
+use Rattle.mcap_merge.specs.Inputs.{HoldsInput, HoldInputs}
+use Rattle.mcap_merge.specs.ReadInputs.{Read, read_tops}
 use Rattle.mcap_merge.specs.Contents.{id_place}
 use Rattle.mcap_merge.specs.Joining.{IsAskedFor}
 

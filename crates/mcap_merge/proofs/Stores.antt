@@ -4,7 +4,8 @@ use Rattle.std.specs.Prelude.{Result, Ok, Err}
 use Rattle.std.specs.List.{AllZip}
 use Rattle.std.proofs.lemmas.List.{take_all, take_more_set, map-append}
 use Rattle.mcap_io.specs.Outside.{RisesOnce}
-use Rattle.mcap_io.specs.Stores.{StoreState, StoreStays, Measures}
+use Rattle.mcap_io.specs.Stores.{StoreState}
+use Rattle.mcap_io.specs.StoreAnswers.{StoreStays, Measures}
 use Rattle.mcap_io.specs.StoreSources.{front_left}
 use Rattle.store_front.specs.Fronts.{WasRead}
 use Rattle.mcap_model.specs.Places.{At}
@@ -17,8 +18,10 @@ use Rattle.mcap_model.specs.declared.refusals.ReadingRefused.TheVariants as refu
 use Rattle.chunk_survey.specs.declared.spans.Span.{Span}
 use Rattle.mcap_merge.specs.declared.answers.MergeRefused.{MergeRefused}
 use Rattle.mcap_merge.specs.declared.input.Input.{Input}
-use Rattle.mcap_merge.specs.Inputs.{Read, HoldsInput, HoldInputs}
-use Rattle.mcap_merge.specs.Reading.{front_source, FrontReads, HasLength, TellsFaultCount, FindsOutside, SpansFit, AsksWithinLength, StoreKeeps, FaultsStand, IsReadOf, StoreRefused, ReadsWhole, IsRefusalAt, AllReadWhole, AreReadBefore, InputRefused}
+use Rattle.mcap_merge.specs.Inputs.{HoldsInput, HoldInputs}
+use Rattle.mcap_merge.specs.ReadInputs.{Read}
+use Rattle.mcap_merge.specs.Reading.{FaultsStand, IsReadOf, AreReadBefore, InputRefused}
+use Rattle.mcap_merge.specs.ReadingSteps.{front_source, FrontReads, HasLength, TellsFaultCount, FindsOutside, SpansFit, AsksWithinLength, StoreKeeps, StoreRefused, ReadsWhole, IsRefusalAt, AllReadWhole}
 use Rattle.mcap_merge.proofs.Within.{halts_within}
 
 -- the first bytes of a store are all where the length is theirs

@@ -26,7 +26,8 @@ use Rattle.chunk_walk.specs.Stores.{files_of}
 use Rattle.chunk_walk.specs.Walks.{Text, turns_in, turns_of, pieces_in, pieces_loaded, pieces_ahead, IsTextOf, WalkStands, AllGiven}
 use Rattle.chunk_walk.proofs.Ordered.{before_each}
 use Rattle.mcap_merge.specs.declared.input.Input.{Input}
-use Rattle.mcap_merge.specs.Inputs.{Read, read_tops, HoldsInput, HoldInputs}
+use Rattle.mcap_merge.specs.Inputs.{HoldsInput, HoldInputs}
+use Rattle.mcap_merge.specs.ReadInputs.{Read, read_tops}
 use Rattle.mcap_merge.specs.Uses.{Use, added_by, with_use, history_of, IsUse, AreUses}
 use Rattle.mcap_merge.specs.Turns.{IsUseOfTurn}
 use Rattle.mcap_merge.specs.Writing.{extras_of}

@@ -16,7 +16,8 @@ use Rattle.mcap_model.proofs.Flat.{at_mapped}
 use Rattle.mcap_model.proofs.OpenedChunks.{placed_at}
 use Rattle.chunk_survey.specs.declared.spans.Span.{Span}
 use Rattle.record_walk.specs.declared.heads.MessageHead.{MessageHead}
-use Rattle.record_walk.specs.Heads.{channel_id_in, time_in, is_headed, head_of}
+use Rattle.record_walk.specs.Heads.{channel_id_in, head_of}
+use Rattle.record_walk.specs.HeadTimes.{time_in, is_headed}
 use Rattle.chunk_survey.specs.Heads.{set_at, heads_one, heads_from}
 use Rattle.chunk_survey.specs.Times.{times_of}
 use Rattle.chunk_survey.specs.Spans.{spans_one}

@@ -22,7 +22,8 @@ use Rattle.chunk_walk.specs.Stores.{files_of}
 use Rattle.chunk_walk.specs.Walks.{pieces_in, IsWalkRefused}
 use Rattle.chunk_walk.specs.Laws.{BeginApart}
 use Rattle.mcap_merge.specs.declared.input.Input.{Input}
-use Rattle.mcap_merge.specs.Inputs.{Read, HoldInputs}
+use Rattle.mcap_merge.specs.Inputs.{HoldInputs}
+use Rattle.mcap_merge.specs.ReadInputs.{Read}
 use Rattle.mcap_merge.specs.Pieces.{pieces_from}
 use Rattle.mcap_merge.specs.Turns.{IsOther, IsChanged}
 use Rattle.mcap_merge.proofs.Dropped.{undropped}

@@ -14,7 +14,8 @@ use Rattle.mcap_model.proofs.Members.{has_either, has_second}
 use Rattle.mcap_model.proofs.NamedTopics.{contained, has_there, unmapped, zip_front, zip_back}
 use Rattle.mcap_model.proofs.Flat.{at_mapped}
 use Rattle.chunk_survey.specs.declared.spans.Span.{Span}
-use Rattle.chunk_survey.specs.Times.{times_of, TimesSpan}
+use Rattle.chunk_survey.specs.Times.{times_of}
+use Rattle.chunk_survey.specs.Surveys.{TimesSpan}
 use Rattle.chunk_survey.specs.Spans.{spans_one, spans_from, spans_of}
 use Rattle.chunk_walk.specs.declared.answers.Turn.{Turn}
 use Rattle.record_walk.specs.declared.heads.MessageHead.{MessageHead}
@@ -29,7 +30,8 @@ use Rattle.chunk_walk.specs.Stores.{files_of}
 use Rattle.chunk_walk.specs.Walks.{Text, turns_in, IsTextOf, IsMessageAt}
 use Rattle.chunk_walk.specs.Laws.{IsPieceTold}
 use Rattle.mcap_merge.specs.declared.input.Input.{Input}
-use Rattle.mcap_merge.specs.Inputs.{Read, read_tops, HoldsInput, HoldInputs}
+use Rattle.mcap_merge.specs.Inputs.{HoldsInput, HoldInputs}
+use Rattle.mcap_merge.specs.ReadInputs.{Read, read_tops}
 use Rattle.mcap_merge.specs.Reading.{IsReadOf}
 use Rattle.mcap_merge.specs.Pieces.{pieces_from}
 use Rattle.mcap_merge.specs.Filed.{AllTell}

@@ -20,7 +20,8 @@ use Rattle.id_table.specs.declared.given.IdRefused.{IdRefused}
 use Rattle.id_table.specs.declared.given.IdRefused.TheVariants.{TooManySchemas, TooManyChannels, Memory}
 use Rattle.record_core.specs.declared.answers.DeclareRefused.{DeclareRefused}
 use Rattle.record_core.specs.declared.answers.DeclareRefused.TheVariants as declaring
-use Rattle.record_core.specs.Ids.{Ids, fields_of_schema, schema_place, new_schema_at, channel_place}
+use Rattle.record_core.specs.Ids.{Ids, schema_place, new_schema_at, channel_place}
+use Rattle.record_core.specs.DeclarationFields.{fields_of_schema}
 use Rattle.record_core.specs.Tables.{content_in, ids_in, schemas_lack, ids_lack, IdsDeclared}
 use Rattle.record_core.proofs.TableIds.{schema_missed, channel_missed}
 use Rattle.mcap_model.specs.Merged.{Sent, IsContent, IsUsed, SchemaIsUsed, MoreThan}

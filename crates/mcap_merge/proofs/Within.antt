@@ -5,7 +5,7 @@ use Rattle.std.specs.List.{sum_by}
 use Rattle.std.proofs.lemmas.Bool.{cases_lt}
 use Rattle.std.proofs.lemmas.Option.{same_Some}
 use Rattle.std.proofs.lemmas.List.Sums.{sum_by-append}
-use Rattle.mcap_wire.specs.Reading.{text_length, bytes_length}
+use Rattle.mcap_wire.specs.Layout.{text_length, bytes_length}
 use Rattle.mcap_model.specs.Places.{At, Has, Each}
 use Rattle.mcap_model.specs.Tops.{Top, top_bytes, spelled, is_chunk, chunk_records, records_in, inner_tops}
 use Rattle.mcap_model.specs.Kept.{reading_limits, Halts, at_end}

@@ -22,7 +22,7 @@ use Rattle.chunk_writer.specs.Stops.{numbers, StopsAt, StopCause}
 use Rattle.mcap_merge.specs.declared.answers.MergeRefused.{MergeRefused}
 use Rattle.mcap_merge.specs.declared.answers.MergeRefused.TheVariants as merges
 use Rattle.mcap_merge.specs.declared.answers.Merged.{Merged}
-use Rattle.mcap_merge.specs.Inputs.{Read, read_tops}
+use Rattle.mcap_merge.specs.ReadInputs.{Read, read_tops}
 use Rattle.mcap_merge.specs.Reading.{IsReadOf, FaultsStand, InputRose, ReadStopped}
 use Rattle.mcap_merge.specs.Gathering.{GatherRefused}
 use Rattle.mcap_merge.specs.Sound.{IsSoundHistory}

@@ -15,8 +15,9 @@ use Rattle.mcap_merge.specs.declared.answers.Merged.{Merged}
 use Rattle.mcap_merge.specs.declared.merge_stores.Ready.{Ready}
 use Rattle.mcap_merge.specs.declared.turns.PutRefused.{PutRefused}
 use Rattle.mcap_merge.specs.declared.turns.PutRefused.TheVariants as puts
-use Rattle.mcap_merge.specs.Reading.{FaultsStand, SpansFit, IsRefusalAt}
-use Rattle.mcap_merge.specs.Gathering.{IsGathered}
+use Rattle.mcap_merge.specs.Reading.{FaultsStand}
+use Rattle.mcap_merge.specs.ReadingSteps.{SpansFit, IsRefusalAt}
+use Rattle.mcap_merge.specs.GatheringSteps.{IsGathered}
 use Rattle.mcap_merge.specs.Turns.{stop_of}
 use Rattle.mcap_merge.specs.Putting.{IsBegun, MergeStart, WholeStands, PartStands}
 use Rattle.mcap_merge.specs.Filed.{merged_options, FileStands}

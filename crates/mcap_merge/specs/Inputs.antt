@@ -7,17 +7,18 @@ use Rattle.mcap_io.specs.Outside.{SourceState}
 use Rattle.mcap_model.specs.declared.tables.Tables.{Tables}
 use Rattle.mcap_model.specs.Tops.{Top, flat}
 use Rattle.mcap_model.specs.Kept.{reading_limits, Good, at_end}
-use Rattle.mcap_model.specs.Scan.{Seen, Scan}
+use Rattle.mcap_model.specs.Scan.{Scan}
 use Rattle.mcap_model.specs.Declarations.{TablesOf}
 use Rattle.mcap_model.specs.Repaired.{is_extra, ProfileIs}
 use Rattle.mcap_model.specs.declared.refusals.ReadingRefused.{ReadingRefused}
-use Rattle.mcap_scan.specs.Scanning.{HaltsSo, RefusalStands}
+use Rattle.mcap_scan.specs.RefusedReadings.{HaltsSo, RefusalStands}
 use Rattle.chunk_survey.specs.Heads.{heads_under}
 use Rattle.chunk_survey.specs.Spans.{spans_one, spans_of}
 use Rattle.mcap_merge.specs.declared.input.Extra.{Extra}
 use Rattle.mcap_merge.specs.declared.input.Holding.{Holding}
 use Rattle.mcap_merge.specs.declared.input.Input.{Input}
 use Rattle.mcap_merge.specs.Marks.{listed_channels, with_marks, AreUnmarked, MarksChannels}
+use Rattle.mcap_merge.specs.ReadInputs.{Read}
 
 abbrev pub extra_top : Extra → Top
 extra_top e = record { op = e.op; content = e.content }
@@ -58,14 +59,6 @@ pub record IsInputOf (h : Holding) (tables : Tables) (i : Input) : Type 0 where
   pub extras : i.extras ≡ h.extras
   pub profile : i.profile ≡ h.profile
   pub tables_are : i.tables ≡ tables
-
--- the records of an input, and their messages
-pub record Read : Type 0 where
-  pub tops : List Top
-  pub messages : List Seen
-
-abbrev pub read_tops : List Read → List (List Top)
-read_tops reads = map (λ r. r.tops) reads
 
 -- these records are good, and what is held are their profile, their declarations, their extras, where their messages stand, and
 -- which channels have some

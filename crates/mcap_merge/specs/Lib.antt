@@ -1,17 +1,22 @@
+-- What the promise of the program reaches, in the order to read it.
+pub mod ReadInputs
+pub mod Reading
+pub mod Gathering
+pub mod Overlap
+pub mod Sound
+pub mod Filed
+-- What the functions of this crate and its proofs say besides.
 pub mod Marks
 pub mod Uses
 pub mod Inputs
 pub mod Joining
 pub mod Contents
 pub mod Writing
-pub mod Reading
-pub mod Gathering
+pub mod GatheringSteps
+pub mod ReadingSteps
 pub mod Pens
 pub mod Schemas
 pub mod Turns
 pub mod Putting
-pub mod Sound
 pub mod Pieces
-pub mod Overlap
-pub mod Filed
 pub mod Filing

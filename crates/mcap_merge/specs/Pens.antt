@@ -8,7 +8,8 @@ use Rattle.mcap_model.specs.declared.ends.Stop.{Stop}
 use Rattle.mcap_model.specs.Tops.{Top}
 use Rattle.chunk_writer.specs.declared.phase.Phase.TheVariants as phases
 use Rattle.chunk_writer.specs.declared.scribe.Scribe.{Scribe}
-use Rattle.chunk_writer.specs.Stops.{numbers, StopsBehind}
+use Rattle.chunk_writer.specs.Stops.{numbers}
+use Rattle.chunk_writer.specs.StopSteps.{StopsBehind}
 use Rattle.chunk_writer.specs.Limits.{Holds}
 use Rattle.chunk_writer.specs.Scribes.{WritesHistory, EndsFile, phase_of}
 use Rattle.chunk_writer.specs.declared.tape.Written.{Written}

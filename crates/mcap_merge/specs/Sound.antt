@@ -5,7 +5,7 @@ use Rattle.rec_data.specs.declared.owned.Rec.TheVariants.{Schema, Channel, Messa
 use Rattle.mcap_model.specs.Places.{Each}
 use Rattle.mcap_model.specs.Tops.{Top, is_flat_kind}
 use Rattle.mcap_model.specs.History.{is_message, rec_top, Numbered}
-use Rattle.mcap_model.specs.Laws.{IsReadBack, IsExtra}
+use Rattle.mcap_model.specs.ReadBack.{IsReadBack, IsExtra}
 use Rattle.mcap_model.specs.Merged.{StandBeforeUse}
 
 -- a Message wasn't logged before that time

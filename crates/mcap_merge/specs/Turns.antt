@@ -28,7 +28,8 @@ use Rattle.mcap_merge.specs.declared.joining.Joiner.{Joiner}
 use Rattle.mcap_merge.specs.Uses.{Use, history_of}
 use Rattle.mcap_merge.specs.Contents.{HasContent, IdsSuffice}
 use Rattle.mcap_merge.specs.Joining.{JoinerStands}
-use Rattle.mcap_merge.specs.Inputs.{Read, read_tops, HoldInputs}
+use Rattle.mcap_merge.specs.Inputs.{HoldInputs}
+use Rattle.mcap_merge.specs.ReadInputs.{Read, read_tops}
 
 -- ---- one message
 

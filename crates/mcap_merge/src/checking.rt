@@ -3,7 +3,8 @@ ghost use Rattle.std.specs.Prelude.{◌≡◌, ◌≤◌, ◌<◌, ◌*◌, ◌+
 ghost use Rattle.mcap_model.specs.Places.{At};
 ghost use Rattle.mcap_model.specs.Tops.{Top};
 ghost use Rattle.mcap_model.specs.Declarations.{TablesOf};
-ghost use Rattle.mcap_merge.specs.Inputs.{Read, read_tops, HoldInputs};
+ghost use Rattle.mcap_merge.specs.Inputs.{HoldInputs};
+ghost use Rattle.mcap_merge.specs.ReadInputs.{Read, read_tops};
 ghost use Rattle.mcap_merge.specs.Joining.{LackMet};
 ghost use Rattle.mcap_merge.specs.Contents.{TakesOf, LacksIdsOf, IsIdTable, IdsSuffice};
 

@@ -1,7 +1,7 @@
 //! Writing the extras of a merge.
 ghost use Rattle.std.specs.Prelude.{◌≡◌, ◌≤◌, [], length, IfErr, OnOk};
 ghost use Rattle.mcap_model.specs.Places.{Each};
-ghost use Rattle.mcap_model.specs.Laws.{IsExtra};
+ghost use Rattle.mcap_model.specs.ReadBack.{IsExtra};
 ghost use Rattle.chunk_writer.specs.declared.phase.Phase.TheVariants as phases;
 ghost use Rattle.chunk_writer.specs.Stops.{Cause};
 ghost use Rattle.mcap_merge.specs.Inputs.{extra_top, extra_tops};

@@ -5,9 +5,12 @@ ghost use Rattle.mcap_model.specs.Tops.{Top};
 ghost use Rattle.mcap_merge.specs.Contents.{IdsSuffice};
 ghost use Rattle.mcap_merge.specs.Joining.{LackMet, WhyLacks};
 ghost use Rattle.mcap_merge.specs.Writing.{extras_of};
-ghost use Rattle.mcap_merge.specs.Inputs.{Read, read_tops, HoldInputs};
-ghost use Rattle.mcap_merge.specs.Reading.{StoreKeeps, FaultsStand, SpansFit, AsksWithinLength};
-ghost use Rattle.mcap_merge.specs.Gathering.{IsPrepared, PrepareRefused, IsGathered, GatherRefused};
+ghost use Rattle.mcap_merge.specs.Inputs.{HoldInputs};
+ghost use Rattle.mcap_merge.specs.ReadInputs.{Read, read_tops};
+ghost use Rattle.mcap_merge.specs.Reading.{FaultsStand};
+ghost use Rattle.mcap_merge.specs.ReadingSteps.{StoreKeeps, SpansFit, AsksWithinLength};
+ghost use Rattle.mcap_merge.specs.Gathering.{PrepareRefused, GatherRefused};
+ghost use Rattle.mcap_merge.specs.GatheringSteps.{IsPrepared, IsGathered};
 
 use crate::answers::MergeRefused;
 use crate::checking::check_ids;

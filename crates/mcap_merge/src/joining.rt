@@ -2,12 +2,12 @@
 ghost use Rattle.std.specs.Prelude.{◌≡◌, ◌≤◌, ◌<◌, ◌*◌, ◌+◌, ◌∷◌, [], ℕ, List, length, Some, IfOk, IfErr};
 ghost use Rattle.rec_data.specs.declared.owned.Rec.{Rec};
 ghost use Rattle.mcap_model.specs.Places.{At, Each};
-ghost use Rattle.mcap_model.specs.Laws.{IsReadBack};
+ghost use Rattle.mcap_model.specs.ReadBack.{IsReadBack};
 ghost use Rattle.mcap_model.specs.Tops.{Top, flat};
 ghost use Rattle.mcap_model.specs.Declarations.{TablesOf};
 ghost use Rattle.mcap_model.specs.History.{schema_of, channel_of};
 ghost use Rattle.rec_data.specs.Owned.{RecFits};
-ghost use Rattle.record_core.specs.Ids.{fields_of_schema, fields_with};
+ghost use Rattle.record_core.specs.DeclarationFields.{fields_of_schema, fields_with};
 ghost use Rattle.record_core.specs.Tables.{HasSchemas};
 ghost use Rattle.record_core.specs.Sights.{SchemaFits, DefFits};
 ghost use Rattle.mcap_model.specs.Merged.{Sent, IsContent};

@@ -3,7 +3,8 @@ ghost use Rattle.std.specs.Prelude.{◌≡◌, ◌≤◌, ◌⊎◌, List, map, 
 ghost use Rattle.chunk_writer.specs.declared.phase.Phase.TheVariants as phases;
 ghost use Rattle.chunk_walk.specs.Stores.{files_of, StoresFit, StoresStay, AskedWithin, unasked, none_left};
 ghost use Rattle.chunk_walk.specs.Walks.{pieces_in};
-ghost use Rattle.mcap_merge.specs.Inputs.{Read, HoldInputs};
+ghost use Rattle.mcap_merge.specs.Inputs.{HoldInputs};
+ghost use Rattle.mcap_merge.specs.ReadInputs.{Read};
 ghost use Rattle.mcap_merge.specs.Writing.{ExtrasMeet};
 ghost use Rattle.mcap_merge.specs.Turns.{WhyNotAll, PutCounts};
 ghost use Rattle.mcap_merge.specs.Putting.{IsBegun, EndsWhole, StopsBefore, StopsAtEnd};

@@ -5,7 +5,7 @@ ghost use Rattle.mcap_model.specs.declared.ends.Stop.{Stop as Why};
 ghost use Rattle.mcap_model.specs.declared.ends.Stop.TheVariants as stops;
 ghost use Rattle.mcap_model.specs.Tops.{Top};
 ghost use Rattle.mcap_model.specs.Made.{top};
-ghost use Rattle.mcap_model.specs.Laws.{IsExtra};
+ghost use Rattle.mcap_model.specs.ReadBack.{IsExtra};
 ghost use Rattle.chunk_build.specs.Chunker.{AreFramed};
 ghost use Rattle.chunk_writer.specs.declared.phase.Phase.{Phase as PenPhase};
 ghost use Rattle.chunk_writer.specs.declared.phase.Phase.TheVariants as phases;

@@ -1,7 +1,8 @@
 //! The profile that all inputs have.
 ghost use Rattle.std.specs.Prelude.{◌<◌, ◌≤◌, List, length, IfOk};
 ghost use Rattle.mcap_model.specs.Merged.{CommonProfile};
-ghost use Rattle.mcap_merge.specs.Inputs.{Read, read_tops, HoldInputs};
+ghost use Rattle.mcap_merge.specs.Inputs.{HoldInputs};
+ghost use Rattle.mcap_merge.specs.ReadInputs.{Read, read_tops};
 
 use crate::input::Input;
 use mcap_wire::{Memory, Text};

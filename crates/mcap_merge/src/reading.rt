@@ -1,8 +1,9 @@
 //! Reading the inputs of a merge, each whole.
 ghost use Rattle.std.specs.Prelude.{◌≡◌, ◌+◌, ◌≤◌, List, map, length, IfOk, IfErr, OnOk};
 ghost use Rattle.std.specs.List.{AllZip};
-ghost use Rattle.mcap_io.specs.Stores.{StoreStays};
-ghost use Rattle.mcap_merge.specs.Reading.{FrontReads, HasLength, StoreKeeps, FaultsStand, ReadsWhole, TellsFaultCount, FindsOutside, EndWithin, SpansFit, AsksWithinLength, IsRefusalAt, AllReadWhole, InputRefused};
+ghost use Rattle.mcap_io.specs.StoreAnswers.{StoreStays};
+ghost use Rattle.mcap_merge.specs.Reading.{FaultsStand, InputRefused};
+ghost use Rattle.mcap_merge.specs.ReadingSteps.{FrontReads, HasLength, StoreKeeps, ReadsWhole, TellsFaultCount, FindsOutside, EndWithin, SpansFit, AsksWithinLength, IsRefusalAt, AllReadWhole};
 
 use crate::answers::MergeRefused;
 use crate::input::{Input, read_input};

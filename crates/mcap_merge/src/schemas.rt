@@ -6,7 +6,8 @@ ghost use Rattle.mcap_wire.specs.Limits.{id_limit};
 ghost use Rattle.mcap_model.specs.Tops.{Top};
 ghost use Rattle.mcap_model.specs.Declarations.{TablesOf};
 ghost use Rattle.mcap_model.specs.Merged.{IsContent, SchemaIsUsed, AtMost};
-ghost use Rattle.mcap_merge.specs.Inputs.{Read, read_tops, HoldInputs};
+ghost use Rattle.mcap_merge.specs.Inputs.{HoldInputs};
+ghost use Rattle.mcap_merge.specs.ReadInputs.{Read, read_tops};
 ghost use Rattle.mcap_merge.specs.Schemas.{bare, AreBare, Enters, EntersOf, LacksPlace, LacksPlaceOf, LacksSchemas};
 
 use crate::checking::{ID_COUNT, channel_at};

@@ -7,7 +7,8 @@ ghost use Rattle.chunk_walk.specs.declared.answers.WalkRefused.TheVariants as wa
 ghost use Rattle.mcap_merge.specs.declared.turns.PutRefused.TheVariants as puts;
 ghost use Rattle.chunk_walk.specs.Stores.{files_of, StoresFit, StoresStay, AskedWithin, unasked, none_left};
 ghost use Rattle.chunk_walk.specs.Walks.{pieces_in};
-ghost use Rattle.mcap_merge.specs.Inputs.{Read, HoldInputs};
+ghost use Rattle.mcap_merge.specs.Inputs.{HoldInputs};
+ghost use Rattle.mcap_merge.specs.ReadInputs.{Read};
 ghost use Rattle.mcap_merge.specs.Turns.{IsMessageOn, sources, PutSoFar, PutAll, PutSome, WhyNotAll, stop_of, PutCounts};
 
 use crate::input::Input;

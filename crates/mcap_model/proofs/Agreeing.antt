@@ -7,7 +7,8 @@ use Rattle.mcap_model.specs.Rules.{Agrees, HasSchema}
 use Rattle.mcap_model.specs.declared.table.Declared.{Declared}
 use Rattle.mcap_model.specs.declared.tables.Tables.{Tables}
 use Rattle.mcap_model.specs.Made.{top}
-use Rattle.mcap_model.specs.Declarations.{FirstOf, SomeFirst, TablesOf, SameButMetadata, AgreesButMetadata}
+use Rattle.mcap_model.specs.Declarations.{FirstOf, SomeFirst, TablesOf}
+use Rattle.mcap_model.specs.WantsOfMemory.{SameButMetadata, AgreesButMetadata}
 use Rattle.mcap_model.proofs.Firsts.{first_other, first_again, first_new}
 use Rattle.mcap_model.proofs.Maps.{schema_once, shows_once, message_once, same_trans}
 use Rattle.mcap_model.proofs.Copies.{channel_refl, channel_sym}

@@ -2,7 +2,8 @@
 use Rattle.std.proofs.Common.{◌≡◌, ◌⊎◌, ℕ, List, length, take, refl, sym, ap, inl, inr, ◌∙◌, arith}
 use Rattle.mcap_wire.proofs.Contents.{shows_decided}
 use Rattle.mcap_crc.specs.Remainder.{remainder}
-use Rattle.rec_data.specs.Records.{attachment_kinds, attachment_values, ShowsAttachment, HasCrcAt}
+use Rattle.rec_data.specs.Records.{attachment_kinds, attachment_values, ShowsAttachment}
+use Rattle.rec_data.specs.RecordReading.{HasCrcAt}
 use Rattle.mcap_model.specs.Fields.{AttachmentFields, IsAttachment}
 use Rattle.mcap_model.specs.Rules.{V10}
 use Rattle.mcap_model.specs.Made.{top}

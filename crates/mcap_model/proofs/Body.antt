@@ -12,7 +12,8 @@ use Rattle.mcap_model.specs.Fields.{IsHeader}
 use Rattle.mcap_model.specs.History.{rec_top}
 use Rattle.mcap_model.specs.Blocks.{Piece, block, alone, pieces_of, chunk_bytes, logged_channels}
 use Rattle.mcap_model.specs.File.{library, noted, file_of}
-use Rattle.mcap_model.specs.Laws.{IsReadBack, IsNumberedRec, index_top, IsExtra, EntriesFit, CanBeWritten}
+use Rattle.mcap_model.specs.Laws.{IsNumberedRec, index_top, EntriesFit, CanBeWritten}
+use Rattle.mcap_model.specs.ReadBack.{IsReadBack, IsExtra}
 use Rattle.mcap_model.proofs.Lists.{each_joined, cut_flat}
 use Rattle.mcap_model.proofs.Edges.{header_top, end_top, ascii}
 use Rattle.mcap_model.specs.Recovery.{piece_records}

@@ -12,8 +12,9 @@ use Rattle.mcap_model.specs.Fields.{IsHeader, IsDataEnd, SchemaFields, IsSchema,
 use Rattle.mcap_model.specs.Rules.{V5, V6, V7, HasSchema, HasChannel, Agrees}
 use Rattle.mcap_model.specs.Kept.{reading_limits, is_beyond}
 use Rattle.mcap_model.specs.History.{rec_top, schema_of, channel_of, message_of, Follows, SchemaFollows, ChannelFollows, MessageFollows, Numbered}
-use Rattle.mcap_model.specs.Written.{IdsAgree}
-use Rattle.mcap_model.specs.Laws.{IsReadBack, IsNumberedRec, NumberedIdsAgree}
+use Rattle.mcap_model.specs.Histories.{IdsAgree}
+use Rattle.mcap_model.specs.Laws.{IsNumberedRec, NumberedIdsAgree}
+use Rattle.mcap_model.specs.ReadBack.{IsReadBack}
 use Rattle.mcap_model.proofs.Places.{at_none, each_front}
 use Rattle.mcap_model.proofs.ReadBack.{schema_back, channel_back, message_back, at_map, schema_id_below, channel_id_below}
 use Rattle.mcap_model.proofs.Flat.{at_mapped}

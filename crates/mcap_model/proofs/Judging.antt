@@ -11,7 +11,7 @@ use Rattle.mcap_model.specs.Places.{At}
 use Rattle.mcap_model.specs.Tops.{Top, records_in, is_chunk, inner_tops, is_flat_kind, flattened, flat}
 use Rattle.mcap_model.specs.Fields.{ChunkFields, IsChunk}
 use Rattle.mcap_model.specs.Kept.{Limits, Fits}
-use Rattle.mcap_model.specs.Rules.{V5, V6, V8, V10, HasDataEnd, stands_in_section, Agrees, ChunkIsRight, Breaks, breaks_6, breaks_7, breaks_8, breaks_10}
+use Rattle.mcap_model.specs.Rules.{V5, V6, V8, V10, HasDataEnd, stands_in_section, Agrees, ChunkIsRight, Breaks, breaks_6, breaks_7, breaks_8, breaks_10, HasSizeAndCrc}
 use Rattle.mcap_model.proofs.Places.{at_none}
 use Rattle.mcap_model.proofs.Unpacking.{chunks_are_opened}
 use Rattle.mcap_model.specs.declared.tables.Tables.{Tables}
@@ -19,9 +19,10 @@ use Rattle.mcap_model.specs.declared.tables.Ruling.{Ruling}
 use Rattle.mcap_model.specs.declared.tables.Ruling.TheVariants as rulings
 use Rattle.mcap_model.specs.Made.{top}
 use Rattle.mcap_model.specs.declared.tops.Judged.TheVariants as judged
-use Rattle.mcap_model.specs.Declarations.{TablesOf, AgreesButMetadata, Judges, AttachmentJudged}
-use Rattle.mcap_model.specs.Chunked.{flat_of, AgreeBehind, HasSizeAndCrc, ChunkTaken}
-use Rattle.mcap_model.specs.Judging.{as_judged, kept_or_breaks, NamesNoCompression, KeepsRules, MayWantMemory, JudgedAs}
+use Rattle.mcap_model.specs.Declarations.{TablesOf, Judges, AttachmentJudged}
+use Rattle.mcap_model.specs.WantsOfMemory.{AgreesButMetadata, NamesNoCompression, MayWantMemory}
+use Rattle.mcap_model.specs.Chunked.{flat_of, AgreeBehind, ChunkTaken}
+use Rattle.mcap_model.specs.Judging.{as_judged, kept_or_breaks, KeepsRules, JudgedAs}
 use Rattle.mcap_model.proofs.Meets.{chunk_meets, unknown_meets}
 use Rattle.mcap_model.proofs.Agreeing.{but_metadata}
 use Rattle.mcap_model.proofs.Inside.{unknown_not_flat}

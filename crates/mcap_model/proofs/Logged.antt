@@ -19,7 +19,7 @@ use Rattle.mcap_model.specs.History.{rec_top, message_of, history_bytes}
 use Rattle.mcap_model.specs.Blocks.{Logged, logged_from, logged, with_id, logged_channels, entries_for}
 use Rattle.mcap_model.specs.Summary.{messages_on}
 use Rattle.mcap_model.specs.Whole.{offset_among, AreEntries}
-use Rattle.mcap_model.specs.Laws.{IsReadBack}
+use Rattle.mcap_model.specs.ReadBack.{IsReadBack}
 use Rattle.mcap_model.proofs.Places.{at_none}
 use Rattle.mcap_model.proofs.ReadBack.{at_map, message_back}
 use Rattle.mcap_model.proofs.Readings.{length-top}

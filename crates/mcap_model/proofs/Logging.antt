@@ -16,7 +16,8 @@ use Rattle.mcap_model.specs.Fields.{IsMessageIndex}
 use Rattle.mcap_model.specs.Rules.{V6}
 use Rattle.mcap_model.specs.History.{rec_top, history_bytes}
 use Rattle.mcap_model.specs.Blocks.{Logged, logged, logged_from, with_id, entries_for, index_content}
-use Rattle.mcap_model.specs.Laws.{IsReadBack, IndexesAreWritten}
+use Rattle.mcap_model.specs.Laws.{IndexesAreWritten}
+use Rattle.mcap_model.specs.ReadBack.{IsReadBack}
 use Rattle.mcap_model.proofs.Places.{at_none, at_read}
 use Rattle.mcap_model.proofs.Readings.{length-top}
 use Rattle.mcap_model.proofs.WrittenChunks.{each_map}

@@ -19,9 +19,9 @@ use Rattle.mcap_model.specs.declared.replay.Shown.{Shown}
 use Rattle.mcap_model.specs.declared.replay.Topic.{Topic}
 use Rattle.mcap_model.specs.declared.replay.Replayed.{Replayed}
 use Rattle.mcap_model.specs.Places.{At, Has}
-use Rattle.mcap_model.specs.Scan.{Seen, InRange, OnTopic, IsAsked, ComesBefore, Replay}
+use Rattle.mcap_model.specs.Scan.{Seen, InRange, OnTopic, IsAsked, ComesBefore, Replay, is_before_end, is_within}
 use Rattle.mcap_model.specs.Showing.{shown_as, topic_as, TopicsOf, Shows}
-use Rattle.mcap_model.specs.Plain.{is_used, is_before_end, is_within, is_named, is_chosen, PlacesDiffer, NotBehind, InOrder}
+use Rattle.mcap_model.specs.Plain.{is_used, is_named, is_chosen, PlacesDiffer, NotBehind, InOrder}
 use Rattle.mcap_model.proofs.Places.{at_none, at_within, at_read, at_one}
 use Rattle.mcap_model.proofs.Lists.{pairs_at, pairs_from, pairs_cons, filter_passed, filter_has}
 use Rattle.mcap_model.proofs.Flat.{at_mapped}

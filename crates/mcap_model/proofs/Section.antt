@@ -16,7 +16,8 @@ use Rattle.mcap_model.specs.Rules.{V6, V8, V10, stands_in_section}
 use Rattle.mcap_model.specs.Kept.{NamesCompression}
 use Rattle.mcap_model.specs.History.{rec_top, history_bytes}
 use Rattle.mcap_model.specs.Blocks.{Piece, block, alone, Cuts, no_cuts, cut_behind, put_behind, cuts, last_piece, pieces_of, reaches, chunk_content, chunk_bytes, index_bytes, indexes_bytes, logged_channels, piece_bytes, pieces_bytes, blocks_in, written_fields}
-use Rattle.mcap_model.specs.Laws.{IsReadBack, IsNumberedRec, chunk_top, index_top, IsExtra, EntriesFit}
+use Rattle.mcap_model.specs.Laws.{IsNumberedRec, chunk_top, index_top, EntriesFit}
+use Rattle.mcap_model.specs.ReadBack.{IsReadBack, IsExtra}
 use Rattle.mcap_model.specs.Recovery.{piece_records}
 use Rattle.mcap_model.proofs.Places.{at_none, at_kept}
 use Rattle.mcap_model.proofs.Readings.{length-top}

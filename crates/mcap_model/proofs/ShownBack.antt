@@ -12,7 +12,8 @@ use Rattle.mcap_model.specs.Fields.{IsMessageIndex, ChunkIndexFields, IsChunkInd
 use Rattle.mcap_model.specs.History.{message_of, history_bytes}
 use Rattle.mcap_model.specs.Blocks.{logged_channels, log_times, entries_for, index_bytes, indexes_bytes, chunk_bytes}
 use Rattle.mcap_model.specs.Summary.{messages_on, index_offsets, chunk_index_content, written_index}
-use Rattle.mcap_model.specs.Laws.{IsReadBack, index_top}
+use Rattle.mcap_model.specs.Laws.{index_top}
+use Rattle.mcap_model.specs.ReadBack.{IsReadBack}
 use Rattle.mcap_model.proofs.Places.{at_none}
 use Rattle.mcap_model.proofs.Readings.{top_of}
 use Rattle.mcap_model.proofs.WrittenChunks.{time_fits, least_fits, greatest_fits, empty_utf8}

@@ -7,8 +7,8 @@ use Rattle.std.proofs.lemmas.Grind.{flat_map-append}
 use Rattle.mcap_wire.specs.declared.faults.Cut.{Cut}
 use Rattle.mcap_wire.specs.declared.faults.CutFault.{CutFault}
 use Rattle.mcap_wire.specs.declared.faults.CutFault.TheVariants as cut_faults
-use Rattle.mcap_wire.specs.Layout.{number, magic}
-use Rattle.mcap_wire.specs.Reading.{NumberAt, CutFails, IsCut, content_length}
+use Rattle.mcap_wire.specs.Layout.{number, magic, NumberAt}
+use Rattle.mcap_wire.specs.Reading.{CutFails, IsCut, content_length}
 use Rattle.mcap_wire.proofs.Fields.{number_there}
 use Rattle.mcap_model.specs.Places.{At}
 use Rattle.mcap_model.specs.Tops.{Top, Tops, top_bytes, spelled, offset_behind, opcode, declared_length, has_head, is_whole, flattened, flat}
@@ -16,7 +16,8 @@ use Rattle.mcap_model.specs.Rules.{V1, HasDataEnd, Breaks, breaks_3}
 use Rattle.mcap_model.specs.Kept.{reading_limits, is_beyond, NamesCompression, Fits, Good, Halt, at_end, grammar, compressed, beyond, HasOpcode, IsDue, HaltsThere, short_head, zero_opcode, past_limit, cut_short, packed_chunk, broken_rule, Halts, no_magic, at_data_end, behind_kept}
 use Rattle.mcap_model.specs.Declarations.{TablesOf}
 use Rattle.mcap_model.specs.Made.{top}
-use Rattle.mcap_model.specs.Judging.{NamesNoCompression, KeepsRules, JudgedAs, FirstJudged}
+use Rattle.mcap_model.specs.Judging.{KeepsRules, JudgedAs, FirstJudged}
+use Rattle.mcap_model.specs.WantsOfMemory.{NamesNoCompression}
 use Rattle.mcap_model.specs.declared.tables.Tables.{Tables}
 use Rattle.mcap_model.specs.declared.tops.Judged.{Judged}
 use Rattle.mcap_model.specs.declared.tops.Judged.TheVariants as judged

@@ -4,8 +4,8 @@ use Rattle.std.specs.Prelude.{if◌then◌else◌}
 use Rattle.std.proofs.lemmas.Bool.{lt-leb}
 use Rattle.std.proofs.lemmas.List.{drop-drop, length-append, length-drop, length-take, drop_at, take_at}
 use Rattle.std.proofs.lemmas.Grind.{flat_map-append}
-use Rattle.mcap_wire.specs.Layout.{number, part, framed}
-use Rattle.mcap_wire.specs.Reading.{NumberAt, RecordStands}
+use Rattle.mcap_wire.specs.Layout.{number, part, framed, NumberAt}
+use Rattle.mcap_wire.specs.Reading.{RecordStands}
 use Rattle.mcap_wire.proofs.Fields.{number_there}
 use Rattle.mcap_wire.proofs.Framing.{length-framed}
 use Rattle.mcap_model.specs.declared.inner.Inner.{Inner}

@@ -1,10 +1,9 @@
 -- How the records inside a chunk are judged.
-use Rattle.std.specs.Prelude.{◌≡◌, ◌⊎◌, ℕ, List, ◌∷◌, [], ◌++◌, length, take, filter, true, Result, Ok, Err}
-use Rattle.mcap_crc.specs.Remainder.{remainder}
+use Rattle.std.specs.Prelude.{◌≡◌, ◌⊎◌, ℕ, List, ◌∷◌, [], ◌++◌, take, filter, true, Result, Ok, Err}
 use Rattle.mcap_model.specs.Places.{At, Each}
 use Rattle.mcap_model.specs.Tops.{Top, spelled, records_in, is_flat_kind}
 use Rattle.mcap_model.specs.Fields.{ChunkFields}
-use Rattle.mcap_model.specs.Rules.{V6, Agrees, stands_in_chunk, ChunkIsRight}
+use Rattle.mcap_model.specs.Rules.{V6, Agrees, stands_in_chunk, ChunkIsRight, HasSizeAndCrc}
 use Rattle.mcap_model.specs.declared.tables.Tables.{Tables}
 use Rattle.mcap_model.specs.declared.tables.Ruling.{Ruling}
 use Rattle.mcap_model.specs.declared.tables.Ruling.TheVariants as rulings
@@ -48,11 +47,6 @@ AllTaken before bytes tables (Ok times) = AreWhole bytes × AgreeBehind before (
 AllTaken before bytes tables (Err rulings.Fits) = ⊥
 AllTaken before bytes tables (Err (rulings.Breaks rule)) = ((rule ≡ 7) × (AgreeBehind before (flat_of (records_in bytes)) → ⊥)) ⊎ ((rule ≡ 7 → ⊥) × (AreWhole bytes → ⊥))
 AllTaken before bytes tables (Err rulings.Memory) = Unit {0}
-
--- the size and the CRC that it names are those of its records
-pub record HasSizeAndCrc (f : ChunkFields) : Type 0 where
-  pub size : f.size ≡ length f.records
-  pub crc : (f.crc ≡ 0) ⊎ (f.crc ≡ remainder f.records)
 
 abbrev pub ChunkTaken : List Top → ChunkFields → Tables → Ruling → Type 0
 ChunkTaken before f tables rulings.Fits = ChunkIsRight f × AgreeBehind before (flat_of (records_in f.records)) × TablesOf (before ++ flat_of (records_in f.records)) tables

@@ -2,14 +2,15 @@
 use Rattle.std.specs.Prelude.{◌≡◌, ◌⊎◌, ℕ, List, ◌∷◌, [], ◌++◌, Option, Some, None, Result, Ok, Err}
 use Rattle.mcap_model.specs.Places.{At, Has}
 use Rattle.mcap_model.specs.Tops.{Top}
-use Rattle.mcap_model.specs.Fields.{SchemaFields, IsSchema, ChannelFields, SameChannel, IsChannel, MessageFields, IsMessage, AttachmentFields, IsAttachment}
-use Rattle.mcap_model.specs.Rules.{V6, V10, HasSchema, HasChannel, Agrees}
+use Rattle.mcap_model.specs.Fields.{IsSchema, SameChannel, IsChannel, MessageFields, IsMessage, AttachmentFields, IsAttachment}
+use Rattle.mcap_model.specs.Rules.{V6, V10, Agrees}
 use Rattle.mcap_model.specs.declared.table.Declared.{Declared}
 use Rattle.mcap_model.specs.declared.tables.Tables.{Tables}
 use Rattle.mcap_model.specs.declared.tables.Ruling.{Ruling}
 use Rattle.mcap_model.specs.declared.tables.Ruling.TheVariants as rulings
 use Rattle.mcap_model.specs.Made.{top}
 use denote.Ref.{Bor}
+use Rattle.mcap_model.specs.WantsOfMemory.{AgreesButMetadata}
 
 -- ---- a table
 
@@ -37,19 +38,6 @@ pub record TablesOf (records : List Top) (tables : Tables) : Type 0 where
 -- the record breaks the rule on layouts, or the one on ids
 abbrev pub BreaksFlat : List Top → Top → ℕ → Type 0
 BreaksFlat records t rule = ((rule ≡ 6) × (V6 t → ⊥)) ⊎ ((rule ≡ 7) × V6 t × (Agrees records t → ⊥))
-
--- equal fields but for the metadata, which aren't compared without memory
-pub record SameButMetadata (f g : ChannelFields) : Type 0 where
-  pub schema : f.schema ≡ g.schema
-  pub topic : f.topic ≡ g.topic
-  pub encoding : f.encoding ≡ g.encoding
-
--- a record agrees with those before it, but that the metadata of a Channel may differ
-pub record AgreesButMetadata (before : List Top) (t : Top) : Type 0 where
-  pub schemas : (id : ℕ) (f g : SchemaFields) (n : ℕ) (u : Top) → IsSchema t id f → At before n u → IsSchema u id g → g ≡ f
-  pub channels : (id : ℕ) (f g : ChannelFields) (n : ℕ) (u : Top) → IsChannel t id f → At before n u → IsChannel u id g → SameButMetadata g f
-  pub schema : (id : ℕ) (f : ChannelFields) → IsChannel t id f → (f.schema ≡ 0) ⊎ HasSchema before f.schema
-  pub channel : (id : ℕ) (m : MessageFields) → IsMessage t id m → HasChannel before id
 
 -- Memory lacks only for a record that breaks no rule as far as that is told without memory.
 abbrev pub Judges : List Top → Top → Tables → Ruling → Type 0

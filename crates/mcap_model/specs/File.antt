@@ -5,7 +5,7 @@ use Rattle.rec_data.specs.Records.{header_text, data_end_text, footer_text}
 use Rattle.rec_data.specs.declared.owned.Rec.{Rec}
 use Rattle.mcap_model.specs.declared.options.FileOptions.{FileOptions}
 use Rattle.mcap_model.specs.Tops.{Top, top_bytes, spelled}
-use Rattle.mcap_model.specs.Blocks.{Piece, block, alone, cuts, pieces_of, piece_bytes, pieces_bytes}
+use Rattle.mcap_model.specs.Blocks.{Piece, block, alone, pieces_of, piece_bytes, pieces_bytes}
 use Rattle.mcap_model.specs.Summary.{Noted, footer_of_offsets, summary_text}
 
 abbrev pub library : List ℕ
@@ -67,10 +67,6 @@ until_block (suc n) (alone r ∷ ps) = alone r ∷ until_block (suc n) ps
 -- the file of this history up to the end of its n-th block; the magic and the Header where n is 0
 abbrev pub front_of : FileOptions → List Rec → ℕ → List ℕ
 front_of options history n = front options.profile ++ pieces_bytes (until_block n (pieces_of options.chunk history))
-
--- what stands in the file of each history that begins with this one
-abbrev pub written_of : FileOptions → List Rec → List ℕ
-written_of options history = front options.profile ++ pieces_bytes (cuts options.chunk history).pieces
 
 -- a first part of the whole
 abbrev pub IsPrefix : List ℕ → List ℕ → Type 0

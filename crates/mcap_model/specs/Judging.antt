@@ -1,7 +1,7 @@
 -- How a record of the top level is judged behind those before it.
 use Rattle.std.specs.Prelude.{◌≡◌, ℕ, List, ◌∷◌, [], ◌++◌, Bool, true, false}
 use Rattle.mcap_model.specs.Tops.{Top, flat}
-use Rattle.mcap_model.specs.Fields.{IsHeader, ChunkFields, IsChunk}
+use Rattle.mcap_model.specs.Fields.{IsHeader}
 use Rattle.mcap_model.specs.Rules.{V3, V5, V6, V7, V8, V10, Breaks}
 use Rattle.mcap_model.specs.Kept.{NamesCompression}
 use Rattle.mcap_model.specs.declared.tables.Tables.{Tables}
@@ -9,8 +9,8 @@ use Rattle.mcap_model.specs.declared.tables.Ruling.{Ruling}
 use Rattle.mcap_model.specs.declared.tables.Ruling.TheVariants as rulings
 use Rattle.mcap_model.specs.declared.tops.Judged.{Judged}
 use Rattle.mcap_model.specs.declared.tops.Judged.TheVariants as judged
-use Rattle.mcap_model.specs.Declarations.{AgreesButMetadata, TablesOf}
-use Rattle.mcap_model.specs.Chunked.{HasSizeAndCrc}
+use Rattle.mcap_model.specs.Declarations.{TablesOf}
+use Rattle.mcap_model.specs.WantsOfMemory.{NamesNoCompression, MayWantMemory}
 
 -- a ruling is one on a record of the top level
 abbrev pub as_judged : Ruling → Judged
@@ -23,10 +23,6 @@ abbrev pub kept_or_breaks : Bool → ℕ → Judged
 kept_or_breaks true rule = judged.Fits
 kept_or_breaks false rule = judged.Breaks rule
 
--- the record names no compression
-abbrev pub NamesNoCompression : Top → Type 0
-NamesNoCompression t = (name : List ℕ) → NamesCompression t name → ⊥
-
 -- the record keeps the rules behind those before it
 pub record KeepsRules (tops : List Top) (t : Top) : Type 0 where
   pub v3 : V3 tops t
@@ -36,18 +32,6 @@ pub record KeepsRules (tops : List Top) (t : Top) : Type 0 where
   pub v8 : V8 t
   pub v10 : V10 t
   pub plain : NamesNoCompression t
-
--- The record breaks no rule as far as that is told without memory: it may stand there, has its layout, names no
--- compression, and its CRCs and a chunk's size are right. Left open are the records inside a chunk, and the metadata of a
--- Channel whose id isn't new.
-pub record MayWantMemory (tops : List Top) (t : Top) : Type 0 where
-  pub v3 : V3 tops t
-  pub v5 : V5 tops t
-  pub v6 : V6 t
-  pub v10 : V10 t
-  pub plain : NamesNoCompression t
-  pub chunk : (f : ChunkFields) → IsChunk t f → HasSizeAndCrc f
-  pub agrees : (t.op ≡ 6 → ⊥) → AgreesButMetadata (flat tops) t
 
 -- The record fits, and these are the tables of the records with it; or it breaks a rule; or it is a compressed chunk;
 -- or memory lacked.

@@ -1,5 +1,5 @@
 -- What a reading keeps of a file: its longest good list of records; and where it halts, and why.
-use Rattle.std.specs.Prelude.{◌≡◌, ◌↔◌, ℕ, ◌+◌, ◌≤◌, List, [], length, Bool, true, false, ◌||◌, nat_lt}
+use Rattle.std.specs.Prelude.{◌≡◌, ℕ, ◌+◌, ◌≤◌, List, [], length, Bool, true, false, ◌||◌, nat_lt}
 use Rattle.mcap_wire.specs.Layout.{content_limit}
 use Rattle.mcap_wire.specs.Limits.{file_limit}
 use Rattle.mcap_model.specs.Places.{EachBehind}
@@ -53,11 +53,6 @@ pub record Kept (limits : Limits) (bytes : List ℕ) (tops : List Top) : Type 0 
   pub good : Good limits tops
   pub longest : (others : List Top) → Begins bytes others → Good limits others → length others ≤ length tops
 
--- a reading so far: the file begins with these good records, and this follows them
-pub record Reads (limits : Limits) (bytes : List ℕ) (tops : List Top) (rest : List ℕ) : Type 0 where
-  pub stands : Tops bytes tops rest
-  pub good : Good limits tops
-
 -- ---- where a reading halts
 
 -- The reading came to the Data End, behind which this is the offset; at an offset a rule is broken, whose number comes
@@ -102,11 +97,3 @@ pub data HaltsAt (limits : Limits) (bytes : List ℕ) (tops : List Top) : Halt �
 pub record Halts (limits : Limits) (bytes : List ℕ) (tops : List Top) (halt : Halt) : Type 0 where
   pub kept : Kept limits bytes tops
   pub there : HaltsAt limits bytes tops halt
-
--- Two halts are the same but for the number of the rule, which is 4 in both or in none: so it is known whether the bytes
--- are cut short.
-abbrev pub SameHalt : Halt → Halt → Type 0
-SameHalt (grammar n rule) (grammar m other) = (n ≡ m) × ((rule ≡ 4) ↔ (other ≡ 4))
-SameHalt (grammar n rule) other = ⊥
-SameHalt halt (grammar m other) = ⊥
-SameHalt halt other = halt ≡ other

@@ -5,27 +5,33 @@ use Rattle.mcap_wire.specs.Layout.{content_limit}
 use Rattle.mcap_wire.specs.Limits.{chunk_size_limit, file_limit}
 use Rattle.rec_data.specs.Records.{header_text}
 use Rattle.rec_data.specs.declared.owned.Rec.{Rec}
-use Rattle.rec_data.specs.Owned.{rec_opcode, rec_text, ShowsRec}
+use Rattle.rec_data.specs.Owned.{rec_text}
 use Rattle.rec_index.specs.Records.{attachment_index_text, metadata_index_text}
 use Rattle.mcap_model.specs.declared.replay.Range.{Range}
 use Rattle.mcap_model.specs.declared.options.FileOptions.{FileOptions}
 use Rattle.mcap_model.specs.Places.{Has, Each, EachBehind}
 use Rattle.mcap_model.specs.Tops.{Top, Tops, top_bytes, offset_behind, spelled, begins_record, records_in, chunk_records, inner_tops, flat}
 use Rattle.mcap_model.specs.Fields.{SchemaFields, ChunkFields, IsChunk, IsMessageIndex, AttachmentFields, IsAttachment, IsMetadata}
-use Rattle.mcap_model.specs.Rules.{V1, HasDataEnd, V6, V8, V10, Agrees}
-use Rattle.mcap_model.specs.Kept.{Limits, Good, Kept, Halt, HaltsThere, Halts, SameHalt, reading_limits, at_end, grammar}
+use Rattle.mcap_model.specs.Rules.{V1, HasDataEnd, V6, V8, Agrees}
+use Rattle.mcap_model.specs.Kept.{Limits, Good, Kept, Halt, HaltsThere, Halts, reading_limits, at_end, grammar}
+use Rattle.mcap_model.specs.Readings.{SameHalt}
 use Rattle.mcap_model.specs.Scan.{Seen, Scan, InRange, Replay}
-use Rattle.mcap_model.specs.History.{schema_of, message_of, is_message, Numbered, history_bytes, rec_top, flat_history, without_repeats}
-use Rattle.mcap_model.specs.Blocks.{Piece, block, alone, chunk_content, entries_for, index_content, logged_channels, reaches, Ripens, AreBlocks, blocks_in, pieces_of, pieces_by}
-use Rattle.mcap_model.specs.Written.{IdsAgree}
-use Rattle.mcap_model.specs.Summary.{messages_on, attachment_index_content, indexed_attachment, metadata_index_content}
+use Rattle.mcap_model.specs.History.{schema_of, message_of, is_message, Numbered, history_bytes, rec_top, without_repeats}
+use Rattle.mcap_model.specs.Histories.{flat_history, Ripens, AreBlocks, pieces_by, IdsAgree}
+use Rattle.mcap_model.specs.Blocks.{Piece, block, alone, chunk_content, entries_for, index_content, logged_channels, reaches, blocks_in, pieces_of}
+use Rattle.mcap_model.specs.Summary.{messages_on, attachment_index_content, metadata_index_content}
+use Rattle.mcap_model.specs.AttachmentIndexes.{indexed_attachment}
 use Rattle.mcap_model.specs.declared.ends.Stop.{Stop}
 use Rattle.mcap_model.specs.File.{library, file_of, IsPrefix}
 use Rattle.mcap_model.specs.Pieces.{joined, file_pieces, StoppedAt}
 use Rattle.mcap_model.specs.Whole.{count_of, IsWhole}
-use Rattle.mcap_model.specs.Valid.{IsValid, IsFullyIndexed, Flaw}
+use Rattle.mcap_model.specs.Valid.{IsFullyIndexed, Flaw, Valid}
 use Rattle.mcap_model.specs.Repaired.{Repaired}
 use Rattle.mcap_model.specs.Led.{Led, LedReplay}
+use Rattle.mcap_model.specs.ReadBack.{IsReadBack, IsExtra}
+
+abbrev pub IsValid : List ℕ → Type 0
+IsValid file = (tops : List Top) × Valid file tops
 
 -- a record that is found where it stands: its opcode isn't 0, and its length can be declared
 pub record IsFound (t : Top) : Type 0 where
@@ -71,10 +77,6 @@ RecordsAreFound = (records : List Top) (rest : List ℕ) → Each IsFound record
 -- what a chunk shows as its records are those that its content holds
 abbrev pub ChunksAreOpened : Type 0
 ChunksAreOpened = (t : Top) (f : ChunkFields) → IsChunk t f → chunk_records t.content ≡ f.records
-
--- the record is read back as itself: its numbers and lengths fit, its texts are UTF-8 and its keys differ
-abbrev pub IsReadBack : Rec → Type 0
-IsReadBack r = ShowsRec (rec_opcode r) (rec_text r) r
 
 -- the record is that message
 abbrev pub HoldsSeen : Rec → Seen → Type 0
@@ -133,12 +135,6 @@ GoodListsAreScanned = (limits : Limits) (tops : List Top) → Good limits tops
     → (messages : List Seen) × Scan tops messages × ((others : List Seen) → Scan tops others → others ≡ messages)
 
 -- ---- what a file is written of
-
--- an Attachment or a Metadata that meets its layout, and V10
-pub record IsExtra (t : Top) : Type 0 where
-  pub kind : (t.op ≡ 9) ⊎ (t.op ≡ 12)
-  pub v6 : V6 t
-  pub v10 : V10 t
 
 -- each channel has so few messages in a block that the entries of its Message Index fit behind a length of four bytes
 abbrev pub EntriesFit : List Rec → Type 0
@@ -251,3 +247,8 @@ IndexesLeadToTheScan = (file : List ℕ) (tops : List Top) (end : ℕ) (messages
 abbrev pub LedReplaysAreScans : Type 0
 LedReplaysAreScans = (file : List ℕ) (tops : List Top) (end : ℕ) (messages : List Seen) (range : Range) → IsFullyIndexed file → Halts reading_limits file tops (at_end end) → Scan tops messages
     → (topic : Option (List ℕ)) (shown : List Seen) → LedReplay file range topic shown ↔ Replay range topic messages shown
+
+-- ---- a rule that holds of any row of whole records
+
+abbrev pub V4 : List ℕ → Type 0
+V4 file = (tops : List Top) × IsWhole file tops

@@ -1,5 +1,5 @@
 -- What the plain scan and the plain replay come to, and their steps.
-use Rattle.std.specs.Prelude.{◌≡◌, ◌⊎◌, ℕ, ◌+◌, ◌<◌, ◌≤◌, List, [], ◌∷◌, ◌++◌, length, drop, filter, Bool, true, ◌&&◌, ◌==◌, nat_le, nat_lt, nat_eq, Option, Some, None, Result, Ok, Err, AllPairs, slice_index_or}
+use Rattle.std.specs.Prelude.{◌≡◌, ◌⊎◌, ℕ, ◌+◌, ◌<◌, ◌≤◌, List, [], ◌∷◌, ◌++◌, length, drop, filter, Bool, true, ◌&&◌, ◌==◌, nat_eq, Option, Some, None, Result, Ok, Err, AllPairs, slice_index_or}
 use Rattle.std.specs.List.{list_any, AllZip}
 use Rattle.std.specs.Cmp.Lexicographic.{pointwise}
 use Rattle.mcap_wire.specs.declared.faults.Cut.{Cut}
@@ -20,7 +20,7 @@ use Rattle.mcap_model.specs.Tops.{Top, Tops, Placed, placed_inside, placed_one, 
 use Rattle.mcap_model.specs.Fields.{IsMessage, ChannelFields, IsChannel}
 use Rattle.mcap_model.specs.Rules.{V6, V8, HasDataEnd}
 use Rattle.mcap_model.specs.Kept.{reading_limits, Fits, Good, at_end, grammar, compressed, beyond, NamesCompression, Halts}
-use Rattle.mcap_model.specs.Scan.{Seen, Scan, is_message_top}
+use Rattle.mcap_model.specs.Scan.{Seen, Scan, is_message_top, is_within}
 use Rattle.mcap_model.specs.Declarations.{TablesOf}
 use Rattle.mcap_model.specs.Made.{top}
 use Rattle.mcap_model.specs.Showing.{Shows}
@@ -149,14 +149,6 @@ AreNamed channels shown topics = DeclareChannels channels → AreDeclared channe
 -- one of the messages is on that channel
 abbrev pub is_used : List Shown → ℕ → Bool
 is_used shown channel = list_any (λ s. s.channel == channel) shown
-
-abbrev pub is_before_end : Option ℕ → ℕ → Bool
-is_before_end None time = true
-is_before_end (Some end) time = nat_lt time end
-
--- whether the range has the time
-abbrev pub is_within : Range → ℕ → Bool
-is_within range time = nat_le range.start time && is_before_end range.end time
 
 abbrev pub asked_topic : Option (Bor (List ℕ)) → Option (List ℕ)
 asked_topic None = None

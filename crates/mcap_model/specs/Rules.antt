@@ -1,14 +1,14 @@
 -- The rules of the format that a reading of the records up to the Data End uses. Each says of one record, behind those
 -- before it, that it keeps the rule. So a rule holds of a file where it holds of each record, and fails at the offset of
 -- one that breaks it. What is wrong with a record inside a chunk is said of the chunk.
-use Rattle.std.specs.Prelude.{◌≡◌, ◌⊎◌, ℕ, ◌≤◌, List, [], ◌∷◌, ◌++◌, length, take, ◌||◌, ◌==◌, Bool, true, nat_le}
+use Rattle.std.specs.Prelude.{◌≡◌, ◌⊎◌, length, ℕ, ◌≤◌, List, [], ◌∷◌, ◌++◌, take, ◌||◌, ◌==◌, Bool, true, nat_le}
+use Rattle.mcap_crc.specs.Remainder.{remainder}
+use Rattle.mcap_model.specs.Fields.{ChunkFields, IsHeader, IsDataEnd, SchemaFields, IsSchema, ChannelFields, SameChannel, IsChannel, MessageFields, IsMessage, IsChunk, IsMessageIndex, ChunkIndexFields, IsChunkIndex, AttachmentFields, IsAttachment, IsMetadata, AttachmentIndexFields, IsAttachmentIndex, IsMetadataIndex, StatisticsFields, IsStatistics, IsSummaryOffset, IsFooter}
 use Rattle.std.specs.List.{list_any}
 use Rattle.mcap_wire.specs.Layout.{magic}
-use Rattle.mcap_crc.specs.Remainder.{remainder}
 use Rattle.rec_data.specs.Records.{CrcStandsAt}
 use Rattle.mcap_model.specs.Places.{At, Each}
 use Rattle.mcap_model.specs.Tops.{Top, spelled, records_in, flattened, flat}
-use Rattle.mcap_model.specs.Fields.{IsHeader, IsDataEnd, SchemaFields, IsSchema, ChannelFields, SameChannel, IsChannel, MessageFields, IsMessage, ChunkFields, IsChunk, IsMessageIndex, ChunkIndexFields, IsChunkIndex, AttachmentFields, IsAttachment, IsMetadata, AttachmentIndexFields, IsAttachmentIndex, IsMetadataIndex, StatisticsFields, IsStatistics, IsSummaryOffset, IsFooter}
 
 -- ---- V1: the file begins with the magic
 
@@ -132,3 +132,10 @@ pub data Breaks (before : List Top) (t : Top) : ℕ → Type 0 where
   breaks_7 : (V7 before t → ⊥) → Breaks before t 7
   breaks_8 : (V8 t → ⊥) → Breaks before t 8
   breaks_10 : (V10 t → ⊥) → Breaks before t 10
+
+-- ---- the size and the CRC of a chunk
+
+-- the size and the CRC that it names are those of its records
+pub record HasSizeAndCrc (f : ChunkFields) : Type 0 where
+  pub size : f.size ≡ length f.records
+  pub crc : (f.crc ≡ 0) ⊎ (f.crc ≡ remainder f.records)

@@ -1,14 +1,13 @@
 -- The summary of a file: its text, from what was noted of the records, the blocks and the extras.
 use Rattle.std.specs.Prelude.{ℕ, ◌+◌, List, [], ◌∷◌, ◌++◌, length, map, filter, take, min, Bool, true, false, ◌==◌, ◌^◌, ◌-◌}
 use Rattle.std.specs.List.{flat_map}
-use Rattle.mcap_wire.specs.Layout.{number, framed, magic, part}
-use Rattle.mcap_wire.specs.Reading.{text_length, text_bytes, bytes_length}
+use Rattle.mcap_wire.specs.Layout.{number, framed, magic, part, text_length, text_bytes, bytes_length}
 use Rattle.mcap_crc.specs.Remainder.{remainder}
 use Rattle.rec_data.specs.declared.owned.Rec.{Rec}
 use Rattle.rec_data.specs.Owned.{rec_text}
-use Rattle.rec_data.specs.Fields.{FooterFields, AttachmentFields}
+use Rattle.rec_data.specs.Fields.{FooterFields}
 use Rattle.rec_data.specs.Records.{footer_text}
-use Rattle.rec_index.specs.Fields.{ChunkIndexFields, AttachmentIndexFields, StatisticsFields, SummaryOffsetFields}
+use Rattle.rec_index.specs.Fields.{ChunkIndexFields, StatisticsFields, SummaryOffsetFields}
 use Rattle.rec_index.specs.Records.{chunk_index_text, attachment_index_text, statistics_text, metadata_index_text, summary_offset_text}
 use Rattle.mcap_model.specs.Tops.{Top, top_bytes}
 use Rattle.mcap_model.specs.History.{is_schema, is_channel, history_bytes, without_repeats}
@@ -92,18 +91,6 @@ attachment_index_content extra =
       name = text_bytes content 16;
       media_type = text_bytes content media;
     })
-
--- the fields of the Attachment Index of an Attachment that stands at that offset
-abbrev pub indexed_attachment : ℕ → Top → AttachmentFields → AttachmentIndexFields
-indexed_attachment offset t f = record {
-  offset = offset;
-  size = length (top_bytes t);
-  log_time = f.log_time;
-  create_time = f.create_time;
-  payload_size = length f.payload;
-  name = f.name;
-  media_type = f.media_type;
-}
 
 abbrev pub metadata_index_content : ℕ × Top → List ℕ
 metadata_index_content extra =

@@ -1,8 +1,7 @@
 -- The records of a file, and those inside its chunks.
 use Rattle.std.specs.Prelude.{◌≡◌, ◌⊎◌, ℕ, zero, suc, ◌+◌, List, [], ◌∷◌, ◌++◌, length, take, drop, filter, slice_index, Bool, not, ◌&&◌, ◌==◌, nat_le, if◌then◌else◌}
 use Rattle.std.specs.List.{flat_map, list_any}
-use Rattle.mcap_wire.specs.Layout.{number, framed, magic}
-use Rattle.mcap_wire.specs.Reading.{text_length, bytes_length}
+use Rattle.mcap_wire.specs.Layout.{number, framed, magic, text_length, bytes_length}
 use Rattle.mcap_model.specs.declared.replay.Place.{Place}
 
 -- a record: its opcode and its content
@@ -128,18 +127,3 @@ placed_from at (t ∷ ts) = placed_one at t ++ placed_from (at + length (top_byt
 -- those of a file
 abbrev pub placed : List Top → List Placed
 placed tops = placed_from 8 tops
-
--- ---- all records, where they stand
-
--- the record at that offset, and behind a chunk those inside it
-abbrev pub walked_one : ℕ → Top → List Placed
-walked_one at t = record { place = record { top = at; inner = 0 }; top = t } ∷ (if is_chunk t then placed_inside at 0 (inner_tops t) else [])
-
--- those of records, the first of which stands at that offset
-abbrev pub walked_from : ℕ → List Top → List Placed
-walked_from at [] = []
-walked_from at (t ∷ ts) = walked_one at t ++ walked_from (at + length (top_bytes t)) ts
-
--- those of a file; of them the Schemas, Channels and Messages are the ones that are placed
-abbrev pub walked : List Top → List Placed
-walked tops = walked_from 8 tops

@@ -42,9 +42,6 @@ pub record IsWhole (file : List ℕ) (tops : List Top) : Type 0 where
   pub split : file ≡ magic ++ (spelled tops ++ magic)
   pub short : AreShort tops
 
-abbrev pub V4 : List ℕ → Type 0
-V4 file = (tops : List Top) × IsWhole file tops
-
 -- ---- V5 behind the Data End: between it and the last record stand only Schemas, Channels, indexes of chunks, of
 -- attachments and of metadata, Statistics, Summary Offsets and unknown records; and there is a Data End
 

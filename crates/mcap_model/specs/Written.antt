@@ -3,11 +3,11 @@ use Rattle.std.specs.Prelude.{◌≡◌, ◌⊎◌, ℕ, List, length, filter, s
 use Rattle.std.specs.List.{AllZip}
 use Rattle.rec_data.specs.declared.owned.Rec.{Rec}
 use Rattle.rec_data.specs.Owned.{ShowsRec}
-use Rattle.mcap_model.specs.Places.{At, EachBehind}
+use Rattle.mcap_model.specs.Places.{At}
 use Rattle.mcap_model.specs.Tops.{Top, is_chunk, inner_tops, flat}
 use Rattle.mcap_model.specs.Fields.{SchemaFields, IsSchema, ChannelFields, IsChannel}
-use Rattle.mcap_model.specs.Rules.{is_unknown, Agrees}
-use Rattle.mcap_model.specs.History.{schema_of, flat_history}
+use Rattle.mcap_model.specs.Rules.{is_unknown}
+use Rattle.mcap_model.specs.History.{schema_of}
 
 abbrev pub IsRec : Top → Rec → Type 0
 IsRec t r = ShowsRec t.op t.content r
@@ -15,10 +15,6 @@ IsRec t r = ShowsRec t.op t.content r
 -- the Schemas, Channels and Messages of a file's records, those inside chunks too, in their order
 abbrev pub AreFlatRecords : List Top → List Rec → Type 0
 AreFlatRecords tops flattened = AllZip IsRec (flat tops) flattened
-
--- the ids of a history's records agree as those of a file's do
-abbrev pub IdsAgree : List Rec → Type 0
-IdsAgree history = EachBehind Agrees (flat_history history)
 
 -- an Attachment, a Metadata or an unknown record, which a recording passes over
 abbrev pub is_passed_over : Top → Bool

@@ -1,8 +1,8 @@
 //! The messages of a range and a topic, in the order of their times.
 ghost use Rattle.std.specs.Prelude.{◌≡◌, ◌↔◌, ◌&&◌, ◌==◌, nat_eq, Some, List, IfOk, filter, IsPermutation, IsTrue};
 ghost use Rattle.std.specs.Cmp.Lexicographic.{pointwise};
-ghost use Rattle.mcap_model.specs.Scan.{Seen, Replay};
-ghost use Rattle.mcap_model.specs.Plain.{is_within as within, is_named, is_chosen, asked_topic, NotBehind, InOrder, PlacesDiffer};
+ghost use Rattle.mcap_model.specs.Scan.{Seen, Replay, is_within as within};
+ghost use Rattle.mcap_model.specs.Plain.{is_named, is_chosen, asked_topic, NotBehind, InOrder, PlacesDiffer};
 ghost use Rattle.mcap_model.specs.Showing.{Shows};
 
 use crate::replay::{Range, Replayed, Shown, Topic};

@@ -4,7 +4,7 @@ ghost use Rattle.mcap_model.specs.Fields.{SchemaFields, IsSchema, ChannelFields,
 ghost use Rattle.mcap_wire.specs.Maps.{KeysAscend};
 ghost use Rattle.rec_data.specs.Parsed.{schema_fields, channel_fields};
 ghost use Rattle.mcap_model.specs.Made.{top};
-ghost use Rattle.mcap_model.specs.Declarations.{SameButMetadata};
+ghost use Rattle.mcap_model.specs.WantsOfMemory.{SameButMetadata};
 
 use mcap_wire::{Memory, Pairs, PairsRef, Text};
 use rec_data::{Channel, Schema};

@@ -4,7 +4,7 @@ use Rattle.std.specs.Prelude.{filter, fold, if◌then◌else◌}
 use Rattle.std.specs.List.{AllZip, list_any}
 use Rattle.std.proofs.lemmas.List.{length-append}
 use Rattle.std.proofs.lemmas.Grind.{flat_map-append}
-use Rattle.mcap_wire.specs.Layout.{magic}
+use Rattle.mcap_wire.specs.Layout.{magic, text_length, bytes_length}
 use Rattle.mcap_wire.proofs.Contents.{shows_decided}
 use Rattle.rec_data.specs.declared.owned.Rec.{Rec}
 use Rattle.rec_data.specs.Records.{header_kinds}
@@ -14,7 +14,6 @@ use Rattle.mcap_model.specs.declared.options.FileOptions.{FileOptions}
 use Rattle.mcap_model.specs.declared.ends.Stop.{Stop}
 use Rattle.mcap_model.specs.declared.ends.Stop.TheVariants as stops
 use Rattle.mcap_model.specs.Tops.{Top, Tops, Begins, top_bytes, spelled, offset_behind, flat, flattened, is_flat_kind, is_chunk, inner_tops, chunk_records, records_in, first_records, begins_record, behind_first, first_top}
-use Rattle.mcap_wire.specs.Reading.{text_length, bytes_length}
 use Rattle.mcap_wire.proofs.Framing.{length-framed}
 use Rattle.mcap_recover.proofs.Reading.{good_within}
 use Rattle.mcap_recover.specs.declared.answers.Recovered.{Recovered}
@@ -33,7 +32,7 @@ use Rattle.mcap_scan.specs.declared.reader.Reader.{Reader}
 use Rattle.mcap_scan.specs.declared.reader.Stage.TheVariants as stages
 use Rattle.mcap_model.specs.declared.refusals.ReadingRefused.{ReadingRefused}
 use Rattle.mcap_model.specs.declared.refusals.ReadingRefused.TheVariants as scans
-use Rattle.mcap_scan.specs.Scanning.{HaltsSo, FaultStands, MemoryStands, RefusalStands}
+use Rattle.mcap_scan.specs.RefusedReadings.{HaltsSo, FaultStands, MemoryStands, RefusalStands}
 use Rattle.record_walk.specs.declared.flat_reader.FlatReader.{FlatReader}
 use Rattle.chunk_writer.specs.declared.tape.Written.{Written}
 use Rattle.chunk_writer.specs.Stops.{numbers, StopsAt, StopCause}
@@ -49,8 +48,9 @@ use Rattle.mcap_recover.specs.declared.answers.Why.TheVariants as whys
 use Rattle.mcap_recover.specs.declared.answers.RecoverRefused.{RecoverRefused}
 use Rattle.mcap_recover.specs.declared.answers.RecoverRefused.TheVariants as refusals
 use Rattle.mcap_recover.specs.Keeping.{KeepingStandsFor, counted}
-use Rattle.mcap_recover.specs.Readings.{HasMagic, lacks, GrammarTold, RefusalTold, HaltTold, OverSo, KeepsNone, Repairing, KeptOf, origin, ReadingCameToEnd, IsStopped, BeginsFile, BeginsReading}
-use Rattle.mcap_recover.specs.Recovering.{recovered_options, TellsHalt, OfRead, OfBoth, OfRepaired, StandsPart, LacksMagic, FaultsStill, FinishesFile, Recovers}
+use Rattle.mcap_recover.specs.Readings.{GrammarTold, RefusalTold, HaltTold, OverSo, KeepsNone, Repairing, KeptOf, origin, ReadingCameToEnd, IsStopped, BeginsFile, BeginsReading}
+use Rattle.mcap_recover.specs.Recovering.{HasMagic, lacks, recovered_options, TellsHalt, OfRead, OfBoth, OfRepaired, StandsPart, LacksMagic, FaultsStill, Recovers}
+use Rattle.mcap_recover.specs.RecoverySteps.{FinishesFile}
 
 -- ---- the first ones of some records
 

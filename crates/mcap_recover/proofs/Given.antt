@@ -8,7 +8,8 @@ use Rattle.std.proofs.lemmas.List.Elements.{filter-append}
 use Rattle.rec_data.specs.declared.owned.Rec.{Rec}
 use Rattle.mcap_model.specs.Places.{At, Each}
 use Rattle.mcap_model.proofs.Places.{at_none}
-use Rattle.mcap_model.specs.Tops.{Top, Placed, top_bytes, flat, records_in, inner_tops, is_chunk, is_flat_kind, placed_inside, walked_one, walked_from, walked}
+use Rattle.mcap_model.specs.Tops.{Top, Placed, top_bytes, flat, records_in, inner_tops, is_chunk, is_flat_kind, placed_inside}
+use Rattle.mcap_model.specs.WalkedRecords.{walked_one, walked_from, walked}
 use Rattle.mcap_model.specs.Fields.{IsHeader}
 use Rattle.mcap_model.specs.Rules.{V6, V8, stands_in_chunk}
 use Rattle.mcap_model.specs.Kept.{NamesCompression, Good, reading_limits}

@@ -20,7 +20,7 @@ use Rattle.mcap_model.specs.Fields.{SchemaFields, ChannelFields, MessageFields, 
 use Rattle.mcap_model.specs.Rules.{V6, V10}
 use Rattle.mcap_model.specs.declared.ends.Stop.{Stop}
 use Rattle.mcap_model.specs.History.{schema_of, channel_of, message_of, declare_same}
-use Rattle.mcap_model.specs.Laws.{IsExtra}
+use Rattle.mcap_model.specs.ReadBack.{IsExtra}
 use Rattle.mcap_model.specs.Made.{top}
 use Rattle.mcap_model.specs.Walk.{inner_top, StepsOver}
 use Rattle.mcap_model.specs.Repaired.{is_extra}

@@ -17,7 +17,8 @@ use Rattle.mcap_model.specs.declared.ends.Stop.{Stop}
 use Rattle.mcap_model.specs.Places.{At, Each}
 use Rattle.mcap_model.proofs.Places.{each_at}
 use Rattle.mcap_model.proofs.Lists.{at_second}
-use Rattle.mcap_model.specs.Tops.{Top, Placed, Tops, Begins, top_bytes, spelled, offset_behind, flat, is_flat_kind, is_chunk, inner_tops, placed_inside, walked}
+use Rattle.mcap_model.specs.Tops.{Top, Placed, Tops, Begins, top_bytes, spelled, offset_behind, flat, is_flat_kind, is_chunk, inner_tops, placed_inside}
+use Rattle.mcap_model.specs.WalkedRecords.{walked}
 use Rattle.mcap_model.specs.declared.replay.Place.{Place}
 use Rattle.mcap_model.specs.Fields.{SchemaFields, ChannelFields, MessageFields, IsHeader}
 use Rattle.mcap_model.specs.Rules.{V1, V6, V10, HasDataEnd}
@@ -32,14 +33,16 @@ use Rattle.mcap_scan.specs.declared.reader.Stage.TheVariants as stages
 use Rattle.mcap_scan.specs.declared.reader.Stage.{Stage}
 use Rattle.mcap_model.specs.declared.refusals.ReadingRefused.{ReadingRefused}
 use Rattle.mcap_model.specs.declared.refusals.ReadingRefused.TheVariants as scans
-use Rattle.mcap_scan.specs.Scanning.{Stands, StageStands, IsOver, IsGoing, RefusalStands, Refuses}
+use Rattle.mcap_scan.specs.Scanning.{Stands, StageStands, IsOver, IsGoing, Refuses}
+use Rattle.mcap_scan.specs.RefusedReadings.{RefusalStands}
 use Rattle.mcap_scan.proofs.Scanning.{good_stand, lacks_behind}
 use Rattle.chunk_writer.specs.Scribes.{phase_of}
 use Rattle.chunk_writer.specs.declared.phase.Phase.TheVariants as phases
 use Rattle.mcap_recover.specs.declared.keeping.Keeping.{Keeping}
 use Rattle.mcap_recover.specs.Keeping.{KeepingStandsFor, AddsOneRecord, IsFrame, tops_at}
 use Rattle.mcap_recover.specs.declared.recovering.Over.TheVariants as overs
-use Rattle.mcap_recover.specs.Readings.{lacks, FirstShows, RepairsGiven, Repairing, KeptOf, origin, ReadingCameToEnd as ReadingIsOver, IsStopped, OverSo, BeginsFile, UnbegunSo, BeginsReading, StartsSo, StartsUntold, HaltsStart, KeepsNone, HasMagic}
+use Rattle.mcap_recover.specs.Readings.{FirstShows, RepairsGiven, Repairing, KeptOf, origin, ReadingCameToEnd as ReadingIsOver, IsStopped, OverSo, BeginsFile, UnbegunSo, BeginsReading, StartsSo, StartsUntold, HaltsStart, KeepsNone}
+use Rattle.mcap_recover.specs.Recovering.{lacks, HasMagic}
 use Rattle.mcap_recover.proofs.Given.{flat_given, extras_walked, repairs_whole, profile_given, given_none, tops_some, recs_ahead, recs_one, repairs_more, not_none}
 use Rattle.mcap_recover.proofs.Keepings.{stopped_more}
 use Rattle.record_walk.specs.declared.flat_reader.FlatReader.{FlatReader}

@@ -6,8 +6,8 @@ use Rattle.rec_data.specs.declared.owned.Rec.{Rec}
 use Rattle.mcap_io.specs.Outside.{SourceState, LiveState}
 use Rattle.mcap_model.specs.declared.options.FileOptions.{FileOptions}
 use Rattle.mcap_model.specs.declared.ends.Stop.{Stop}
-use Rattle.mcap_model.specs.Tops.{Top, Placed, Tops, Begins, is_flat_kind, walked}
-use Rattle.mcap_model.specs.Rules.{V1}
+use Rattle.mcap_model.specs.Tops.{Top, Placed, Tops, Begins, is_flat_kind}
+use Rattle.mcap_model.specs.WalkedRecords.{walked}
 use Rattle.mcap_model.specs.Kept.{Good, Kept, reading_limits, at_end, grammar}
 use Rattle.mcap_model.specs.History.{without_repeats}
 use Rattle.mcap_model.specs.Written.{IsRec}
@@ -16,7 +16,8 @@ use Rattle.mcap_model.specs.declared.refusals.ReadingRefused.{ReadingRefused}
 use Rattle.mcap_model.specs.declared.refusals.ReadingRefused.TheVariants as scans
 use Rattle.mcap_scan.specs.declared.reader.Reader.{Reader}
 use Rattle.mcap_scan.specs.declared.reader.Stage.TheVariants as stages
-use Rattle.mcap_scan.specs.Scanning.{HaltsSo, RefusalStands, FaultStands, IsGoing}
+use Rattle.mcap_scan.specs.RefusedReadings.{HaltsSo, RefusalStands, FaultStands}
+use Rattle.mcap_scan.specs.Scanning.{IsGoing}
 use Rattle.record_walk.specs.declared.flat_reader.FlatReader.{FlatReader}
 use Rattle.record_walk.specs.Walking.{FlatStands, IsFlatDone}
 use Rattle.chunk_writer.specs.declared.phase.Phase.TheVariants as phases
@@ -29,10 +30,7 @@ use Rattle.mcap_recover.specs.declared.answers.Why.TheVariants as whys
 use Rattle.mcap_recover.specs.declared.answers.RecoverRefused.{RecoverRefused}
 use Rattle.mcap_recover.specs.declared.answers.RecoverRefused.TheVariants as refusals
 use Rattle.mcap_recover.specs.Keeping.{KeepingStandsFor, tops_at}
-
--- the answer where memory lacked beside the writer's own
-abbrev pub lacks : RecoverRefused
-lacks = refusals.Refused scans.Memory
+use Rattle.mcap_recover.specs.Recovering.{lacks, HasMagic}
 
 -- ---- how a reading ended
 
@@ -61,10 +59,6 @@ OverSo reader before now tops overs.Refused = (why : ReadingRefused) × (reader.
 -- nothing is kept of the source's bytes
 abbrev pub KeepsNone : SourceState → Type 0
 KeepsNone before = (bytes : List ℕ) → before.left ≡ Some bytes → Kept reading_limits bytes []
-
--- they begin with the magic
-abbrev pub HasMagic : SourceState → Type 0
-HasMagic before = (bytes : List ℕ) → before.left ≡ Some bytes → V1 bytes
 
 -- What repairing makes of records that were given in their places, those inside chunks too: the same as of the records at top
 -- level, where all were given.

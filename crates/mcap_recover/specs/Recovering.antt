@@ -1,30 +1,35 @@
 -- What a recovery leaves, and what it answers.
-use Rattle.std.specs.Prelude.{◌≡◌, ◌⊎◌, ℕ, ◌+◌, List, [], ◌++◌, length, filter, Option, Some, None, Result, Ok, Err}
-use Rattle.rec_data.specs.declared.owned.Rec.{Rec}
+use Rattle.std.specs.Prelude.{◌≡◌, ℕ, List, Some, ◌⊎◌, ◌+◌, [], ◌++◌, length, filter, Option, None, Result, Ok, Err}
 use Rattle.mcap_io.specs.Outside.{SourceState, LiveState, RisesOnce, Adds}
+use Rattle.mcap_model.specs.Rules.{V1}
+use Rattle.mcap_model.specs.declared.refusals.ReadingRefused.TheVariants as scans
+use Rattle.mcap_recover.specs.declared.answers.RecoverRefused.{RecoverRefused}
+use Rattle.mcap_recover.specs.declared.answers.RecoverRefused.TheVariants as refusals
+use Rattle.rec_data.specs.declared.owned.Rec.{Rec}
 use Rattle.mcap_model.specs.declared.options.FileOptions.{FileOptions}
 use Rattle.mcap_model.specs.declared.ends.Stop.{Stop}
 use Rattle.mcap_model.specs.declared.refusals.ReadingRefused.{ReadingRefused}
-use Rattle.mcap_model.specs.declared.refusals.ReadingRefused.TheVariants as scans
 use Rattle.mcap_model.specs.Tops.{Top, Begins}
-use Rattle.mcap_model.specs.Rules.{V1}
 use Rattle.mcap_model.specs.Kept.{Good, reading_limits, Halt, at_end, grammar, compressed, beyond}
 use Rattle.mcap_model.specs.History.{is_message}
 use Rattle.mcap_model.specs.Blocks.{pieces_of, blocks_in}
 use Rattle.mcap_model.specs.File.{file_of, IsPrefix}
 use Rattle.mcap_model.specs.Repaired.{Repairs, Repaired}
-use Rattle.mcap_scan.specs.Scanning.{HaltsSo}
+use Rattle.mcap_scan.specs.RefusedReadings.{HaltsSo}
 use Rattle.chunk_writer.specs.Limits.{Holds}
 use Rattle.chunk_writer.specs.declared.tape.Written.{Written}
 use Rattle.chunk_writer.specs.Stops.{StopsAt, StopCause}
-use Rattle.mcap_recover.specs.Keeping.{counted, KeepingStandsFor}
-use Rattle.mcap_recover.specs.Readings.{HasMagic}
-use Rattle.mcap_recover.specs.declared.keeping.Keeping.{Keeping}
 use Rattle.mcap_recover.specs.declared.answers.Why.{Why}
 use Rattle.mcap_recover.specs.declared.answers.Why.TheVariants as whys
 use Rattle.mcap_recover.specs.declared.answers.Recovered.{Recovered}
-use Rattle.mcap_recover.specs.declared.answers.RecoverRefused.{RecoverRefused}
-use Rattle.mcap_recover.specs.declared.answers.RecoverRefused.TheVariants as refusals
+
+-- the answer where memory lacked beside the writer's own
+abbrev pub lacks : RecoverRefused
+lacks = refusals.Refused scans.Memory
+
+-- the source's bytes begin with the magic
+abbrev pub HasMagic : SourceState → Type 0
+HasMagic before = (bytes : List ℕ) → before.left ≡ Some bytes → V1 bytes
 
 -- how a recovered file is written: in chunks of that size
 abbrev pub recovered_options : List ℕ → ℕ → FileOptions
@@ -59,31 +64,6 @@ pub record IsRecovered (chunk : ℕ) (before now : SourceState) (opened stored :
   pub extras_are : r.extras ≡ length extras
   pub still : stored.faults ≡ opened.faults
   pub through : stored.waiting ≡ 0
-
--- the numbers that are answered
-abbrev pub AnswersSo : List Top → List Rec → ℕ → Why → Recovered → Type 0
-AnswersSo extras history at why r = (r.at ≡ at) × (r.why ≡ why) × (r.messages ≡ counted (length (filter is_message history))) × (r.records ≡ counted (length history)) × (r.extras ≡ counted (length extras))
-
--- what the new file is made of
-pub record Repair : Type 0 where
-  pub options : FileOptions
-  pub extras : List Top
-  pub history : List Rec
-
-abbrev pub repair : FileOptions → List Top → List Rec → Repair
-repair options extras history = record { options = options; extras = extras; history = history }
-
-abbrev pub Finished : LiveState → Repair → LiveState → LiveState → ℕ → Why → Result Recovered RecoverRefused → Type 0
-Finished last new opened stored at why (Ok r) = Adds opened.held stored.held (file_of new.options new.extras new.history) × AnswersSo new.extras new.history at why r
-    × Holds (length (blocks_in (pieces_of new.options.chunk new.history))) (length (file_of new.options new.extras new.history)) × (stored.faults ≡ last.faults) × (stored.waiting ≡ 0)
-Finished last new opened stored at why (Err refusals.NoMagic) = ⊥
-Finished last new opened stored at why (Err (refusals.Refused told)) = ⊥
-Finished last new opened stored at why (Err (refusals.Stopped stop)) = (written : Written) × StopsAt new.options new.extras new.history opened.held stored.held stop written × StopCause last.faults stored.faults stop
-
--- The new file was ended behind extras and a history for which the writer stands, and this is answered; or the writer stopped.
-abbrev pub FinishesFile : {L : Type 0} → (L → LiveState) → Keeping L → LiveState → ℕ → Why → Result Recovered RecoverRefused → Type 0
-FinishesFile seen k stored at why result = (options : FileOptions) (extras : List Top) (opened : LiveState) (history : List Rec) → KeepingStandsFor seen options extras opened history k
-    → Finished (seen k.scribe.store) (repair options extras history) opened stored at why result
 
 -- of each file that repairing makes of the source's bytes: this holds of its options, extras and history
 abbrev pub OfRepaired : ℕ → SourceState → (FileOptions → List Top → List Rec → Type 0) → Type 0

@@ -6,7 +6,7 @@ ghost use Rattle.mcap_io.specs.Outside.{LiveState};
 ghost use Rattle.mcap_model.specs.Tops.{Top};
 ghost use Rattle.mcap_model.specs.Made.{top};
 ghost use Rattle.mcap_model.specs.History.{is_message};
-ghost use Rattle.mcap_model.specs.Laws.{IsExtra};
+ghost use Rattle.mcap_model.specs.ReadBack.{IsExtra};
 ghost use Rattle.mcap_model.specs.Rules.{V6, V10};
 ghost use Rattle.chunk_build.specs.Chunker.{AreFramed};
 ghost use Rattle.chunk_writer.specs.declared.phase.Phase.TheVariants as phases;

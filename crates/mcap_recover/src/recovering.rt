@@ -8,10 +8,10 @@ ghost use Rattle.record_walk.specs.Walking.{FlatAdvanced};
 ghost use Rattle.chunk_writer.specs.declared.phase.Phase.TheVariants as phases;
 ghost use Rattle.chunk_writer.specs.Stops.{Cause};
 ghost use Rattle.chunk_writer.specs.Scribes.{store_of, phase_of};
-ghost use Rattle.mcap_recover.specs.Recovering.{Recovers};
-ghost use Rattle.mcap_recover.specs.Readings.{lacks, BeginsReading, StartsSo, GrammarTold, HaltTold, Repairing, origin, ReadsOn};
+ghost use Rattle.mcap_recover.specs.Recovering.{Recovers, lacks};
+ghost use Rattle.mcap_recover.specs.Readings.{BeginsReading, StartsSo, GrammarTold, HaltTold, Repairing, origin, ReadsOn};
 ghost use Rattle.mcap_recover.specs.Keeping.{CountsSo};
-ghost use Rattle.mcap_recover.specs.Recovering.{FinishesFile};
+ghost use Rattle.mcap_recover.specs.RecoverySteps.{FinishesFile};
 ghost use Rattle.mcap_model.specs.declared.options.FileOptions.{FileOptions as Options};
 
 use crate::answers::{RecoverRefused, Recovered, Why};

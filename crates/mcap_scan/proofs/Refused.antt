@@ -6,7 +6,8 @@ use Rattle.mcap_model.proofs.Places.{at_none}
 use Rattle.mcap_model.specs.declared.refusals.ReadingRefused.{ReadingRefused}
 use Rattle.mcap_scan.specs.declared.reader.Reader.{Reader}
 use Rattle.mcap_scan.specs.declared.reader.Stage.TheVariants as stages
-use Rattle.mcap_scan.specs.Scanning.{RefusalStands, Refuses, MemoryStands}
+use Rattle.mcap_scan.specs.Scanning.{Refuses}
+use Rattle.mcap_scan.specs.RefusedReadings.{RefusalStands, MemoryStands}
 
 -- nothing was read, for want of memory
 pub nothing_read : (before : SourceState) → MemoryStands before before []

@@ -22,7 +22,8 @@ use Rattle.mcap_model.specs.declared.tops.Judged.{Judged}
 use Rattle.mcap_model.specs.declared.tops.Judged.TheVariants as judged
 use Rattle.mcap_model.specs.Made.{top}
 use Rattle.mcap_model.specs.Declarations.{TablesOf}
-use Rattle.mcap_model.specs.Judging.{NamesNoCompression, KeepsRules, MayWantMemory, JudgedAs}
+use Rattle.mcap_model.specs.Judging.{KeepsRules, JudgedAs}
+use Rattle.mcap_model.specs.WantsOfMemory.{NamesNoCompression, MayWantMemory}
 use Rattle.mcap_model.proofs.Judging.{fits_may_want}
 use Rattle.mcap_model.proofs.TakenRecords.{ended_more, spelled_more, halted, unended_more}
 use Rattle.mcap_model.proofs.Unpacking.{left_behind}
@@ -30,7 +31,8 @@ use Rattle.mcap_model.proofs.Prefixes.{next_stands}
 use Rattle.mcap_scan.specs.Sources.{ReadFromFront, unread_behind, IsCutOff}
 use Rattle.mcap_scan.specs.Taking.{RefusalCause, MagicRefused, RecordRefused, TakesFrontRecord, IsTakable}
 use Rattle.mcap_scan.proofs.Taking.{unread_broken}
-use Rattle.mcap_scan.specs.Scanning.{content_of, IsUnfinished, IsEnded, HaltsSo, MemoryStands, RefusalStands, IsFresh, StageStands, Stands, Advanced, RefusedAt, Given, IsGoing, Moves}
+use Rattle.mcap_scan.specs.Scanning.{content_of, IsUnfinished, IsEnded, IsFresh, StageStands, Stands, Advanced, RefusedAt, Given, IsGoing, Moves}
+use Rattle.mcap_scan.specs.RefusedReadings.{HaltsSo, MemoryStands, RefusalStands}
 
 -- ---- where a reading halts
 

@@ -9,7 +9,8 @@ use Rattle.mcap_wire.proofs.Fields.{number_bytes, number_there}
 use Rattle.mcap_wire.proofs.Numbers.{length-le}
 use Rattle.mcap_io.specs.declared.outside.ReadRefused.{ReadRefused}
 use Rattle.mcap_io.specs.declared.outside.ReadRefused.TheVariants as reads
-use Rattle.mcap_io.specs.Outside.{SourceState, StretchTaken, ReadCause}
+use Rattle.mcap_io.specs.Outside.{SourceState}
+use Rattle.mcap_io.specs.OutsideCalls.{StretchTaken, ReadCause}
 use Rattle.mcap_model.specs.Tops.{Top, offset_behind, opcode, declared_length, has_head, is_whole, behind_first}
 use Rattle.mcap_model.specs.Rules.{V1}
 use Rattle.mcap_model.specs.Kept.{reading_limits, is_beyond, HasOpcode, grammar, beyond, HaltsThere, short_head, zero_opcode, past_limit, cut_short}

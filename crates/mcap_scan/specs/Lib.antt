@@ -1,4 +1,7 @@
+-- What the promise of the program reaches, in the order to read it.
 pub mod Sources
+pub mod RefusedReadings
+-- What the functions of this crate and its proofs say besides.
 pub mod Taking
 pub mod Scanning
 pub mod Scanners

@@ -4,7 +4,7 @@ use Rattle.mcap_io.specs.Outside.{SourceState}
 use Rattle.mcap_model.specs.Tops.{Top, Tops, offset_behind, opcode, declared_length, is_whole, first_top, behind_first}
 use Rattle.mcap_model.specs.Rules.{V1}
 use Rattle.mcap_model.specs.Kept.{reading_limits, Kept, Halt, at_end, grammar, compressed, beyond, IsDue, IsPacked, HaltsAt}
-use Rattle.mcap_model.specs.Judging.{MayWantMemory}
+use Rattle.mcap_model.specs.WantsOfMemory.{MayWantMemory}
 
 -- where the bytes before are told, these records were taken from their front, and the rest is left
 abbrev pub ReadFromFront : SourceState → SourceState → List Top → Type 0

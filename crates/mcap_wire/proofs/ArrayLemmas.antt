@@ -8,10 +8,12 @@ use Rattle.std.proofs.Math.Nat.{mul-div_cancel_left, mul-le-mul_left}
 use Rattle.std.proofs.lemmas.Option.{slice_get-get_or}
 use Rattle.mcap_wire.specs.declared.faults.Why.{Why}
 use Rattle.mcap_wire.specs.declared.faults.Why.TheVariants.{Short, BadText, BadLength, DoubleKey}
-use Rattle.mcap_wire.specs.Layout.{le, number, prefixed}
-use Rattle.mcap_wire.specs.Reading.{FieldAt, NumberAt, NumberFails, BytesAt, text_length, text_bytes}
-use Rattle.mcap_wire.specs.Maps.{a_uint, ItemFits, KeysDiffer, LacksKey, ItemFails, MapStops}
-use Rattle.mcap_wire.specs.Arrays.{EntryFits, entry_text, entry_texts, array_text, ArrayAt, EntriesFail}
+use Rattle.mcap_wire.specs.Layout.{le, number, prefixed, FieldAt, NumberAt, text_length, text_bytes}
+use Rattle.mcap_wire.specs.Reading.{NumberFails, BytesAt}
+use Rattle.mcap_wire.specs.Maps.{KeysDiffer}
+use Rattle.mcap_wire.specs.MapReading.{a_uint, ItemFits, LacksKey, ItemFails, MapStops}
+use Rattle.mcap_wire.specs.Arrays.{EntryFits, entry_text, entry_texts, array_text}
+use Rattle.mcap_wire.specs.ArrayReading.{ArrayAt, EntriesFail}
 use Rattle.mcap_wire.specs.ArrayBytes.{entries_in, HoldsArray, HoldsCounts}
 use Rattle.mcap_wire.proofs.Numbers.{AreBytes, length-le, number-le, le-number, number_below}
 use Rattle.mcap_wire.proofs.Fields.{AreBytes-take, AreBytes-drop}

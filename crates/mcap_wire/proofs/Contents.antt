@@ -2,13 +2,16 @@
 use Rattle.std.proofs.Common.{◌≡◌, ℕ, suc, ◌+◌, ◌≤◌, List, [], ◌∷◌, ◌++◌, length, drop, refl, sym, ap, subst, inl, inr, ◌∙◌, arith}
 use Rattle.mcap_wire.specs.declared.faults.Why.{Why}
 use Rattle.mcap_wire.specs.Layout.{le}
-use Rattle.mcap_wire.specs.Contents.{Kind, a_number, a_text, some_bytes, a_text_map, an_array, a_count_map, Value, field_text, FieldFits, FieldStands, FieldFails, Values, row, AllFit, RowBegins, ShowsRow, FailsFrom, Fails, RowReadsBack}
+use Rattle.mcap_wire.specs.Contents.{Kind, a_number, a_text, some_bytes, a_text_map, an_array, a_count_map, Value, field_text, FieldFits, Values, row, AllFit, RowBegins, ShowsRow}
+use Rattle.mcap_wire.specs.ContentReading.{FieldStands, FieldFails, FailsFrom, Fails, RowReadsBack}
 use Rattle.mcap_wire.specs.Reading.{NumberFails, TextFails, BytesFail}
 use Rattle.mcap_wire.specs.declared.faults.Why.TheVariants.{Short, BadText, BadLength, DoubleKey}
 use Rattle.mcap_wire.proofs.Framing.{texts_apart, split_number, bytes_apart, ends_within, number_is_short, text_not_refused, bytes_not_refused}
 use Rattle.mcap_wire.proofs.Numbers.{length-le}
-use Rattle.mcap_wire.specs.Maps.{a_uint, a_string, pair_texts}
-use Rattle.mcap_wire.specs.Arrays.{entry_texts, EntriesFail}
+use Rattle.mcap_wire.specs.Maps.{pair_texts}
+use Rattle.mcap_wire.specs.MapReading.{a_uint, a_string}
+use Rattle.mcap_wire.specs.Arrays.{entry_texts}
+use Rattle.mcap_wire.specs.ArrayReading.{EntriesFail}
 use Rattle.mcap_wire.proofs.MapWalks.{short_not_bad, map_not_refused, whole_not_short, map_why}
 use Rattle.mcap_wire.proofs.ArrayLemmas.{arrays_apart, entries_not_refused, counts_fit}
 use Rattle.mcap_wire.proofs.TextMaps.{maps_apart, texts_fit}

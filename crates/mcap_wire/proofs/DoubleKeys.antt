@@ -14,7 +14,8 @@ use Rattle.mcap_wire.specs.declared.faults.Why.{Why}
 use Rattle.mcap_wire.specs.declared.faults.Why.TheVariants.{DoubleKey}
 use Rattle.mcap_wire.specs.Layout.{string}
 use Rattle.mcap_wire.specs.Reading.{TextAt}
-use Rattle.mcap_wire.specs.Maps.{a_string, HasKey, LacksKey, KeysDiffer, IsTextPair, pair_text, pair_texts, MapStops}
+use Rattle.mcap_wire.specs.Maps.{KeysDiffer, IsTextPair, pair_text, pair_texts}
+use Rattle.mcap_wire.specs.MapReading.{a_string, HasKey, LacksKey, MapStops}
 use Rattle.mcap_wire.specs.PairBytes.{pairs_in, SpellsPairs, KeyTwice, IsFirstFault, IsFirstFaultBehind, PartFails}
 use Rattle.mcap_wire.proofs.TextMaps.{Pair, KeysDiffer-push, key_stands_before, length-pair_text, texts_fit}
 use Rattle.mcap_wire.proofs.PairWalks.{nth, text_stands, pairs_stop, spelled_is_held, key_fails, value_fails}

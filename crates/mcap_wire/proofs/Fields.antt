@@ -4,8 +4,8 @@ use Rattle.std.specs.Prelude.{IsUtf8}
 use Rattle.std.proofs.lemmas.List.{take_at, take-append-drop, length-take, length-take-le, length-drop, drop-drop, drop_more, get_or-drop, get_or-take, get_or_past}
 use Rattle.std.proofs.lemmas.Bool.{cases_lt}
 use Rattle.byteorder.specs.Endian.{little_number}
-use Rattle.mcap_wire.specs.Layout.{le, number, part}
-use Rattle.mcap_wire.specs.Reading.{NumberAt, TextAt, BytesAt, BytesAreShort, HeadAt, HasOpcodeAt, RecordStands}
+use Rattle.mcap_wire.specs.Layout.{le, number, part, NumberAt}
+use Rattle.mcap_wire.specs.Reading.{TextAt, BytesAt, BytesAreShort, HeadAt, HasOpcodeAt, RecordStands}
 use Rattle.mcap_wire.proofs.Numbers.{AreBytes, number_is, length-le, number-le, le-number, number_below, le_one}
 
 -- the bytes from an offset on are n of them, and the bytes n later

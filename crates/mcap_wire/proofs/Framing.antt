@@ -8,8 +8,8 @@ use Rattle.mcap_wire.specs.declared.faults.Why.TheVariants.{Short, BadText, BadL
 use Rattle.mcap_wire.specs.declared.faults.Cut.{Cut}
 use Rattle.mcap_wire.specs.declared.faults.CutFault.{CutFault}
 use Rattle.mcap_wire.specs.declared.faults.CutFault.TheVariants as cut_faults
-use Rattle.mcap_wire.specs.Layout.{le, number, string, prefixed, framed, part, content_limit}
-use Rattle.mcap_wire.specs.Reading.{NumberAt, NumberFails, TextAt, TextFails, text_length, text_bytes, BytesFail, bytes_length, content_length, CutFails, IsCut}
+use Rattle.mcap_wire.specs.Layout.{le, number, string, prefixed, framed, part, content_limit, NumberAt, text_length, text_bytes, bytes_length}
+use Rattle.mcap_wire.specs.Reading.{NumberFails, TextAt, TextFails, BytesFail, content_length, CutFails, IsCut}
 use Rattle.mcap_wire.specs.Laws.{NumbersReadBack, TextsAreApart, RecordsAreApart}
 use Rattle.mcap_wire.proofs.Numbers.{AreBytes, length-le, number-le, le-number, le_injective}
 

@@ -14,8 +14,8 @@ use Rattle.std.proofs.lemmas.List.Elements.{All-push, All-take}
 use Rattle.std.proofs.lemmas.List.Quantifiers.{Any-push}
 use denote.Ref.{Bor}
 use Rattle.mcap_wire.specs.declared.key_passes.Window.{Window}
-use Rattle.mcap_wire.specs.Reading.{text_bytes}
-use Rattle.mcap_wire.specs.Maps.{HasKey, LacksKey}
+use Rattle.mcap_wire.specs.Layout.{text_bytes}
+use Rattle.mcap_wire.specs.MapReading.{HasKey, LacksKey}
 use Rattle.mcap_wire.specs.KeyPasses.{TextThere, window_room, IsBelow, KeysGoUp, BelongsAt, is_above, kept_places, IsWindow, IsHeld, IsBeyond, Sifts, OnceBetween, OnceUpTo}
 use Rattle.mcap_wire.proofs.TextMaps.{Pair, AllPairs-push}
 use Rattle.mcap_wire.proofs.PairWalks.{not_above_itself}

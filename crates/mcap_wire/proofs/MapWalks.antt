@@ -6,9 +6,10 @@ use Rattle.std.proofs.lemmas.List.{append-nil, length-append, length-drop, get_o
 use Rattle.std.proofs.lemmas.List.Elements.{All-head, All-tail}
 use Rattle.mcap_wire.specs.declared.faults.Why.{Why}
 use Rattle.mcap_wire.specs.declared.faults.Why.TheVariants.{Short, BadText, BadLength, DoubleKey}
-use Rattle.mcap_wire.specs.Layout.{le, string}
-use Rattle.mcap_wire.specs.Reading.{TextIsShort, TextIsBad, text_length, text_bytes}
-use Rattle.mcap_wire.specs.Maps.{Plain, a_uint, a_string, PlainValue, plain_text, PlainFits, PlainAt, PlainFails, KeysDiffer, HasKey, LacksKey, PlainItem, item_text, ItemFits, KeyOrValueFails, KeyIsDouble, ItemFails, MapStops, MapIsWhole, MapFails}
+use Rattle.mcap_wire.specs.Layout.{le, string, text_length, text_bytes}
+use Rattle.mcap_wire.specs.Reading.{TextIsShort, TextIsBad}
+use Rattle.mcap_wire.specs.Maps.{KeysDiffer}
+use Rattle.mcap_wire.specs.MapReading.{Plain, a_uint, a_string, PlainValue, plain_text, PlainFits, PlainAt, PlainFails, HasKey, LacksKey, PlainItem, item_text, ItemFits, KeyOrValueFails, KeyIsDouble, ItemFails, MapStops, MapIsWhole, MapFails}
 use Rattle.mcap_wire.proofs.Numbers.{length-le}
 use Rattle.mcap_wire.proofs.Framing.{texts_apart, split_number, text_not_refused, ends_within, number_is_short, length-string, length_found, bytes_found, stands_within}
 use Rattle.mcap_wire.proofs.TextMaps.{key_stands_before}

@@ -8,7 +8,7 @@ use Rattle.std.proofs.lemmas.List.Elements.{All-nil, All-push}
 use Rattle.std.proofs.lemmas.List.Quantifiers.{Any-push}
 use Rattle.std.proofs.lemmas.Nat.{one_shl, pow_pos}
 use Rattle.std.proofs.lemmas.Nat.Bits.{bit_at_set_same, bit_at_set_other, bit_at-zero, and_pow}
-use Rattle.mcap_wire.specs.Maps.{HasKey, LacksKey}
+use Rattle.mcap_wire.specs.MapReading.{HasKey, LacksKey}
 use Rattle.mcap_wire.specs.ArrayBytes.{entries_in}
 use Rattle.mcap_wire.specs.Marks.{is_marked}
 use Rattle.mcap_wire.proofs.ArrayLemmas.{Entry}

@@ -12,9 +12,10 @@ use Rattle.std.proofs.lemmas.List.Elements.{All-head, All-tail, All-push}
 use Rattle.std.proofs.Math.Seq.{take-add}
 use Rattle.mcap_wire.specs.declared.faults.Why.{Why}
 use Rattle.mcap_wire.specs.declared.faults.Why.TheVariants.{Short, BadText, BadLength, DoubleKey}
-use Rattle.mcap_wire.specs.Layout.{string}
-use Rattle.mcap_wire.specs.Reading.{FieldAt, TextAt, text_length, text_bytes}
-use Rattle.mcap_wire.specs.Maps.{IsText, a_string, IsTextPair, LacksKey, KeysDiffer, IsTextMap, pair_text, pair_texts, ItemFails, MapStops}
+use Rattle.mcap_wire.specs.Layout.{string, FieldAt, text_length, text_bytes}
+use Rattle.mcap_wire.specs.Reading.{TextAt}
+use Rattle.mcap_wire.specs.Maps.{IsText, IsTextPair, KeysDiffer, IsTextMap, pair_text, pair_texts}
+use Rattle.mcap_wire.specs.MapReading.{a_string, LacksKey, ItemFails, MapStops}
 use Rattle.mcap_wire.specs.PairBytes.{behind_text, pairs_in, SpellsPairs, HoldsMap, NoneAbove, PartFails, TextStands}
 use Rattle.mcap_wire.proofs.Framing.{length-string, length_found, bytes_found, stands_within, text_decided}
 use Rattle.mcap_wire.proofs.TextMaps.{Pair, IsTextMap-nil, IsTextMap-push, pair_texts-push, pair_parts, texts_fit}

@@ -5,9 +5,9 @@ use Rattle.std.proofs.lemmas.Bool.{cases_lt}
 use Rattle.std.proofs.lemmas.List.{append-nil, length-append, length-take-le, length-drop, take_more, take-append-drop, flat_map_more, get_or_append_left, get_or_push, get_or_at, length_push}
 use Rattle.std.proofs.lemmas.Grind.{flat_map-append}
 use Rattle.std.proofs.lemmas.List.Elements.{All-nil, All-head, All-tail, All-push}
-use Rattle.mcap_wire.specs.Layout.{le, string}
-use Rattle.mcap_wire.specs.Reading.{NumberAt}
-use Rattle.mcap_wire.specs.Maps.{IsTextPair, KeysDiffer, HasKey, LacksKey, IsTextMap, pair_text, pair_texts, text_map, PairsAt, a_string, ItemFits}
+use Rattle.mcap_wire.specs.Layout.{le, string, NumberAt}
+use Rattle.mcap_wire.specs.Maps.{IsTextPair, KeysDiffer, IsTextMap, pair_text, pair_texts, text_map}
+use Rattle.mcap_wire.specs.MapReading.{HasKey, LacksKey, PairsAt, a_string, ItemFits}
 use Rattle.mcap_wire.proofs.Fields.{cut_off}
 use Rattle.mcap_wire.proofs.Framing.{texts_apart, length-string}
 

@@ -2,7 +2,8 @@
 use Rattle.std.specs.Prelude.{◌≡◌, ℕ, zero, suc, ◌+◌, List, [], ◌∷◌, take, drop, Result, Ok, Err, All}
 use Rattle.mcap_wire.specs.declared.faults.Why.{Why}
 use Rattle.mcap_wire.specs.Layout.{number}
-use Rattle.mcap_wire.specs.Maps.{a_uint, KeysDiffer, MapStops}
+use Rattle.mcap_wire.specs.Maps.{KeysDiffer}
+use Rattle.mcap_wire.specs.MapReading.{a_uint, MapStops}
 use Rattle.mcap_wire.specs.Arrays.{EntryFits, entry_texts}
 
 -- the first entries, of which each begins with a number of n bytes

@@ -8,8 +8,8 @@ use denote.Ref.{Bor}
 use Rattle.mcap_wire.specs.declared.key_passes.Window.{Window}
 use Rattle.mcap_wire.specs.declared.key_passes.Pass.{Pass}
 use Rattle.mcap_wire.specs.declared.key_passes.Pass.TheVariants.{Double, Last, Up}
-use Rattle.mcap_wire.specs.Reading.{text_length, text_bytes}
-use Rattle.mcap_wire.specs.Maps.{HasKey}
+use Rattle.mcap_wire.specs.Layout.{text_length, text_bytes}
+use Rattle.mcap_wire.specs.MapReading.{HasKey}
 use Rattle.mcap_wire.specs.PairBytes.{KeyTwice}
 
 -- ---- keys at places

@@ -21,14 +21,6 @@ declaration_limit = 2 ^ 20
 abbrev pub chunk_size_limit : ℕ
 chunk_size_limit = 64 * 2 ^ 20
 
--- the size at which the buffer of a recording is full: 1 GiB
-abbrev pub buffer_limit : ℕ
-buffer_limit = 2 ^ 30
-
--- the profile of a recording: 65,535
-abbrev pub profile_limit : ℕ
-profile_limit = 2 ^ 16 - 1
-
 -- how many schemas, and how many channels, are given ids: 65,535
 abbrev pub id_limit : ℕ
 id_limit = 2 ^ 16 - 1

@@ -7,8 +7,10 @@ use Rattle.mcap_wire.specs.declared.faults.Why.{Why}
 use Rattle.mcap_wire.specs.declared.faults.Why.TheVariants.{Short, BadText, BadLength, DoubleKey}
 use Rattle.mcap_wire.specs.declared.pair_bytes.Place.{Place}
 use Rattle.mcap_wire.specs.declared.pair_bytes.Place.TheVariants.{New, Double, Unordered}
-use Rattle.mcap_wire.specs.Reading.{TextAt, TextIsShort, TextIsBad, text_length, text_bytes}
-use Rattle.mcap_wire.specs.Maps.{a_string, IsTextPair, HasKey, LacksKey, KeysDiffer, IsTextMap, pair_texts, MapStops}
+use Rattle.mcap_wire.specs.Reading.{TextAt, TextIsShort, TextIsBad}
+use Rattle.mcap_wire.specs.Layout.{text_length, text_bytes}
+use Rattle.mcap_wire.specs.Maps.{IsTextPair, KeysDiffer, IsTextMap, pair_texts}
+use Rattle.mcap_wire.specs.MapReading.{a_string, HasKey, LacksKey, MapStops}
 
 -- what stands behind the first text
 abbrev pub behind_text : List ℕ → List ℕ

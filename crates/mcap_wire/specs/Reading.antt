@@ -8,22 +8,10 @@ use Rattle.mcap_wire.specs.declared.faults.HeadFault.TheVariants as head_faults
 use Rattle.mcap_wire.specs.declared.faults.Cut.{Cut}
 use Rattle.mcap_wire.specs.declared.faults.CutFault.{CutFault}
 use Rattle.mcap_wire.specs.declared.faults.CutFault.TheVariants as cut_faults
-use Rattle.mcap_wire.specs.Layout.{le, number, string, prefixed, framed, part, content_limit}
+use Rattle.mcap_wire.specs.Layout.{number, string, prefixed, framed, part, content_limit, FieldAt, NumberAt, text_length, text_bytes, bytes_length}
 use denote.Ref.{Bor}
 
--- a field stands from one offset to another
-pub record FieldAt (content : List ℕ) (at end : ℕ) (spelled : List ℕ) : Type 0 where
-  pub spelled_there : drop at content ≡ spelled ++ drop end content
-  pub begins : at ≤ end
-  pub ends : end ≤ length content
-
 -- ---- numbers
-
--- a number of n bytes stands there
-pub record NumberAt (n : ℕ) (content : List ℕ) (at value end : ℕ) : Type 0 where
-  pub field : FieldAt content at end (le n value)
-  pub size : end ≡ at + n
-  pub fits : value < 256 ^ n
 
 -- a number of n bytes can't be read only where it is cut short
 abbrev pub NumberFails : ℕ → List ℕ → ℕ → Why → Type 0
@@ -37,14 +25,6 @@ ReadsNumber n content at (Ok r) = NumberAt n content at r.0 r.1
 ReadsNumber n content at (Err why) = NumberFails n content at why
 
 -- ---- texts
-
--- the length that stands in front of a text
-abbrev pub text_length : List ℕ → ℕ → ℕ
-text_length content at = number (take 4 (drop at content))
-
--- the bytes behind that length
-abbrev pub text_bytes : List ℕ → ℕ → List ℕ
-text_bytes content at = take (text_length content at) (drop (at + 4) content)
 
 -- a text stands there
 pub record TextAt (content : List ℕ) (at : ℕ) (text : List ℕ) (end : ℕ) : Type 0 where
@@ -74,10 +54,6 @@ ReadsText content at (Ok r) = TextAt content at r.0.now r.1
 ReadsText content at (Err why) = TextFails content at why
 
 -- ---- bytes
-
--- the length, in n bytes, that stands in front of bytes
-abbrev pub bytes_length : ℕ → List ℕ → ℕ → ℕ
-bytes_length n content at = number (take n (drop at content))
 
 -- bytes stand there behind their length of n bytes
 pub record BytesAt (n : ℕ) (content : List ℕ) (at : ℕ) (bytes : List ℕ) (end : ℕ) : Type 0 where

@@ -1,7 +1,8 @@
 //! Arrays of entries that are seen where they stand, in the bytes of a content or in a list, and their reading and writing
 //! (MCAP specification, "Serialization", arrays).
 ghost use Rattle.std.specs.Prelude.{◌≡◌, ◌+◌, ◌^◌, ◌<◌, ◌≤◌, ◌++◌, length, slice_get, Some, vec_len, vec_capacity, OnOk, OnErr};
-ghost use Rattle.mcap_wire.specs.Arrays.{entry_texts, array_text, ReadsEntries};
+ghost use Rattle.mcap_wire.specs.Arrays.{entry_texts, array_text};
+ghost use Rattle.mcap_wire.specs.ArrayReading.{ReadsEntries};
 ghost use Rattle.mcap_wire.specs.ArrayBytes.{entries_in, HoldsArray};
 ghost use Rattle.mcap_wire.specs.Writing.{HasRoom, LacksRoom};
 

@@ -1,8 +1,10 @@
 //! Maps of counts that are seen where they stand, in the bytes of a content or in a list, and their reading and writing
 //! (MCAP specification, "Serialization", maps).
 ghost use Rattle.std.specs.Prelude.{◌≡◌, ◌+◌, ◌^◌, ◌<◌, ◌≤◌, ◌++◌, length, slice_get, Some, All, MatchBool, vec_len, vec_capacity, OnOk, OnErr};
-ghost use Rattle.mcap_wire.specs.Maps.{KeysDiffer, HasKey, LacksKey};
-ghost use Rattle.mcap_wire.specs.Arrays.{entry_texts, array_text, ReadsCounts};
+ghost use Rattle.mcap_wire.specs.Maps.{KeysDiffer};
+ghost use Rattle.mcap_wire.specs.MapReading.{HasKey, LacksKey};
+ghost use Rattle.mcap_wire.specs.Arrays.{entry_texts, array_text};
+ghost use Rattle.mcap_wire.specs.ArrayReading.{ReadsCounts};
 ghost use Rattle.mcap_wire.specs.ArrayBytes.{entries_in, HoldsArray, HoldsCounts, CountsCounts};
 ghost use Rattle.mcap_wire.specs.Writing.{HasRoom, LacksRoom};
 

@@ -1,8 +1,9 @@
 //! Whether two pairs of a map have one key, whatever the order of its keys, found without memory: each pass over the map takes
 //! the smallest keys above those of the pass before it into a window on the stack, where equal keys meet.
 ghost use Rattle.std.specs.Prelude.{◌≡◌, ◌+◌, ◌-◌, ◌^◌, ◌<◌, ◌≤◌, ◌++◌, ◌∷◌, [], false, true, List, ℕ, length, take, insert, min, MatchBool, All};
-ghost use Rattle.mcap_wire.specs.Reading.{text_bytes};
-ghost use Rattle.mcap_wire.specs.Maps.{HasKey, KeysDiffer};
+ghost use Rattle.mcap_wire.specs.Layout.{text_bytes};
+ghost use Rattle.mcap_wire.specs.Maps.{KeysDiffer};
+ghost use Rattle.mcap_wire.specs.MapReading.{HasKey};
 ghost use Rattle.mcap_wire.specs.PairBytes.{pairs_in, SpellsPairs, KeyTwice};
 ghost use Rattle.mcap_wire.specs.KeyPasses.{TextThere, KeysGoUp, FindsKeyPlace, is_above, window_room, IsWindow, Sifts, PassShows};
 

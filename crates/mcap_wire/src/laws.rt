@@ -1,6 +1,7 @@
 //! What holds of the layout itself, each law as the contract of a function that does nothing.
 ghost use Rattle.std.specs.Prelude.{◌≡◌, List};
-ghost use Rattle.mcap_wire.specs.Contents.{Kind, RowReadsBack};
+ghost use Rattle.mcap_wire.specs.Contents.{Kind};
+ghost use Rattle.mcap_wire.specs.ContentReading.{RowReadsBack};
 ghost use Rattle.mcap_wire.specs.Layout.{magic};
 ghost use Rattle.mcap_wire.specs.Laws.{NumbersReadBack, TextsAreApart, RecordsAreApart};
 

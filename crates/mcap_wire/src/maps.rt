@@ -1,6 +1,7 @@
 //! Maps of texts, read at an offset and written to the end of a vector (MCAP specification, "Serialization", maps).
 ghost use Rattle.std.specs.Prelude.{◌≡◌, ◌+◌, ◌^◌, ◌<◌, ◌≤◌, ◌++◌, length, vec_len, vec_capacity, OnOk, OnErr};
-ghost use Rattle.mcap_wire.specs.Maps.{ReadsPairs, pair_texts, text_map};
+ghost use Rattle.mcap_wire.specs.Maps.{pair_texts, text_map};
+ghost use Rattle.mcap_wire.specs.MapReading.{ReadsPairs};
 ghost use Rattle.mcap_wire.specs.Writing.{HasRoom, LacksRoom};
 
 use crate::faults::{Memory, Why};

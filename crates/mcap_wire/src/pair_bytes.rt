@@ -2,8 +2,9 @@
 ghost use Rattle.std.specs.Prelude.{◌≡◌, ◌+◌, ◌^◌, ◌<◌, ◌≤◌, false, length, slice_get, Some, IfOk, MatchBool};
 ghost use Rattle.std.specs.Cmp.Lexicographic.{slice_cmp};
 ghost use Rattle.std.specs.Ordering.{nat_cmp, is_gt};
-ghost use Rattle.mcap_wire.specs.Reading.{TextAt, text_length, text_bytes};
-ghost use Rattle.mcap_wire.specs.Maps.{HasKey, LacksKey};
+ghost use Rattle.mcap_wire.specs.Reading.{TextAt};
+ghost use Rattle.mcap_wire.specs.Layout.{text_length, text_bytes};
+ghost use Rattle.mcap_wire.specs.MapReading.{HasKey, LacksKey};
 ghost use Rattle.mcap_wire.specs.PairBytes.{pairs_in, SpellsPairs, HoldsMap, NoneAbove, TextStands, CountsPairs, ReadsPairText, IsFirstFault, IsFirstFaultBehind, IsPlaceOf};
 
 use crate::faults::{Memory, Why};

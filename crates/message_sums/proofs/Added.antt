@@ -16,8 +16,8 @@ use Rattle.rec_data.specs.Records.{ShowsMessage}
 use Rattle.mcap_model.proofs.ShownMessages.{is_message_placed}
 use Rattle.mcap_model.proofs.NamedTopics.{shown_once}
 use Rattle.message_sums.specs.declared.sums.Sums.{Sums}
-use Rattle.message_sums.specs.Sums.{with_message}
-use Rattle.message_sums.specs.Reading.{fields_seen, with_messages, AddsToSums}
+use Rattle.message_sums.specs.SumSteps.{with_message, with_messages, AddsToSums}
+use Rattle.message_sums.specs.Reading.{fields_seen}
 
 -- ---- lists
 

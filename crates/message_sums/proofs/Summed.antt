@@ -17,8 +17,9 @@ use Rattle.record_walk.specs.declared.flat_reader.FlatReader.{FlatReader}
 use Rattle.record_walk.specs.Walking.{flat_content, placed_at, FlatStands, FlatGives, FlatFinds}
 use Rattle.record_walk.proofs.Walked.{walked_messages}
 use Rattle.message_sums.specs.declared.sums.Sums.{Sums}
-use Rattle.message_sums.specs.Sums.{value_of, bytes_in_payload, sums_of, with_message}
-use Rattle.message_sums.specs.Reading.{fields_seen, with_messages, AddsToSums, SumsAll}
+use Rattle.message_sums.specs.Sums.{value_of, bytes_in_payload, sums_of}
+use Rattle.message_sums.specs.SumSteps.{with_message, with_messages, AddsToSums}
+use Rattle.message_sums.specs.Reading.{fields_seen, SumsAll}
 use Rattle.message_sums.proofs.Added.{adds_none, adds_more}
 
 -- ---- sums

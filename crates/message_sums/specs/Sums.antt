@@ -17,11 +17,3 @@ sums_of messages = record {
   bytes = sum_by bytes_in_payload messages % 2 ^ 64;
   total = sum_by value_of messages % 2 ^ 64;
 }
-
--- the sums with one message more
-abbrev pub with_message : Sums → MessageFields → Sums
-with_message sums m = record {
-  messages = (sums.messages + 1) % 2 ^ 64;
-  bytes = (sums.bytes + bytes_in_payload m) % 2 ^ 64;
-  total = (sums.total + value_of m) % 2 ^ 64;
-}

@@ -2,7 +2,7 @@
 ghost use Rattle.std.specs.Prelude.{◌∷◌, []};
 ghost use Rattle.mcap_model.specs.declared.replay.Place.{Place};
 ghost use Rattle.mcap_model.specs.Made.{top};
-ghost use Rattle.message_sums.specs.Reading.{AddsToSums};
+ghost use Rattle.message_sums.specs.SumSteps.{AddsToSums};
 
 use crate::sums::Sums;
 use rec_data::{MESSAGE, Message};

@@ -2,7 +2,7 @@
 ghost use Rattle.std.specs.Prelude.{◌≡◌};
 ghost use Rattle.mcap_model.specs.declared.refusals.ReadingRefused.{ReadingRefused as Refusal};
 ghost use Rattle.mcap_scan.specs.declared.reader.Stage.TheVariants as stages;
-ghost use Rattle.message_sums.specs.Reading.{SumsUp};
+ghost use Rattle.message_sums.specs.SumSteps.{SumsUp};
 
 use crate::adding::add_record;
 use crate::sums::Sums;

@@ -1,7 +1,8 @@
 //! Sums of messages.
 ghost use Rattle.std.specs.Prelude.{◌≡◌, ◌%◌, ◌^◌, [], sum};
 ghost use Rattle.rec_data.specs.Parsed.{message_fields};
-ghost use Rattle.message_sums.specs.Sums.{sums_of, with_message};
+ghost use Rattle.message_sums.specs.Sums.{sums_of};
+ghost use Rattle.message_sums.specs.SumSteps.{with_message};
 
 use rec_data::Message;
 

@@ -9,7 +9,8 @@ use Rattle.mcap_model.specs.Places.{Has, Each}
 use Rattle.command_base.specs.Ran.{first_failed, blamed_among}
 use Rattle.command_base.specs.declared.faults.Counts.{Counts}
 use Rattle.output_commands.specs.declared.blaming.FailedParts.{FailedParts}
-use Rattle.output_commands.specs.SomeOutput.{some_failed, flags_of, PartsShow}
+use Rattle.output_commands.specs.SomeOutput.{some_failed}
+use Rattle.output_commands.specs.SomeOutputSteps.{flags_of, PartsShow}
 
 first_of_all : (names : List (List ℕ)) (index : ℕ) → index + 1 ≤ length names → true ≡ first_failed (drop index (map (λ (name : List ℕ). true) names))
 first_of_all [] index within = absurd (omega (arith, within))

@@ -3,7 +3,8 @@ use Rattle.std.proofs.Common.{◌≡◌, ℕ, Bool, List, [], ◌∷◌, ◌++�
 use Rattle.std.specs.List.{flat_map}
 use Rattle.std.proofs.lemmas.List.{append-nil}
 use Rattle.command_base.specs.declared.complaint.Complaint.{Complaint}
-use Rattle.command_base.specs.Texts.{Trouble, fault, output_limit, output_fault, no_memory, complained}
+use Rattle.command_base.specs.Texts.{Trouble, fault, output_limit, output_fault, no_memory}
+use Rattle.command_base.specs.ComplaintTroubles.{complained}
 use Rattle.command_base.specs.Ran.{when}
 
 -- the complaints of such a command, in their order

@@ -8,7 +8,8 @@ use Rattle.mcap_io.specs.declared.outside.ObjectKind.TheVariants as kinds
 use Rattle.mcap_model.specs.Places.{Each}
 use Rattle.command_base.specs.Ran.{has_failed, failed_so, kept_failed, failures_keeping, failures_opening, object_faults, source_faults, live_faults, world_faults, input_faults, output_faults, wanted, AreOpened, Leaves, CountsKept, failed_names, blamed_names}
 use Rattle.command_base.proofs.Counting.{failed_often}
-use Rattle.output_commands.specs.SomeOutput.{inputs_and_output, failed_of, some_failed, NamesKept}
+use Rattle.output_commands.specs.SomeOutput.{inputs_and_output, failed_of, some_failed}
+use Rattle.output_commands.specs.SomeOutputSteps.{NamesKept}
 
 -- ---- lists of entries
 

@@ -3,7 +3,8 @@ use Rattle.std.proofs.Common.{◌≡◌, ◌⊎◌, ◌<◌, ℕ, zero, suc, Boo
 use Rattle.std.specs.Prelude.{IfOk, IfErr}
 use Rattle.std.specs.List.{AllZip}
 use Rattle.std.proofs.lemmas.Option.{same_Some}
-use Rattle.mcap_io.specs.Outside.{Told, went_well, Names, PlacedUnder, LiveState, WorldState, Opening}
+use Rattle.mcap_io.specs.Outside.{Told, Names, LiveState, WorldState, Opening}
+use Rattle.mcap_io.specs.OutsideCalls.{went_well, PlacedUnder}
 use Rattle.mcap_io.specs.Stores.{StoreState, IsUnused, TellsStore}
 use Rattle.mcap_io.specs.declared.outside.Failed.{Failed}
 use Rattle.rec_data.specs.declared.owned.Rec.{Rec}
@@ -23,7 +24,7 @@ use Rattle.chunk_writer.specs.Stops.{StopCause}
 use Rattle.mcap_merge.specs.declared.answers.Merged.{Merged}
 use Rattle.mcap_merge.specs.declared.answers.MergeRefused.{MergeRefused}
 use Rattle.mcap_merge.specs.declared.answers.MergeRefused.TheVariants as merges
-use Rattle.mcap_merge.specs.Inputs.{Read, read_tops}
+use Rattle.mcap_merge.specs.ReadInputs.{Read, read_tops}
 use Rattle.mcap_merge.specs.Reading.{IsReadOf, FaultsStand, HaltsFirst, InputRose}
 use Rattle.mcap_merge.specs.Filed.{merged_options, AllTell, TellsNot, MergeIs, FileStands, MergeStops, MergeIsCut, MergesInto, MergeFails}
 use Rattle.command_base.specs.Texts.{Trouble, grammar, compressed, limit, asked_status}
@@ -31,7 +32,8 @@ use Rattle.command_base.specs.Ran.{failed_so, has_failed}
 use Rattle.command_base.proofs.Counting.{failed_often}
 use Rattle.output_commands.specs.declared.merging.Merging.{Merging}
 use Rattle.output_commands.specs.SomeInputs.{InputKept, input_entry, back_stores}
-use Rattle.output_commands.specs.SomeOutput.{halted, failing, joined_status, HaltsByInput, some_failed}
+use Rattle.output_commands.specs.SomeOutput.{halted, failing, joined_status, some_failed}
+use Rattle.output_commands.specs.SomeOutputSteps.{HaltsByInput}
 use Rattle.output_commands.specs.Merge.{HoldsBytes, HoldsFirst, PutsNothing, MergeOutputHolds, MergesStores, unopened_so, some_refused, merging_of, IsMerging, name_at, ending_of_merging, FirstHalts, OfWholeFiles, MergeDecides}
 use Rattle.output_commands.proofs.Recoveries.{placed_so}
 

@@ -1,6 +1,7 @@
 -- What is promised of a merge of files.
 use Rattle.std.proofs.Common.{◌≡◌, ℕ, List, [], ◌∷◌, length, Result, sym, subst, inl, inr}
-use Rattle.mcap_io.specs.Outside.{SinkState, WritesAll, WorldState, Opening}
+use Rattle.mcap_io.specs.Outside.{SinkState, WorldState, Opening}
+use Rattle.mcap_io.specs.OutsideCalls.{WritesAll}
 use Rattle.mcap_io.specs.Stores.{TellsStore}
 use Rattle.mcap_io.specs.declared.outside.Short.{Short}
 use Rattle.mcap_merge.specs.declared.answers.Merged.{Merged}
@@ -11,9 +12,10 @@ use Rattle.output_commands.specs.declared.merging.Merging.{Merging}
 use Rattle.output_commands.specs.declared.merging.Merging.TheVariants as mergings
 use Rattle.output_commands.specs.declared.merging.Outcome.{Outcome}
 use Rattle.output_commands.specs.Recover.{number_after_name}
-use Rattle.output_commands.specs.SomeOutput.{joined_text, joined_findings, inputs_and_output, failed_of, HaltsByInput, flags_of, PartsShow, ReadsSomeWritesOne}
+use Rattle.output_commands.specs.SomeOutput.{joined_text, joined_findings, inputs_and_output, failed_of, ReadsSomeWritesOne}
+use Rattle.output_commands.specs.SomeOutputSteps.{HaltsByInput, flags_of, PartsShow, NamesMerged}
 use Rattle.output_commands.specs.SomeInputs.{back_stores}
-use Rattle.output_commands.specs.Merge.{IsMerging, some_refused, merged_line, ending_of_merging, NamesMerged, MergesFiles}
+use Rattle.output_commands.specs.Merge.{IsMerging, some_refused, merged_line, ending_of_merging, MergesFiles}
 use Rattle.output_commands.proofs.Recoveries.{wrote}
 use Rattle.output_commands.proofs.SomeInputs.{zip_long}
 use Rattle.output_commands.proofs.SomeOutput.{reads_some_writes_one, some_not_two}

@@ -6,7 +6,8 @@ use Rattle.std.proofs.lemmas.Option.{same_Some}
 use Rattle.std.proofs.lemmas.List.{append-nil, map-append, length-map}
 use Rattle.std.proofs.lemmas.List.Folds.{list_any-append}
 use Rattle.std.proofs.lemmas.Grind.{flat_map-append}
-use Rattle.mcap_io.specs.Outside.{HasCause, Opens, OpenCause, CountsStand, added, Opening, Keeping, Told, opened, with_opening, went_well, LiveState, WorldState, TellsNothingYet, KeepsLive, KeepsName, NoneIsOut, Names}
+use Rattle.mcap_io.specs.Outside.{added, Opening, Keeping, Told, opened, LiveState, WorldState, Names}
+use Rattle.mcap_io.specs.OutsideCalls.{HasCause, Opens, OpenCause, CountsStand, with_opening, went_well, TellsNothingYet, KeepsLive, KeepsName, NoneIsOut}
 use Rattle.mcap_io.specs.Stores.{StoreState, IsUnused, TellsStore}
 use Rattle.mcap_io.specs.declared.outside.Failed.{Failed}
 use Rattle.mcap_io.specs.declared.outside.ObjectKind.{ObjectKind}
@@ -22,12 +23,14 @@ use Rattle.command_base.proofs.Counting.{added_none, kept_adds}
 use Rattle.command_base.proofs.Opened.{tells_more, live_keeping, SameNames, leaves_same, holds_same, same_told}
 use Rattle.output_commands.specs.declared.merging.Merging.{Merging}
 use Rattle.output_commands.specs.declared.merging.Outcome.{Outcome}
-use Rattle.output_commands.specs.SomeInputs.{InputKept, input_entry, store_keeping, names_kept, back_stores, input_given, with_openings, InputsOpened, InputOpeningRefused, NoStoreOut, InputsKept, flags_with}
+use Rattle.output_commands.specs.SomeInputs.{InputKept, input_entry, store_keeping, names_kept, back_stores}
+use Rattle.output_commands.specs.InputSteps.{input_given, with_openings, InputsOpened, InputOpeningRefused, NoStoreOut, InputsKept, flags_with}
 use Rattle.mcap_merge.specs.declared.answers.Merged.{Merged}
 use Rattle.mcap_merge.specs.declared.answers.MergeRefused.{MergeRefused}
 use Rattle.mcap_merge.specs.Filed.{AsksTwice}
-use Rattle.output_commands.specs.SomeOutput.{failing, inputs_and_output, failed_of, some_failed, HaltsByInput, NamesKept, IsUnasked}
-use Rattle.output_commands.specs.Merge.{MergesStores, Reached, merging_of, unopened_so, some_refused, ending_of_merging, NamesMerged}
+use Rattle.output_commands.specs.SomeOutput.{failing, inputs_and_output, failed_of, some_failed, IsUnasked}
+use Rattle.output_commands.specs.SomeOutputSteps.{HaltsByInput, NamesKept, NamesMerged}
+use Rattle.output_commands.specs.Merge.{MergesStores, Reached, merging_of, unopened_so, some_refused, ending_of_merging}
 use Rattle.output_commands.proofs.Entries.{AreKind, world_faults-append, input_faults-append, output_faults-append, names_kept_by}
 use Rattle.output_commands.proofs.SomeInputs.{zip_long}
 use Rattle.output_commands.proofs.MergedStores.{files_told, output_holds, merges_well, fault_shows}

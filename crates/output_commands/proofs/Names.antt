@@ -3,7 +3,8 @@ use Rattle.std.proofs.Common.{◌≡◌, ℕ, ◌^◌, ◌<◌, Bool, List, [], 
 use Rattle.std.specs.Prelude.{true, false}
 use Rattle.std.specs.Option.{option_map}
 use Rattle.std.proofs.lemmas.List.{append-nil}
-use Rattle.mcap_io.specs.Outside.{RisesOnce, HasCause, Opens, OpenCause, CountsStand, added, Opening, Keeping, Told, opened, with_opening, went_well, SourceState, LiveState, WorldState, TellsName, TellsNothingYet, KeepsSource, KeepsLive, KeepsName, Notes}
+use Rattle.mcap_io.specs.Outside.{RisesOnce, added, Opening, Keeping, Told, opened, SourceState, LiveState, WorldState, TellsName}
+use Rattle.mcap_io.specs.OutsideCalls.{HasCause, Opens, OpenCause, CountsStand, with_opening, went_well, TellsNothingYet, KeepsSource, KeepsLive, KeepsName, Notes}
 use Rattle.mcap_io.specs.declared.outside.Failed.{Failed}
 use Rattle.mcap_io.specs.declared.outside.ObjectKind.TheVariants as kinds
 use Rattle.mcap_io.specs.declared.outside.OpenRefused.{OpenRefused}
@@ -13,7 +14,8 @@ use Rattle.mcap_model.proofs.Places.{heads}
 use Rattle.command_base.specs.Ran.{kept, refused, failed_so, world_faults}
 use Rattle.command_base.proofs.Counting.{added_none, kept_adds, kept_shows, not_risen, keeping_shows, keepings_show, blamed}
 use Rattle.command_base.proofs.Opened.{tells_more, source_keeping, live_keeping, given, source_noted, none_last, refused_last, SameNames, leaves_same, holds_same, others_unwritten, same_told}
-use Rattle.output_commands.specs.OneOutput.{BothNamesKept, BothUnreached}
+use Rattle.output_commands.specs.OneOutput.{BothUnreached}
+use Rattle.output_commands.specs.OneOutputSteps.{BothNamesKept}
 
 -- how an entry's object was taken back
 abbrev kept_in : Opening → Option Keeping

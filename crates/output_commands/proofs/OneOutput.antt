@@ -9,7 +9,8 @@ use Rattle.command_base.specs.Texts.{Trouble, bad_words, fault, output_fault, gr
 use Rattle.command_base.specs.Ran.{Scene, counts_in, AnyRose, IsCaused, Blames, named_when, failed_names, Failed, troubles_of, Complains}
 use Rattle.command_base.proofs.Blamed.{each_two, some_two}
 use Rattle.output_commands.specs.declared.failures.Failures.{Failures}
-use Rattle.output_commands.specs.OneOutput.{RewriteEnding, was_written, halted, limited, failing, lacked, rewritten_text, is_recovery_lack, rewritten_findings, rewritten_status, HaltsByRule, input_and_output, failed_rewrite, BothNamesKept, FaultsShow, ReadsOneWritesOne}
+use Rattle.output_commands.specs.OneOutput.{RewriteEnding, was_written, halted, limited, failing, lacked, rewritten_text, is_recovery_lack, rewritten_findings, rewritten_status, input_and_output, failed_rewrite, ReadsOneWritesOne}
+use Rattle.output_commands.specs.OneOutputSteps.{HaltsByRule, BothNamesKept, FaultsShow}
 
 -- ---- the status
 

@@ -2,7 +2,8 @@
 use Rattle.std.proofs.Common.{◌≡◌, ◌⊎◌, ℕ, Bool, List, [], ◌∷◌, Option, Some, Result, Ok, Err, refl, sym, ap, subst, inl, inr, ◌∙◌, arith}
 use Rattle.std.specs.Prelude.{true, false}
 use Rattle.std.proofs.lemmas.Option.{same_Some}
-use Rattle.mcap_io.specs.Outside.{Told, Opening, went_well, Names, PlacedUnder, SourceState, LiveState, SinkState, WorldState, WritesAll}
+use Rattle.mcap_io.specs.Outside.{Told, Opening, Names, SourceState, LiveState, SinkState, WorldState}
+use Rattle.mcap_io.specs.OutsideCalls.{went_well, PlacedUnder, WritesAll}
 use Rattle.mcap_io.specs.declared.outside.Short.{Short}
 use Rattle.mcap_io.specs.declared.outside.Failed.{Failed}
 use Rattle.rec_data.specs.declared.owned.Rec.{Rec}
@@ -18,8 +19,7 @@ use Rattle.mcap_recover.specs.declared.answers.RecoverRefused.TheVariants as ref
 use Rattle.mcap_model.specs.declared.ends.Stop.{Stop}
 use Rattle.mcap_model.specs.declared.refusals.ReadingRefused.{ReadingRefused}
 use Rattle.mcap_model.specs.declared.refusals.ReadingRefused.TheVariants as scans
-use Rattle.mcap_recover.specs.Readings.{lacks}
-use Rattle.mcap_recover.specs.Recovering.{recovered_options, OfBoth, StandsPart, IsUnrecovered, Recovers}
+use Rattle.mcap_recover.specs.Recovering.{lacks, recovered_options, OfBoth, StandsPart, IsUnrecovered, Recovers}
 use Rattle.chunk_writer.specs.declared.tape.Written.{Written}
 use Rattle.chunk_writer.specs.Stops.{StopsAt, StopCause}
 use Rattle.command_base.specs.Printing.{Tells, Takes}
@@ -29,8 +29,9 @@ use Rattle.output_commands.specs.declared.recovering.Recovery.{Recovery}
 use Rattle.output_commands.specs.declared.recovering.Recovery.TheVariants as recoveries
 use Rattle.output_commands.specs.declared.recovering.Restored.{Restored}
 use Rattle.output_commands.specs.declared.failures.Failures.{Failures}
-use Rattle.output_commands.specs.OneOutput.{halted, rewritten_text, rewritten_findings, input_and_output, failed_rewrite, failing, rewritten_status, HaltsByRule, FaultsShow, ReadsOneWritesOne}
-use Rattle.output_commands.specs.Recover.{IsPlaced, HoldsPart, UnreadHolds, RecoveryOutputHolds, BothReached, RefusesRecovery, unopened_recovery, recovery_of, IsRecovery, unread_ending, stopped_ending, ending_of_recovery, number_after_name, recovered_line, NamesRecovered, ReadingDecides, RecoveryStopDecides, RecoveryDecides, RecoversFile}
+use Rattle.output_commands.specs.OneOutput.{halted, rewritten_text, rewritten_findings, input_and_output, failed_rewrite, failing, rewritten_status, ReadsOneWritesOne}
+use Rattle.output_commands.specs.OneOutputSteps.{HaltsByRule, FaultsShow, unopened_recovery, NamesRecovered}
+use Rattle.output_commands.specs.Recover.{IsPlaced, HoldsPart, UnreadHolds, RecoveryOutputHolds, BothReached, RefusesRecovery, recovery_of, IsRecovery, unread_ending, stopped_ending, ending_of_recovery, number_after_name, recovered_line, ReadingDecides, RecoveryStopDecides, RecoveryDecides, RecoversFile}
 use Rattle.output_commands.proofs.Names.{NotGiven, no_entries, alone_entries, BothGiven, both_entries, both_placed, nothing_yet, both_kept}
 use Rattle.output_commands.proofs.OneOutput.{reads_one_writes_one, not_two}
 

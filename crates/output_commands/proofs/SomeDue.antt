@@ -4,7 +4,8 @@ use Rattle.std.specs.List.{flat_map}
 use Rattle.std.proofs.lemmas.List.{append-nil, drop-drop}
 use Rattle.std.proofs.lemmas.Grind.{flat_map-append}
 use Rattle.command_base.specs.declared.complaint.Complaint.{Complaint}
-use Rattle.command_base.specs.Texts.{Trouble, fault, complained}
+use Rattle.command_base.specs.Texts.{Trouble, fault}
+use Rattle.command_base.specs.ComplaintTroubles.{complained}
 use Rattle.command_base.specs.Ran.{when, first_halts, first_failed, told_of}
 use Rattle.output_commands.specs.SomeOutput.{halts_at}
 

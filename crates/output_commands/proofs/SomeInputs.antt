@@ -4,7 +4,8 @@ use Rattle.std.specs.Prelude.{reverse}
 use Rattle.std.specs.List.{AllZip}
 use Rattle.std.specs.Option.{option_map}
 use Rattle.std.proofs.lemmas.List.{append-nil, reverse-append, map-append, take_more}
-use Rattle.mcap_io.specs.Outside.{WorldState, Told, Opening, CountsStand, NoneIsOut, with_opening}
+use Rattle.mcap_io.specs.Outside.{WorldState, Told, Opening}
+use Rattle.mcap_io.specs.OutsideCalls.{CountsStand, NoneIsOut, with_opening}
 use Rattle.mcap_io.specs.Stores.{StoreState, IsUnused, TellsStore}
 use Rattle.mcap_io.specs.declared.outside.ObjectKind.TheVariants as kinds
 use Rattle.mcap_io.proofs.Notes.{noted_in}
@@ -13,7 +14,8 @@ use Rattle.mcap_model.proofs.Places.{at_none, at_more}
 use Rattle.mcap_model.proofs.OneMore.{zip_push}
 use Rattle.command_base.specs.Ran.{failed_so}
 use Rattle.command_base.proofs.Opened.{tells_more}
-use Rattle.output_commands.specs.SomeInputs.{InputKept, input_entry, store_keeping, input_given, with_openings, InputsOpened, OneKept, NoStoreOut, InputsKept}
+use Rattle.output_commands.specs.SomeInputs.{InputKept, input_entry, store_keeping}
+use Rattle.output_commands.specs.InputSteps.{input_given, with_openings, InputsOpened, OneKept, NoStoreOut, InputsKept}
 
 -- ---- lists
 

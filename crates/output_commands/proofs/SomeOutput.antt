@@ -10,7 +10,8 @@ use Rattle.command_base.specs.Texts.{Trouble, fault, output_fault, output_limit,
 use Rattle.command_base.specs.Ran.{Scene, counts_in, AnyRose, IsCaused, Blames, when, first_failed, told_of, troubles_of, blamed_among, blamed_names, named_when, failed_names, Failed, Complains}
 use Rattle.command_base.proofs.Blamed.{each_one}
 use Rattle.output_commands.specs.declared.blaming.FailedParts.{FailedParts}
-use Rattle.output_commands.specs.SomeOutput.{JoinEnding, was_written, halted, limited, failing, lacked, joined_text, halts_at, halts_in, is_limited, is_merge_lack, joined_findings, joined_status, HaltsByInput, inputs_and_output, failed_of, some_failed, flags_of, NamesKept, PartsShow, ReadsSomeWritesOne}
+use Rattle.output_commands.specs.SomeOutput.{JoinEnding, was_written, halted, limited, failing, lacked, joined_text, halts_at, halts_in, is_limited, is_merge_lack, joined_findings, joined_status, inputs_and_output, failed_of, some_failed, ReadsSomeWritesOne}
+use Rattle.output_commands.specs.SomeOutputSteps.{HaltsByInput, flags_of, NamesKept, PartsShow}
 use Rattle.output_commands.proofs.Blamed.{flags_long, each_blamed, some_blamed, none_behind}
 
 -- ---- what the inputs ask for

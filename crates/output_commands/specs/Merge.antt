@@ -15,7 +15,7 @@ use Rattle.mcap_model.specs.Tops.{Top}
 use Rattle.mcap_model.specs.Blocks.{pieces_of, blocks_in}
 use Rattle.mcap_model.specs.Kept.{reading_limits, Halts, at_end, grammar as breaks, compressed as names, beyond}
 use Rattle.mcap_model.specs.History.{is_message}
-use Rattle.mcap_model.specs.Laws.{IsReadBack}
+use Rattle.mcap_model.specs.ReadBack.{IsReadBack}
 use Rattle.mcap_model.specs.File.{file_of, IsPrefix}
 use Rattle.mcap_model.specs.Merged.{Merged as MergesTo, AreRead, IsUsed, SchemaIsUsed, AtMost, MoreThan}
 use Rattle.chunk_writer.specs.Limits.{Holds}
@@ -29,10 +29,9 @@ use Rattle.command_base.specs.OneFile as one
 use Rattle.command_base.specs.Ran.{Scene, counts_in, AnyRose, kept}
 use Rattle.output_commands.specs.declared.merging.Merging.{Merging}
 use Rattle.output_commands.specs.declared.merging.Merging.TheVariants as mergings
-use Rattle.output_commands.specs.declared.merging.Outcome.{Outcome}
 use Rattle.output_commands.specs.Recover.{IsPlaced, number_after_name}
 use Rattle.output_commands.specs.SomeInputs.{InputKept, input_entry, names_kept, back_stores}
-use Rattle.output_commands.specs.SomeOutput.{JoinEnding, was_written, halted, limited, failing, lacked, HaltsByInput, some_failed, NamesKept, Unreached, ReadsSomeWritesOne}
+use Rattle.output_commands.specs.SomeOutput.{JoinEnding, was_written, halted, limited, failing, lacked, Unreached, ReadsSomeWritesOne}
 
 -- ---- what the output holds
 
@@ -177,14 +176,6 @@ abbrev pub ending_of_merging : List (List ℕ) → Merging → JoinEnding
 ending_of_merging inputs mergings.Unopened = failing
 ending_of_merging inputs (mergings.Made m) = was_written (merged_line (length inputs) m)
 ending_of_merging inputs (mergings.Refused why) = merge_ending inputs why
-
--- what became of all names, and which of them failed; where the merging failed, a failure of one is told
-pub record NamesMerged (chunk : ℕ) (inputs : List (List ℕ)) (out : List ℕ) (old new : WorldState) (outcome : Outcome) : Type 0 where
-  pub entries : List Opening
-  pub comes : IsMerging chunk inputs out old new entries outcome.merging
-  pub names : NamesKept inputs out old new entries outcome.inputs_failed.items outcome.out_failed
-  pub well : HaltsByInput inputs (ending_of_merging inputs outcome.merging)
-  pub sure : ending_of_merging inputs outcome.merging ≡ failing → (some_failed outcome.inputs_failed.items ≡ true) ⊎ (outcome.out_failed ≡ true)
 
 -- ---- the status
 

@@ -1,13 +1,12 @@
 -- What a command does that reads one file and writes another: how that ended, what is printed and told of it, and which of both
 -- names are blamed.
-use Rattle.std.specs.Prelude.{◌≡◌, ◌⊎◌, ◌↔◌, ◌<◌, ◌-◌, ◌^◌, ℕ, List, [], ◌∷◌, ◌++◌, Bool, true, false, Some}
+use Rattle.std.specs.Prelude.{◌≡◌, ◌⊎◌, ◌↔◌, ℕ, List, [], ◌∷◌, Bool, true, false, Some}
 use Rattle.mcap_io.specs.Outside.{Rose, WorldState, Told, Keeping, Opening}
 use Rattle.mcap_io.specs.declared.outside.ObjectKind.TheVariants as kinds
 use Rattle.command_base.specs.declared.faults.Counts.{Counts}
 use Rattle.command_base.specs.Printing.{TellsAll}
 use Rattle.command_base.specs.Texts.{Trouble, output_limit, asked_status}
-use Rattle.command_base.specs.Ran.{Scene, counts_in, AnyRose, Files, wanted, kept, AreOpened, Leaves, input_faults, output_faults, CountsKept, named_when, failed_names, when, Findings, Failed, Ran}
-use Rattle.output_commands.specs.declared.failures.Failures.{Failures}
+use Rattle.command_base.specs.Ran.{Scene, counts_in, AnyRose, Files, kept, input_faults, output_faults, failed_names, when, Findings, Failed, Ran}
 
 -- ---- the writing
 
@@ -62,10 +61,6 @@ rewritten_status limited = 4
 rewritten_status failing = 3
 rewritten_status lacked = 5
 
--- what halts the reading of an input is a file that breaks a rule
-abbrev pub HaltsByRule : RewriteEnding → Type 0
-HaltsByRule ending = (trouble : Trouble) → ending ≡ halted trouble → asked_status trouble ≡ 1
-
 -- ---- the names
 
 -- the input, opened as a source, and then the output
@@ -74,20 +69,6 @@ input_and_output input out = record { kind = kinds.Source; inputs = input ∷ []
 
 abbrev pub failed_rewrite : Bool → Bool → Failed
 failed_rewrite input out = record { inputs = input ∷ []; outputs = out ∷ [] }
-
--- what became of both: each was opened and taken back, or not, and failed or not
-pub record BothNamesKept (input out : List ℕ) (old new : WorldState) (entries : List Opening) (input_failed out_failed : Bool) : Type 0 where
-  pub opened : AreOpened (wanted (input_and_output input out)) entries
-  pub leaves : Leaves old new entries
-  pub counts : CountsKept old new entries
-  pub names_are : failed_names entries ≡ named_when input_failed input ++ (named_when out_failed out ++ [])
-  -- each failure shows in a count
-  pub input_cause : input_failed ≡ true → Rose old.faults new.faults ⊎ Rose old.input_faults new.input_faults
-  pub out_cause : out_failed ≡ true → Rose old.faults new.faults ⊎ Rose old.output_faults new.output_faults
-  -- and each count that rose is one of theirs
-  pub inputs_told : old.input_faults < 2 ^ 64 - 1 → Rose old.input_faults new.input_faults → input_failed ≡ true
-  pub outputs_told : old.output_faults < 2 ^ 64 - 1 → Rose old.output_faults new.output_faults → out_failed ≡ true
-  pub world_told : old.faults < 2 ^ 64 - 1 → Rose old.faults new.faults → (input_failed ≡ true) ⊎ (out_failed ≡ true)
 
 -- Nothing was read from the input and nothing written: the output's name holds what it held.
 pub record BothUnreached (input out : List ℕ) (old new : WorldState) (entries : List Opening) : Type 0 where
@@ -105,16 +86,6 @@ pub record Causes (before now : Counts) (input out : Bool) : Type 0 where
   pub inputs_told : Rose before.inputs now.inputs → input ≡ true
   pub outputs_told : Rose before.outputs now.outputs → out ≡ true
   pub world_told : Rose before.world now.world → (input ≡ true) ⊎ (out ≡ true)
-
--- Which parts failed, where a command told that both names failed so.
-pub record FaultsShow (before now : Counts) (input_failed out_failed : Bool) (failed : Failures) : Type 0 where
-  pub causes : Causes before now failed.input failed.out
-  pub printing : (failed.printing ≡ true) ↔ Rose before.printing now.printing
-  pub input_told : input_failed ≡ true → failed.input ≡ true
-  pub out_told : out_failed ≡ true → failed.out ≡ true
-  -- nothing else is blamed where each count that rose shows in what was told
-  pub input_is : (Rose before.inputs now.inputs → input_failed ≡ true) → failed.input ≡ input_failed
-  pub out_is : (Rose before.outputs now.outputs → out_failed ≡ true) → (Rose before.world now.world → (input_failed ≡ true) ⊎ (out_failed ≡ true)) → failed.out ≡ out_failed
 
 -- ---- the command
 

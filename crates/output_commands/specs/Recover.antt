@@ -20,14 +20,12 @@ use Rattle.mcap_model.specs.declared.refusals.ReadingRefused.{ReadingRefused}
 use Rattle.mcap_model.specs.declared.refusals.ReadingRefused.TheVariants as scans
 use Rattle.mcap_model.specs.declared.ends.Stop.{Stop}
 use Rattle.mcap_model.specs.declared.ends.Stop.TheVariants as stops
-use Rattle.mcap_recover.specs.Readings.{lacks}
-use Rattle.mcap_recover.specs.Recovering.{recovered_options, TellsHalt, Recovers}
+use Rattle.mcap_recover.specs.Recovering.{lacks, recovered_options, TellsHalt, Recovers}
 use Rattle.command_base.specs.Texts.{grammar}
 use Rattle.command_base.specs.Ran.{Scene, counts_in, AnyRose, kept}
 use Rattle.output_commands.specs.declared.recovering.Recovery.{Recovery}
 use Rattle.output_commands.specs.declared.recovering.Recovery.TheVariants as recoveries
-use Rattle.output_commands.specs.declared.recovering.Restored.{Restored}
-use Rattle.output_commands.specs.OneOutput.{RewriteEnding, was_written, halted, limited, failing, lacked, BothNamesKept, BothUnreached, ReadsOneWritesOne}
+use Rattle.output_commands.specs.OneOutput.{RewriteEnding, was_written, halted, limited, failing, lacked, BothUnreached, ReadsOneWritesOne}
 
 -- ---- what the output holds
 
@@ -108,11 +106,6 @@ RefusesRecovery [] recovery = recovery ≡ recoveries.Refused lacks
 RefusesRecovery (entry ∷ []) recovery = ((entry.given ≡ false) × (recovery ≡ recoveries.Unopened)) ⊎ ((entry.given ≡ true) × (recovery ≡ recoveries.Refused lacks))
 RefusesRecovery (entry ∷ other ∷ more) recovery = (other.given ≡ false) × (recovery ≡ recoveries.Unopened)
 
--- an opening failed, or memory lacked for it
-abbrev pub unopened_recovery : Bool → Recovery
-unopened_recovery true = recoveries.Unopened
-unopened_recovery false = recoveries.Refused lacks
-
 abbrev pub recovery_of : Result Recovered RecoverRefused → Recovery
 recovery_of (Ok r) = recoveries.Made r
 recovery_of (Err why) = recoveries.Refused why
@@ -162,13 +155,6 @@ abbrev pub ending_of_recovery : List ℕ → Recovery → RewriteEnding
 ending_of_recovery input recoveries.Unopened = failing
 ending_of_recovery input (recoveries.Made r) = was_written (recovered_line r)
 ending_of_recovery input (recoveries.Refused why) = unrecovered_ending input why
-
--- what became of both names, and which of them failed; where the recovery failed, a failure of one is told
-pub record NamesRecovered (chunk : ℕ) (input out : List ℕ) (old new : WorldState) (restored : Restored) : Type 0 where
-  pub entries : List Opening
-  pub comes : IsRecovery chunk input out old new entries restored.recovery
-  pub names : BothNamesKept input out old new entries restored.input_failed restored.out_failed
-  pub sure : ending_of_recovery input restored.recovery ≡ failing → (restored.input_failed ≡ true) ⊎ (restored.out_failed ≡ true)
 
 -- ---- the status
 

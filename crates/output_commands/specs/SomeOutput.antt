@@ -1,23 +1,14 @@
 -- What a command does that reads some files and writes another: how that ended, what is printed and told of it, and which of the
 -- names are blamed.
-use Rattle.std.specs.Prelude.{◌≡◌, ◌⊎◌, ◌↔◌, ◌≤◌, ◌<◌, ◌-◌, ◌^◌, ℕ, zero, suc, List, [], ◌∷◌, map, length, Bool, true, false, if◌then◌else◌, Option, Some, None}
+use Rattle.std.specs.Prelude.{◌≡◌, ◌⊎◌, ◌↔◌, ℕ, zero, suc, List, [], ◌∷◌, Bool, true, false, Some}
 use Rattle.std.specs.List.{list_any}
 use Rattle.mcap_io.specs.Outside.{Rose, WorldState, Told, Keeping, Opening}
 use Rattle.mcap_io.specs.declared.outside.ObjectKind.TheVariants as kinds
 use Rattle.mcap_model.specs.Places.{Each}
 use Rattle.command_base.specs.declared.faults.Counts.{Counts}
 use Rattle.command_base.specs.Printing.{TellsAll}
-use Rattle.command_base.specs.Texts.{Trouble, trouble_of, output_limit, asked_status}
-use Rattle.command_base.specs.Ran.{Scene, counts_in, AnyRose, Files, wanted, AreOpened, Leaves, input_faults, output_faults, CountsKept, failed_names, blamed_names, when, Findings, Failed, Ran}
-use Rattle.output_commands.specs.declared.blaming.FailedParts.{FailedParts}
-use Rattle.output_commands.specs.declared.blaming.Halted.{Halted}
-
--- so many files are read at once
-abbrev pub input_limit : ℕ
-input_limit = 64
-
-abbrev pub InputsAreFew : List (List ℕ) → Type 0
-InputsAreFew inputs = (1 ≤ length inputs) × (length inputs ≤ input_limit)
+use Rattle.command_base.specs.Texts.{Trouble, output_limit, asked_status}
+use Rattle.command_base.specs.Ran.{Scene, counts_in, AnyRose, Files, input_faults, output_faults, failed_names, when, Findings, Failed, Ran}
 
 -- ---- the writing
 
@@ -77,15 +68,6 @@ joined_status limited = 4
 joined_status failing = 3
 joined_status lacked = 5
 
--- what halts the reading is one of the inputs, which breaks a rule, is compressed, or passes a limit
-abbrev pub HaltsByInput : List (List ℕ) → JoinEnding → Type 0
-HaltsByInput inputs ending = (n : ℕ) (trouble : Trouble) → ending ≡ halted n trouble → (n < length inputs) × ((asked_status trouble ≡ 1) ⊎ (asked_status trouble ≡ 4))
-
--- the troubles of the inputs, by what the code holds of the one that halts
-abbrev pub halted_lists : Option Halted → List (List Trouble)
-halted_lists None = []
-halted_lists (Some h) = halts_at h.input (trouble_of h.complaint)
-
 -- ---- the names
 
 -- the inputs, opened as stores, and then the output
@@ -98,22 +80,6 @@ failed_of inputs out = record { inputs = inputs; outputs = out ∷ [] }
 -- one of the answers is that it failed
 abbrev pub some_failed : List Bool → Bool
 some_failed failed = list_any (λ (b : Bool). b) failed
-
--- what became of all names: each was opened and taken back, or not, and failed or not
-pub record NamesKept (inputs : List (List ℕ)) (out : List ℕ) (old new : WorldState) (entries : List Opening) (inputs_failed : List Bool) (out_failed : Bool) : Type 0 where
-  pub opened : AreOpened (wanted (inputs_and_output inputs out)) entries
-  pub leaves : Leaves old new entries
-  pub counts : CountsKept old new entries
-  -- of the inputs those that were reached have an answer
-  pub few : length inputs_failed ≤ length inputs
-  pub names_are : failed_names entries ≡ blamed_names (inputs_and_output inputs out) (failed_of inputs_failed out_failed)
-  -- each failure shows in a count
-  pub input_cause : some_failed inputs_failed ≡ true → Rose old.faults new.faults ⊎ Rose old.input_faults new.input_faults
-  pub out_cause : out_failed ≡ true → Rose old.faults new.faults ⊎ Rose old.output_faults new.output_faults
-  -- and each count that rose is one of theirs
-  pub inputs_told : old.input_faults < 2 ^ 64 - 1 → Rose old.input_faults new.input_faults → some_failed inputs_failed ≡ true
-  pub outputs_told : old.output_faults < 2 ^ 64 - 1 → Rose old.output_faults new.output_faults → out_failed ≡ true
-  pub world_told : old.faults < 2 ^ 64 - 1 → Rose old.faults new.faults → (some_failed inputs_failed ≡ true) ⊎ (out_failed ≡ true)
 
 -- an object that was taken back was asked for nothing
 abbrev pub IsUnasked : Opening → Type 0
@@ -136,21 +102,6 @@ pub record JoinCauses (before now : Counts) (inputs : List Bool) (out : Bool) : 
   pub inputs_told : Rose before.inputs now.inputs → some_failed inputs ≡ true
   pub outputs_told : Rose before.outputs now.outputs → out ≡ true
   pub world_told : Rose before.world now.world → (some_failed inputs ≡ true) ⊎ (out ≡ true)
-
--- which of the inputs are blamed, by what the code holds
-abbrev pub flags_of : List (List ℕ) → FailedParts → List Bool
-flags_of inputs failed = if failed.every_input then map (λ (input : List ℕ). true) inputs else failed.inputs.now
-
--- Which parts failed, where a command told that its names failed so.
-pub record PartsShow (before now : Counts) (inputs : List (List ℕ)) (inputs_failed : List Bool) (out_failed : Bool) (failed : FailedParts) : Type 0 where
-  pub causes : JoinCauses before now (flags_of inputs failed) failed.out
-  pub printing : (failed.printing ≡ true) ↔ Rose before.printing now.printing
-  pub inputs_told : some_failed inputs_failed ≡ true → some_failed (flags_of inputs failed) ≡ true
-  pub out_told : out_failed ≡ true → failed.out ≡ true
-  pub told : failed.inputs.now ≡ inputs_failed
-  -- nothing else is blamed where each count that rose shows in what was told
-  pub inputs_are : (Rose before.inputs now.inputs → some_failed inputs_failed ≡ true) → flags_of inputs failed ≡ inputs_failed
-  pub out_is : (Rose before.outputs now.outputs → out_failed ≡ true) → (Rose before.world now.world → (some_failed inputs_failed ≡ true) ⊎ (out_failed ≡ true)) → failed.out ≡ out_failed
 
 -- ---- the command
 

@@ -3,9 +3,10 @@ ghost use Rattle.std.specs.List.{list_any, flat_map};
 ghost use Rattle.std.specs.Prelude.{◌≡◌, ◌⊎◌, ◌≤◌, ◌+◌, ◌*◌, ◌||◌, ℕ, [], List, drop, length, not, if◌then◌else◌, true, false};
 ghost use Rattle.arrayvec.specs.ArrayVec.{array_vec_len};
 ghost use Rattle.mcap_io.specs.Outside.{Rose};
-ghost use Rattle.command_base.specs.Texts.{complained};
+ghost use Rattle.command_base.specs.ComplaintTroubles.{complained};
 ghost use Rattle.command_base.specs.Ran.{first_failed, first_halts, told_of, troubles_of, Complains};
-ghost use Rattle.output_commands.specs.SomeOutput.{JoinEnding, input_limit, halts_in, is_limited, is_merge_lack, joined_findings, halted_lists, inputs_and_output, failed_of, some_failed, flags_of, PartsShow};
+ghost use Rattle.output_commands.specs.SomeOutput.{JoinEnding, halts_in, is_limited, is_merge_lack, joined_findings, inputs_and_output, failed_of, some_failed};
+ghost use Rattle.output_commands.specs.SomeOutputSteps.{input_limit, halted_lists, flags_of, PartsShow};
 
 use arrayvec::ArrayVec;
 use command_base::{Complaint, Counts, complain_of, due_when, rose};

@@ -1,9 +1,10 @@
 //! Which parts of the outside failed under a command that reads one file and writes another, and what is told of it.
 ghost use Rattle.std.specs.Prelude.{◌≡◌, ◌⊎◌, true, false};
 ghost use Rattle.mcap_io.specs.Outside.{Rose};
-ghost use Rattle.command_base.specs.Texts.{complained};
+ghost use Rattle.command_base.specs.ComplaintTroubles.{complained};
 ghost use Rattle.command_base.specs.Ran.{troubles_of, Complains};
-ghost use Rattle.output_commands.specs.OneOutput.{RewriteEnding, input_halt, is_output_limited, is_recovery_lack, rewritten_findings, input_and_output, failed_rewrite, FaultsShow};
+ghost use Rattle.output_commands.specs.OneOutput.{RewriteEnding, input_halt, is_output_limited, is_recovery_lack, rewritten_findings, input_and_output, failed_rewrite};
+ghost use Rattle.output_commands.specs.OneOutputSteps.{FaultsShow};
 
 use command_base::{Complaint, Counts, complain_of, due_when, rose};
 use mcap_io::{OpenRefused, Sink};

@@ -1,6 +1,6 @@
 //! The inputs of a command that reads several files: opened in their order, and taken back.
 ghost use Rattle.std.specs.Prelude.{◌≡◌, ◌≤◌, ◌<◌, [], length, map, vec_len, vec_capacity, IfOk, IfErr, OnOk, OnErr};
-ghost use Rattle.output_commands.specs.SomeInputs.{InputsOpened, InputOpeningRefused, OneKept, InputsKept, flags_with};
+ghost use Rattle.output_commands.specs.InputSteps.{InputsOpened, InputOpeningRefused, OneKept, InputsKept, flags_with};
 
 use command_base::has_failed;
 use mcap_io::{OpenRefused, Store, World};

@@ -3,12 +3,13 @@ ghost use Rattle.std.specs.Prelude.{◌≡◌, ◌≤◌, ◌<◌, ◌^◌, ℕ,
 ghost use Rattle.mcap_io.specs.Outside.{WorldState};
 ghost use Rattle.mcap_wire.specs.Limits.{chunk_size_limit};
 ghost use Rattle.command_base.specs.Printing.{Takes};
-ghost use Rattle.command_base.specs.Ran.{scene};
-ghost use Rattle.output_commands.specs.SomeInputs.{InputsOpened};
-ghost use Rattle.output_commands.specs.SomeOutput.{InputsAreFew, joined_text, halts_in, is_limited, is_merge_lack, halted_lists};
-ghost use Rattle.command_base.specs.Texts.{complained};
+ghost use Rattle.command_base.specs.Scenes.{scene};
+ghost use Rattle.output_commands.specs.InputSteps.{InputsOpened};
+ghost use Rattle.output_commands.specs.SomeOutput.{joined_text, halts_in, is_limited, is_merge_lack};
+ghost use Rattle.output_commands.specs.SomeOutputSteps.{InputsAreFew, halted_lists, NamesMerged};
+ghost use Rattle.command_base.specs.ComplaintTroubles.{complained};
 ghost use Rattle.command_base.specs.OneFile.{Ending as OneEnding, troubles_in};
-ghost use Rattle.output_commands.specs.Merge.{merging_of as came_to, unopened_so, name_at, ending_at, stop_ending, merge_ending, ending_of_merging, NamesMerged, MergesFiles};
+ghost use Rattle.output_commands.specs.Merge.{merging_of as came_to, unopened_so, name_at, ending_at, stop_ending, merge_ending, ending_of_merging, MergesFiles};
 
 use crate::blaming::{Halted, answer_inputs, failed_parts};
 use crate::failures::is_failed;

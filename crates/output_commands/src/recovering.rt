@@ -1,11 +1,12 @@
 //! Recovering what a file holds that may be cut or broken.
 ghost use Rattle.std.specs.Prelude.{◌≡◌, ◌≤◌, ◌<◌, ◌^◌, List, ℕ, true, false};
 ghost use Rattle.mcap_wire.specs.Limits.{chunk_size_limit};
-ghost use Rattle.command_base.specs.Texts.{complained};
+ghost use Rattle.command_base.specs.ComplaintTroubles.{complained};
 ghost use Rattle.command_base.specs.Printing.{Takes};
-ghost use Rattle.command_base.specs.Ran.{scene};
+ghost use Rattle.command_base.specs.Scenes.{scene};
 ghost use Rattle.output_commands.specs.OneOutput.{rewritten_text, input_halt, is_output_limited, is_recovery_lack};
-ghost use Rattle.output_commands.specs.Recover.{recovery_of as came_to, unopened_recovery, ending_of_recovery, NamesRecovered, RecoversFile};
+ghost use Rattle.output_commands.specs.Recover.{recovery_of as came_to, ending_of_recovery, RecoversFile};
+ghost use Rattle.output_commands.specs.OneOutputSteps.{unopened_recovery, NamesRecovered};
 
 use crate::failures::{answer_output, failures_of, is_failed};
 use crate::recovered_line::line_of_recovered;

@@ -3,8 +3,8 @@ use Rattle.std.proofs.Common.{◌≡◌, ℕ, ◌+◌, ◌^◌, ◌<◌, ◌≤�
 use Rattle.std.specs.Prelude.{All, ◌↔◌, Result, Ok, Err, IfErr, OnErr}
 use Rattle.std.proofs.lemmas.List.{length-append, drop_all, drop_at}
 use Rattle.mcap_wire.specs.declared.faults.Why.{Why}
-use Rattle.mcap_wire.specs.Layout.{le, number, string}
-use Rattle.mcap_wire.specs.Reading.{NumberAt, TextAt, BytesAt}
+use Rattle.mcap_wire.specs.Layout.{le, number, string, NumberAt}
+use Rattle.mcap_wire.specs.Reading.{TextAt, BytesAt}
 use Rattle.mcap_wire.specs.Contents.{a_number, a_text, some_bytes, row, RowBegins}
 use Rattle.mcap_wire.proofs.Numbers.{length-le}
 use Rattle.mcap_wire.proofs.Contents.{begins, begins_end, begins_decided, not_refused, refused}
@@ -13,7 +13,8 @@ use Rattle.rec_data.specs.Laws.{IsMessageContent}
 use Rattle.mcap_wire.proofs.Framing.{length-string, are_bytes}
 use Rattle.mcap_wire.specs.declared.faults.Bad.{Bad}
 use Rattle.rec_data.specs.Fields.{HeaderFields, FooterFields, SchemaFields, MessageFields, AttachmentFields}
-use Rattle.rec_data.specs.Records.{CrcStandsAt, header_kinds, header_values, header_text, ShowsHeader, HeaderFails, footer_kinds, footer_values, footer_text, ShowsFooter, FooterFails, data_end_kinds, data_end_values, data_end_text, ShowsDataEnd, DataEndFails, schema_kinds, schema_values, ShowsSchema, SchemaFails, attachment_kinds, attachment_values, ShowsAttachment, AttachmentFails, message_kinds, message_values, message_text, ShowsMessage, MessageFails}
+use Rattle.rec_data.specs.Records.{CrcStandsAt, header_kinds, header_values, header_text, ShowsHeader, footer_kinds, footer_values, footer_text, ShowsFooter, data_end_kinds, data_end_values, data_end_text, ShowsDataEnd, schema_kinds, schema_values, ShowsSchema, attachment_kinds, attachment_values, ShowsAttachment, message_kinds, message_values, message_text, ShowsMessage}
+use Rattle.rec_data.specs.RecordReading.{HeaderFails, FooterFails, DataEndFails, SchemaFails, AttachmentFails, MessageFails}
 
 -- ---- Header
 

@@ -5,7 +5,8 @@ use Rattle.mcap_wire.proofs.Contents.{not_refused}
 use Rattle.mcap_wire.proofs.Contents.{refused}
 use Rattle.mcap_wire.specs.declared.faults.Bad.{Bad}
 use Rattle.rec_data.specs.Fields.{ChannelFields, MetadataFields}
-use Rattle.rec_data.specs.Records.{channel_kinds, channel_values, ShowsChannel, ChannelFails, metadata_kinds, metadata_values, ShowsMetadata, MetadataFails}
+use Rattle.rec_data.specs.Records.{channel_kinds, channel_values, ShowsChannel, metadata_kinds, metadata_values, ShowsMetadata}
+use Rattle.rec_data.specs.RecordReading.{ChannelFails, MetadataFails}
 
 -- ---- Channel
 

@@ -15,7 +15,8 @@ use Rattle.rec_data.specs.declared.owned.RecRefused.{RecRefused}
 use Rattle.rec_data.specs.declared.owned.RecRefused.TheVariants.{Bad, Memory}
 use Rattle.rec_data.specs.Fields.{SchemaFields, ChannelFields, MessageFields}
 use Rattle.rec_data.specs.Records.{schema_kinds, schema_values, ShowsSchema, channel_kinds, channel_values, ShowsChannel, ShowsMessage}
-use Rattle.rec_data.specs.Owned.{def_fields, rec_opcode, rec_text, rec_bytes, RecFits, ShowsRec, IsFramed, ContentRead, Unframed, FramedRead}
+use Rattle.rec_data.specs.Owned.{def_fields, rec_opcode, rec_text, rec_bytes, RecFits, ShowsRec}
+use Rattle.rec_data.specs.OwnedReading.{IsFramed, ContentRead, Unframed, FramedRead}
 use Rattle.rec_data.proofs.Contents.{message_decided}
 
 -- ---- what a content shows

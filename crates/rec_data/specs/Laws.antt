@@ -4,8 +4,10 @@ use Rattle.mcap_wire.specs.declared.faults.Why.{Why}
 use Rattle.mcap_wire.specs.Layout.{le}
 use Rattle.rec_data.specs.declared.owned.Rec.{Rec}
 use Rattle.rec_data.specs.Fields.{FooterFields, MessageFields}
-use Rattle.rec_data.specs.Records.{message_text, ShowsMessage, footer_text, ShowsFooter, FooterFails}
-use Rattle.rec_data.specs.Owned.{RecFits, rec_bytes, IsFramed}
+use Rattle.rec_data.specs.Records.{message_text, ShowsMessage, footer_text, ShowsFooter}
+use Rattle.rec_data.specs.RecordReading.{FooterFails}
+use Rattle.rec_data.specs.Owned.{RecFits, rec_bytes}
+use Rattle.rec_data.specs.OwnedReading.{IsFramed}
 
 pub record FootersReadBack : Type 0 where
   pub shown : (f : FooterFields) → f.summary_start < 2 ^ 64 → f.summary_offset_start < 2 ^ 64 → f.summary_crc < 2 ^ 32

@@ -1,5 +1,9 @@
+-- What the promise of the program reaches, in the order to read it.
 pub mod Fields
 pub mod Records
-pub mod Parsed
 pub mod Owned
+-- What the functions of this crate and its proofs say besides.
+pub mod RecordReading
+pub mod Parsed
+pub mod OwnedReading
 pub mod Laws

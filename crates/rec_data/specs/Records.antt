@@ -1,18 +1,13 @@
--- The contents of the records, and why one can't be read.
-use Rattle.std.specs.Prelude.{◌≡◌, ◌⊎◌, ℕ, ◌+◌, ◌<◌, List, [], ◌∷◌, length}
-use Rattle.mcap_wire.specs.declared.faults.Why.{Why}
-use Rattle.mcap_wire.specs.declared.faults.Why.TheVariants.{BadLength}
-use Rattle.mcap_wire.specs.Reading.{NumberAt}
-use Rattle.mcap_wire.specs.Contents.{Kind, a_number, a_text, some_bytes, a_text_map, Values, row, RowBegins, ShowsRow, Fails}
+-- The contents of the records.
+use Rattle.std.specs.Prelude.{◌≡◌, ℕ, ◌+◌, List, [], ◌∷◌, length}
+use Rattle.mcap_wire.specs.Layout.{NumberAt}
+use Rattle.mcap_wire.specs.Contents.{Kind, a_number, a_text, some_bytes, a_text_map, Values, row, RowBegins, ShowsRow}
 use Rattle.rec_data.specs.Fields.{HeaderFields, FooterFields, SchemaFields, ChannelFields, MessageFields, AttachmentFields, MetadataFields}
 
 -- ---- the opcodes
 
 abbrev pub header_opcode : ℕ
 header_opcode = 1
-
-abbrev pub footer_opcode : ℕ
-footer_opcode = 2
 
 abbrev pub schema_opcode : ℕ
 schema_opcode = 3
@@ -22,12 +17,6 @@ channel_opcode = 4
 
 abbrev pub message_opcode : ℕ
 message_opcode = 5
-
-abbrev pub attachment_opcode : ℕ
-attachment_opcode = 9
-
-abbrev pub metadata_opcode : ℕ
-metadata_opcode = 12
 
 abbrev pub data_end_opcode : ℕ
 data_end_opcode = 15
@@ -48,10 +37,6 @@ header_text f = row header_kinds (header_values f) []
 abbrev pub ShowsHeader : List ℕ → HeaderFields → Type 0
 ShowsHeader content f = ShowsRow header_kinds content (header_values f)
 
--- the first of its fields that can't be read
-abbrev pub HeaderFails : List ℕ → ℕ → Why → Type 0
-HeaderFails content field why = Fails header_kinds content field why
-
 -- ---- Footer
 
 abbrev pub footer_kinds : List Kind
@@ -67,11 +52,6 @@ footer_text f = row footer_kinds (footer_values f) []
 -- a content is these fields, with nothing behind them
 abbrev pub ShowsFooter : List ℕ → FooterFields → Type 0
 ShowsFooter content f = RowBegins footer_kinds content (footer_values f) []
-
--- the first of its fields that can't be read, or, at field 4, bytes behind all three
-abbrev pub FooterFails : List ℕ → ℕ → Why → Type 0
-FooterFails content field why = Fails footer_kinds content field why
-    ⊎ ((field ≡ 4) × (20 < length content) × (why ≡ BadLength))
 
 -- ---- Data End
 
@@ -89,10 +69,6 @@ data_end_text data_section_crc = row data_end_kinds (data_end_values data_sectio
 abbrev pub ShowsDataEnd : List ℕ → ℕ → Type 0
 ShowsDataEnd content data_section_crc = ShowsRow data_end_kinds content (data_end_values data_section_crc)
 
--- the number is cut short
-abbrev pub DataEndFails : List ℕ → ℕ → Why → Type 0
-DataEndFails content field why = Fails data_end_kinds content field why
-
 -- ---- Schema
 
 abbrev pub schema_kinds : List Kind
@@ -108,10 +84,6 @@ schema_text id f = row schema_kinds (schema_values id f) []
 -- a content shows this id and these fields, whatever follows them
 abbrev pub ShowsSchema : List ℕ → ℕ → SchemaFields → Type 0
 ShowsSchema content id f = ShowsRow schema_kinds content (schema_values id f)
-
--- the first of its fields that can't be read
-abbrev pub SchemaFails : List ℕ → ℕ → Why → Type 0
-SchemaFails content field why = Fails schema_kinds content field why
 
 -- ---- Channel
 
@@ -129,10 +101,6 @@ channel_text id f = row channel_kinds (channel_values id f) []
 abbrev pub ShowsChannel : List ℕ → ℕ → ChannelFields → Type 0
 ShowsChannel content id f = ShowsRow channel_kinds content (channel_values id f)
 
--- the first of its fields that can't be read
-abbrev pub ChannelFails : List ℕ → ℕ → Why → Type 0
-ChannelFails content field why = Fails channel_kinds content field why
-
 -- ---- Metadata
 
 abbrev pub metadata_kinds : List Kind
@@ -141,17 +109,9 @@ metadata_kinds = a_text ∷ a_text_map ∷ []
 abbrev pub metadata_values : MetadataFields → Values metadata_kinds
 metadata_values f = (f.name, (f.metadata, tt))
 
--- the content of a Metadata
-abbrev pub metadata_text : MetadataFields → List ℕ
-metadata_text f = row metadata_kinds (metadata_values f) []
-
 -- a content shows these fields, whatever follows them
 abbrev pub ShowsMetadata : List ℕ → MetadataFields → Type 0
 ShowsMetadata content f = ShowsRow metadata_kinds content (metadata_values f)
-
--- the first of its fields that can't be read
-abbrev pub MetadataFails : List ℕ → ℕ → Why → Type 0
-MetadataFails content field why = Fails metadata_kinds content field why
 
 -- ---- Message
 
@@ -170,10 +130,6 @@ message_text channel_id f = row message_kinds (message_values channel_id f) f.pa
 abbrev pub ShowsMessage : List ℕ → ℕ → MessageFields → Type 0
 ShowsMessage content channel_id f = RowBegins message_kinds content (message_values channel_id f) f.payload
 
--- the first of its fields that is cut short
-abbrev pub MessageFails : List ℕ → ℕ → Why → Type 0
-MessageFails content field why = Fails message_kinds content field why
-
 -- ---- Attachment
 
 abbrev pub attachment_kinds : List Kind
@@ -182,24 +138,12 @@ attachment_kinds = a_number 8 ∷ a_number 8 ∷ a_text ∷ a_text ∷ some_byte
 abbrev pub attachment_values : AttachmentFields → Values attachment_kinds
 attachment_values f = (f.log_time, (f.create_time, (f.name, (f.media_type, (f.payload, (f.crc, tt))))))
 
--- the content of an Attachment
-abbrev pub attachment_text : AttachmentFields → List ℕ
-attachment_text f = row attachment_kinds (attachment_values f) []
-
 -- a content shows these fields, whatever follows them
 abbrev pub ShowsAttachment : List ℕ → AttachmentFields → Type 0
 ShowsAttachment content f = ShowsRow attachment_kinds content (attachment_values f)
-
--- the first of its fields that can't be read
-abbrev pub AttachmentFails : List ℕ → ℕ → Why → Type 0
-AttachmentFails content field why = Fails attachment_kinds content field why
 
 -- a content shows an Attachment whose CRC stands at this place, behind its other fields
 pub record CrcStandsAt (content : List ℕ) (place : ℕ) (f : AttachmentFields) : Type 0 where
   pub shows : ShowsAttachment content f
   pub behind : place ≡ 32 + length f.name + length f.media_type + length f.payload
   pub stands : NumberAt 4 content place f.crc (place + 4)
-
--- a content shows some Attachment whose CRC stands at this place
-abbrev pub HasCrcAt : List ℕ → ℕ → Type 0
-HasCrcAt content place = (f : AttachmentFields) × CrcStandsAt content place f

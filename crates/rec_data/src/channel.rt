@@ -5,7 +5,8 @@ ghost use Rattle.mcap_wire.specs.Maps.{pair_texts};
 ghost use Rattle.mcap_wire.specs.Writing.{LacksRoom};
 ghost use Rattle.rec_data.specs.Fields.{ChannelFields};
 ghost use Rattle.rec_data.specs.Parsed.{channel_fields};
-ghost use Rattle.rec_data.specs.Records.{channel_opcode, channel_text, ShowsChannel, ChannelFails};
+ghost use Rattle.rec_data.specs.Records.{channel_opcode, channel_text, ShowsChannel};
+ghost use Rattle.rec_data.specs.RecordReading.{ChannelFails};
 
 use crate::opcodes::CHANNEL;
 use crate::schema::SchemaDef;

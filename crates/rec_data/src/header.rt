@@ -4,7 +4,8 @@ ghost use Rattle.mcap_wire.specs.Layout.{framed};
 ghost use Rattle.mcap_wire.specs.Writing.{LacksRoom};
 ghost use Rattle.rec_data.specs.Fields.{HeaderFields};
 ghost use Rattle.rec_data.specs.Parsed.{header_fields};
-ghost use Rattle.rec_data.specs.Records.{header_opcode, header_text, ShowsHeader, HeaderFails};
+ghost use Rattle.rec_data.specs.Records.{header_opcode, header_text, ShowsHeader};
+ghost use Rattle.rec_data.specs.RecordReading.{HeaderFails};
 
 use crate::opcodes::HEADER;
 use mcap_wire::{Bad, Memory, add_head, add_text, at_field, make_room, take_text};

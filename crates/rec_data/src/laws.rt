@@ -1,5 +1,5 @@
 //! What is framed is read back, and a content shows one record: each law as the contract of a function that does nothing.
-ghost use Rattle.mcap_wire.specs.Contents.{RowReadsBack};
+ghost use Rattle.mcap_wire.specs.ContentReading.{RowReadsBack};
 ghost use Rattle.rec_data.specs.Records.{header_kinds, data_end_kinds, schema_kinds, channel_kinds, attachment_kinds, metadata_kinds};
 ghost use Rattle.rec_data.specs.Laws.{FootersReadBack, MessagesReadBack, MessagesAreLongEnough, MessagesChangeChannel, RecsReadBack};
 

@@ -4,7 +4,8 @@ ghost use Rattle.mcap_wire.specs.Layout.{le, framed};
 ghost use Rattle.mcap_wire.specs.Writing.{LacksRoom};
 ghost use Rattle.rec_data.specs.Fields.{MessageFields};
 ghost use Rattle.rec_data.specs.Parsed.{message_fields};
-ghost use Rattle.rec_data.specs.Records.{message_opcode, message_text, ShowsMessage, MessageFails};
+ghost use Rattle.rec_data.specs.Records.{message_opcode, message_text, ShowsMessage};
+ghost use Rattle.rec_data.specs.RecordReading.{MessageFails};
 
 use crate::opcodes::MESSAGE;
 use byteorder::{ByteOrder, LittleEndian};

@@ -1,7 +1,8 @@
 //! Records that own what they hold: Schema, Channel and Message.
 ghost use Rattle.std.specs.Prelude.{◌≡◌, ◌≤◌, ◌++◌, length, vec_capacity, OnOk, OnErr};
 ghost use Rattle.mcap_wire.specs.Writing.{LacksRoom};
-ghost use Rattle.rec_data.specs.Owned.{rec_bytes, LengthsFit, ContentRead, Unframed, FramedRead};
+ghost use Rattle.rec_data.specs.Owned.{rec_bytes};
+ghost use Rattle.rec_data.specs.OwnedReading.{LengthsFit, ContentRead, Unframed, FramedRead};
 
 use crate::channel::Channel;
 use crate::message::Message;

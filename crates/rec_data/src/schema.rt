@@ -4,7 +4,8 @@ ghost use Rattle.mcap_wire.specs.Layout.{framed};
 ghost use Rattle.mcap_wire.specs.Writing.{LacksRoom};
 ghost use Rattle.rec_data.specs.Fields.{SchemaFields};
 ghost use Rattle.rec_data.specs.Parsed.{schema_fields};
-ghost use Rattle.rec_data.specs.Records.{schema_opcode, schema_text, ShowsSchema, SchemaFails};
+ghost use Rattle.rec_data.specs.Records.{schema_opcode, schema_text, ShowsSchema};
+ghost use Rattle.rec_data.specs.RecordReading.{SchemaFails};
 
 use crate::opcodes::SCHEMA;
 use mcap_wire::{

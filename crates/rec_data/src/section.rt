@@ -2,7 +2,8 @@
 ghost use Rattle.std.specs.Prelude.{◌≡◌, ◌≤◌, ℕ, ◌++◌, vec_capacity, IfOk, IfErr, OnOk, OnErr};
 ghost use Rattle.mcap_wire.specs.Layout.{framed};
 ghost use Rattle.mcap_wire.specs.Writing.{LacksRoom};
-ghost use Rattle.rec_data.specs.Records.{data_end_opcode, data_end_text, ShowsDataEnd, DataEndFails};
+ghost use Rattle.rec_data.specs.Records.{data_end_opcode, data_end_text, ShowsDataEnd};
+ghost use Rattle.rec_data.specs.RecordReading.{DataEndFails};
 
 use crate::opcodes::DATA_END;
 use mcap_wire::{Bad, Memory, add_head, add_u32, at_field, make_room, take_u32};

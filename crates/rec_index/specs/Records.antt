@@ -1,31 +1,7 @@
--- The contents of the records of the summary, and why one can't be read.
+-- The contents of the records of the summary.
 use Rattle.std.specs.Prelude.{ℕ, List, [], ◌∷◌}
-use Rattle.mcap_wire.specs.declared.faults.Why.{Why}
-use Rattle.mcap_wire.specs.Contents.{Kind, a_number, a_text, some_bytes, an_array, a_count_map, Values, row, ShowsRow, Fails}
+use Rattle.mcap_wire.specs.Contents.{Kind, a_number, a_text, some_bytes, an_array, a_count_map, Values, row, ShowsRow}
 use Rattle.rec_index.specs.Fields.{ChunkFields, ChunkIndexFields, AttachmentIndexFields, MetadataIndexFields, StatisticsFields, SummaryOffsetFields}
-
--- ---- the opcodes
-
-abbrev pub chunk_opcode : ℕ
-chunk_opcode = 6
-
-abbrev pub message_index_opcode : ℕ
-message_index_opcode = 7
-
-abbrev pub chunk_index_opcode : ℕ
-chunk_index_opcode = 8
-
-abbrev pub attachment_index_opcode : ℕ
-attachment_index_opcode = 10
-
-abbrev pub statistics_opcode : ℕ
-statistics_opcode = 11
-
-abbrev pub metadata_index_opcode : ℕ
-metadata_index_opcode = 13
-
-abbrev pub summary_offset_opcode : ℕ
-summary_offset_opcode = 14
 
 -- ---- Summary Offset
 
@@ -43,10 +19,6 @@ summary_offset_text f = row summary_offset_kinds (summary_offset_values f) []
 abbrev pub ShowsSummaryOffset : List ℕ → SummaryOffsetFields → Type 0
 ShowsSummaryOffset content f = ShowsRow summary_offset_kinds content (summary_offset_values f)
 
--- the first of its fields that can't be read
-abbrev pub SummaryOffsetFails : List ℕ → ℕ → Why → Type 0
-SummaryOffsetFails content field why = Fails summary_offset_kinds content field why
-
 -- ---- Metadata Index
 
 abbrev pub metadata_index_kinds : List Kind
@@ -62,10 +34,6 @@ metadata_index_text f = row metadata_index_kinds (metadata_index_values f) []
 -- a content shows these fields, whatever follows them
 abbrev pub ShowsMetadataIndex : List ℕ → MetadataIndexFields → Type 0
 ShowsMetadataIndex content f = ShowsRow metadata_index_kinds content (metadata_index_values f)
-
--- the first of its fields that can't be read
-abbrev pub MetadataIndexFails : List ℕ → ℕ → Why → Type 0
-MetadataIndexFails content field why = Fails metadata_index_kinds content field why
 
 -- ---- Attachment Index
 
@@ -83,10 +51,6 @@ attachment_index_text f = row attachment_index_kinds (attachment_index_values f)
 abbrev pub ShowsAttachmentIndex : List ℕ → AttachmentIndexFields → Type 0
 ShowsAttachmentIndex content f = ShowsRow attachment_index_kinds content (attachment_index_values f)
 
--- the first of its fields that can't be read
-abbrev pub AttachmentIndexFails : List ℕ → ℕ → Why → Type 0
-AttachmentIndexFails content field why = Fails attachment_index_kinds content field why
-
 -- ---- Chunk
 
 abbrev pub chunk_kinds : List Kind
@@ -102,10 +66,6 @@ chunk_text f = row chunk_kinds (chunk_values f) []
 -- a content shows these fields, whatever follows them
 abbrev pub ShowsChunk : List ℕ → ChunkFields → Type 0
 ShowsChunk content f = ShowsRow chunk_kinds content (chunk_values f)
-
--- the first of its fields that can't be read
-abbrev pub ChunkFails : List ℕ → ℕ → Why → Type 0
-ChunkFails content field why = Fails chunk_kinds content field why
 
 -- ---- Message Index
 
@@ -127,10 +87,6 @@ abbrev pub ShowsMessageIndex : List ℕ → ℕ → List (ℕ × ℕ) → Type 0
 ShowsMessageIndex content channel_id entries =
     ShowsRow message_index_kinds content (message_index_values channel_id entries)
 
--- the first of its fields that can't be read
-abbrev pub MessageIndexFails : List ℕ → ℕ → Why → Type 0
-MessageIndexFails content field why = Fails message_index_kinds content field why
-
 -- ---- Chunk Index
 
 abbrev pub chunk_index_kinds : List Kind
@@ -147,10 +103,6 @@ chunk_index_text f = row chunk_index_kinds (chunk_index_values f) []
 abbrev pub ShowsChunkIndex : List ℕ → ChunkIndexFields → Type 0
 ShowsChunkIndex content f = ShowsRow chunk_index_kinds content (chunk_index_values f)
 
--- the first of its fields that can't be read
-abbrev pub ChunkIndexFails : List ℕ → ℕ → Why → Type 0
-ChunkIndexFails content field why = Fails chunk_index_kinds content field why
-
 -- ---- Statistics
 
 abbrev pub statistics_kinds : List Kind
@@ -166,7 +118,3 @@ statistics_text f = row statistics_kinds (statistics_values f) []
 -- a content shows these fields, whatever follows them
 abbrev pub ShowsStatistics : List ℕ → StatisticsFields → Type 0
 ShowsStatistics content f = ShowsRow statistics_kinds content (statistics_values f)
-
--- the first of its fields that can't be read
-abbrev pub StatisticsFails : List ℕ → ℕ → Why → Type 0
-StatisticsFails content field why = Fails statistics_kinds content field why

@@ -1,5 +1,5 @@
 //! What is framed is read back, a content shows one record at most, and one that is refused shows none: each law as the contract of a function that does nothing.
-ghost use Rattle.mcap_wire.specs.Contents.{RowReadsBack};
+ghost use Rattle.mcap_wire.specs.ContentReading.{RowReadsBack};
 ghost use Rattle.rec_index.specs.Records.{summary_offset_kinds, metadata_index_kinds, attachment_index_kinds, chunk_kinds, message_index_kinds, chunk_index_kinds, statistics_kinds};
 
 /// A Summary Offset that is framed is read back, and no content shows two.

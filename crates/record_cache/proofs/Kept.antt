@@ -17,7 +17,8 @@ use Rattle.rec_data.specs.Owned.{rec_opcode, rec_text, rec_bytes}
 use Rattle.mcap_model.specs.History.{history_bytes}
 use Rattle.record_cache.specs.Reading.{records_shown}
 use Rattle.byte_region.specs.Regions.{RegionView, empty_region}
-use Rattle.record_cache.specs.Buffers.{IsKept, Buffer, buffer_of, IsBuffer, HasRecordRoom}
+use Rattle.record_cache.specs.Buffers.{Buffer, buffer_of, IsBuffer, HasRecordRoom}
+use Rattle.record_cache.specs.KeptRecords.{IsKept}
 use Rattle.record_cache.specs.Offers.{Offered, StartsAt, StandsThere}
 use Rattle.record_cache.proofs.Readback.{records_read}
 

@@ -14,7 +14,7 @@ use Rattle.rec_data.specs.Records.{schema_text, channel_text, message_text}
 use Rattle.mcap_model.specs.History.{history_bytes}
 use Rattle.mcap_model.proofs.Unpacking.{number_first}
 use Rattle.record_cache.specs.Reading.{first_text, bytes_behind_text, pairs_within, schema_read, map_read, channel_read, message_read, record_read, records_within, records_shown}
-use Rattle.record_cache.specs.Buffers.{IsKept}
+use Rattle.record_cache.specs.KeptRecords.{IsKept}
 
 -- ---- numbers and texts
 

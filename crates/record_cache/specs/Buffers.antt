@@ -1,16 +1,12 @@
 -- What a buffer of records is to its callers.
 use Rattle.std.specs.Prelude.{◌≡◌, ℕ, ◌+◌, ◌≤◌, List, ◌++◌, length, All}
 use Rattle.byte_region.specs.Regions.{RegionView}
-use Rattle.mcap_wire.specs.Limits.{buffer_limit, record_limit}
+use Rattle.mcap_wire.specs.RecordingLimits.{buffer_limit}
+use Rattle.mcap_wire.specs.Limits.{record_limit}
 use Rattle.rec_data.specs.declared.owned.Rec.{Rec}
-use Rattle.rec_data.specs.Owned.{rec_bytes, RecFits}
 use Rattle.mcap_model.specs.History.{history_bytes}
 use Rattle.record_cache.specs.Reading.{records_shown}
-
--- a record that a buffer may keep
-pub record IsKept (r : Rec) : Type 0 where
-  pub fits : RecFits r
-  pub short : length (rec_bytes r) ≤ record_limit
+use Rattle.record_cache.specs.KeptRecords.{IsKept}
 
 -- How many bytes a buffer may hold before it is full, and its records.
 pub record Buffer : Type 0 where

@@ -1,7 +1,8 @@
 //! Records that are borrowed.
 ghost use Rattle.std.specs.Prelude.{◌≡◌, ◌≤◌, ◌++◌, length, vec_capacity, OnOk, OnErr};
 ghost use Rattle.mcap_wire.specs.Writing.{LacksRoom};
-ghost use Rattle.rec_data.specs.Owned.{rec_bytes, LengthsFit};
+ghost use Rattle.rec_data.specs.Owned.{rec_bytes};
+ghost use Rattle.rec_data.specs.OwnedReading.{LengthsFit};
 ghost use Rattle.record_cache.specs.Offers.{rec_of};
 
 use byte_region::Encode;
@@ -34,7 +35,8 @@ impl<'a> RecRef<'a> {
 }
 
 impl<'a> Encode for RecRef<'a> {
-    ghost use Rattle.rec_data.specs.Owned.{rec_bytes, LengthsFit};
+    ghost use Rattle.rec_data.specs.Owned.{rec_bytes};
+    ghost use Rattle.rec_data.specs.OwnedReading.{LengthsFit};
     ghost use Rattle.record_cache.specs.Offers.{rec_of};
 
     ghost is_sound = { λ r. LengthsFit (rec_of r) };

@@ -16,7 +16,8 @@ use Rattle.command_base.specs.Texts.{status_of}
 use Rattle.record_command.specs.ReportTexts.{file_line, printed, feed_lines}
 use Rattle.record_command.specs.Answer.{feed_flags, PartFailed, LacksMemory, RecordingFaultsShow, Answers}
 use Rattle.command_base.specs.Ran.{Scene, counts_in, AnyRose, has_failed, IsCaused, Blames, Failed, blamed_names, named_when, troubles_of}
-use Rattle.record_command.specs.Record.{feeds_and_output, failed_feeds, any_failed, report_text, reports_in, recording_findings, end_status, worst, LackIsTold, StatusFollows, limit_was_passed, Records, NamesRecorded}
+use Rattle.record_command.specs.Record.{feeds_and_output, failed_feeds, any_failed, report_text, reports_in, recording_findings, end_status, worst, LackIsTold, StatusFollows, limit_was_passed, Records}
+use Rattle.record_command.specs.RecordSteps.{NamesRecorded}
 use Rattle.record_command.proofs.Statuses.{any, status_of_due, status_not_two, some_part, no_part, where_lacked, where_enough}
 use Rattle.record_command.proofs.Flags.{flags_long, every_caused, each_blamed, some_blamed, none_behind, Showing, outcomes_show}
 use Rattle.record_command.proofs.Whole.{read_of, as_many, decided, whole}

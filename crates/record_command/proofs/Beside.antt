@@ -4,7 +4,8 @@ use Rattle.std.specs.List.{sum}
 use Rattle.std.proofs.lemmas.Bool.{cases_order}
 use Rattle.std.proofs.lemmas.List.{append-nil}
 use Rattle.std.proofs.lemmas.Option.{same_Some}
-use Rattle.mcap_io.specs.Outside.{HasCause, Opens, OpenCause, CountsStand, added, Opening, Told, Names, opened, with_opening, went_well, SourceState, SinkState, LiveState, WorldState, KeepsLive, PlacedUnder, NoneIsOut}
+use Rattle.mcap_io.specs.Outside.{added, Opening, Told, Names, opened, SourceState, SinkState, LiveState, WorldState}
+use Rattle.mcap_io.specs.OutsideCalls.{HasCause, Opens, OpenCause, CountsStand, with_opening, went_well, KeepsLive, PlacedUnder, NoneIsOut}
 use Rattle.mcap_io.specs.declared.outside.Failed.{Failed}
 use Rattle.mcap_io.specs.declared.outside.ObjectKind.{ObjectKind}
 use Rattle.mcap_io.specs.declared.outside.ObjectKind.TheVariants as kinds
@@ -20,7 +21,8 @@ use Rattle.command_base.proofs.Counting.{added_none, kept_adds}
 use Rattle.command_base.proofs.Opened.{tells_more}
 use Rattle.record_command.specs.Record.{FeedKept, feed_entry, live_entry}
 use Rattle.record_command.specs.Sources.{feed_given, with_feed_openings, FeedsKept}
-use Rattle.record_command.specs.Sinks.{SinkKept, sink_entry, sink_names, back_sinks, watch_faults, given_sink, AreOnce, SinkHolds, SinksOpened, SinksKept, ViewsLetGo, OutOpened}
+use Rattle.record_command.specs.Sinks.{SinkKept, sink_entry, sink_names, back_sinks, watch_faults, SinkHolds}
+use Rattle.record_command.specs.SinkSteps.{given_sink, AreOnce, SinksOpened, SinksKept, ViewsLetGo, OutOpened}
 use Rattle.record_command.proofs.Runs.{world_faults-append, input_faults-append, output_faults-append, sources_write_nothing, refusal_of}
 
 -- ---- lists of entries

@@ -5,9 +5,11 @@ use Rattle.std.proofs.lemmas.List.{append-nil, drop-drop}
 use Rattle.std.proofs.lemmas.Grind.{flat_map-append}
 use Rattle.feed_lane.specs.declared.report.FeedReport.{FeedReport}
 use Rattle.command_base.specs.declared.complaint.Complaint.{Complaint}
-use Rattle.command_base.specs.Texts.{Trouble, fault, complained}
+use Rattle.command_base.specs.Texts.{Trouble, fault}
+use Rattle.command_base.specs.ComplaintTroubles.{complained}
 use Rattle.command_base.specs.Ran.{when, first_halts, first_failed, told_of}
-use Rattle.record_command.specs.Record.{first_end, ends_of}
+use Rattle.record_command.specs.Record.{ends_of}
+use Rattle.record_command.specs.RecordSteps.{first_end}
 
 -- what is told behind the names
 pub told_behind : (names : List (List ℕ)) (halts : List (List Trouble)) (flags : List Bool) (behind : List Trouble) → told_of names halts flags behind ≡ told_of names halts flags [] ++ behind

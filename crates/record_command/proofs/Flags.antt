@@ -12,7 +12,8 @@ use Rattle.command_base.specs.Ran.{first_failed, has_failed, failed_so, kept_fai
 use Rattle.command_base.proofs.Counting.{failed_often}
 use Rattle.record_command.specs.declared.answering.Failures.{Failures}
 use Rattle.record_command.specs.declared.answering.Outcome.{Outcome}
-use Rattle.record_command.specs.Record.{any_failed, NamesRecorded}
+use Rattle.record_command.specs.Record.{any_failed}
+use Rattle.record_command.specs.RecordSteps.{NamesRecorded}
 use Rattle.record_command.proofs.Runs.{world_faults-append, input_faults-append, output_faults-append}
 use Rattle.record_command.specs.Answer.{feed_flags}
 

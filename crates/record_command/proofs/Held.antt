@@ -1,7 +1,8 @@
 -- What the output of a recording holds.
 use Rattle.std.proofs.Common.{◌≡◌, ◌⊎◌, ℕ, ◌≤◌, List, [], ◌∷◌, ◌++◌, length, map, take, Option, Some, Result, Ok, Err, refl, sym, ap, inl, inr, ◌∙◌, arith, length-append}
 use Rattle.std.proofs.lemmas.List.{append-nil}
-use Rattle.mcap_io.specs.Outside.{went_well, Names, PlacedUnder}
+use Rattle.mcap_io.specs.Outside.{Names}
+use Rattle.mcap_io.specs.OutsideCalls.{went_well, PlacedUnder}
 use Rattle.mcap_io.specs.declared.outside.Failed.{Failed}
 use Rattle.rec_data.specs.declared.owned.Rec.{Rec}
 use Rattle.mcap_model.specs.declared.ends.End.{End}
@@ -12,8 +13,7 @@ use Rattle.mcap_model.specs.File.{front, file_of, IsPrefix}
 use Rattle.mcap_model.specs.Pieces.{joined, back_of, file_pieces, pieces_before}
 use Rattle.mcap_model.proofs.Pieces.{pieces_make_files, stops_leave_prefixes}
 use Rattle.mcap_model.proofs.Prefixes.{begins_with}
-use Rattle.chunk_writer.specs.Stops.{numbers}
-use Rattle.chunk_writer.specs.Scribes.{Ends}
+use Rattle.chunk_writer.specs.Stops.{numbers, Ends}
 use Rattle.recorder.specs.Recorded.{end_answer, TookFront}
 use Rattle.recorder.specs.declared.report.WriterReport.{WriterReport}
 use Rattle.record_command.specs.Record.{OutputHolds}

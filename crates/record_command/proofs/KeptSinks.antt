@@ -5,7 +5,8 @@ use Rattle.std.specs.List.{fold, sum}
 use Rattle.std.specs.Option.{option_map}
 use Rattle.std.proofs.lemmas.List.{append-nil, reverse-append, map-append, take_more}
 use Rattle.std.proofs.lemmas.Option.{same_Some}
-use Rattle.mcap_io.specs.Outside.{WorldState, SinkState, Told, Names, Opening, CountsStand, TookNothingYet, NoneIsOut, with_opening, added, went_well, KeepsSink, KeepsName, HasCause, LetsViewGo}
+use Rattle.mcap_io.specs.Outside.{WorldState, SinkState, Told, Names, Opening, added}
+use Rattle.mcap_io.specs.OutsideCalls.{CountsStand, TookNothingYet, NoneIsOut, with_opening, went_well, KeepsSink, KeepsName, HasCause, LetsViewGo}
 use Rattle.mcap_io.specs.declared.outside.Failed.{Failed}
 use Rattle.mcap_io.specs.declared.outside.ObjectKind.TheVariants as kinds
 use Rattle.mcap_io.proofs.Notes.{noted_in}
@@ -15,7 +16,8 @@ use Rattle.command_base.specs.Ran.{failed_so}
 use Rattle.command_base.proofs.Counting.{kept_adds}
 use Rattle.command_base.proofs.Opened.{tells_more}
 use Rattle.record_command.specs.Sources.{with_feed_openings}
-use Rattle.record_command.specs.Sinks.{SinkKept, sink_keeping, sink_entry, sink_names, AreOnce, SinkHolds, given_sink, NoSinkOut, SinksOpened, PlacesSink, OneSinkKept, SinksKept, ViewsLetGo}
+use Rattle.record_command.specs.Sinks.{SinkKept, sink_keeping, sink_entry, sink_names, SinkHolds}
+use Rattle.record_command.specs.SinkSteps.{AreOnce, given_sink, NoSinkOut, SinksOpened, PlacesSink, OneSinkKept, SinksKept, ViewsLetGo}
 use Rattle.record_command.proofs.Sources.{each_push, some_told}
 
 -- ---- openings

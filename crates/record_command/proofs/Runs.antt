@@ -5,7 +5,8 @@ use Rattle.std.specs.Option.{option_map}
 use Rattle.std.proofs.lemmas.Option.{same_Some}
 use Rattle.std.proofs.lemmas.List.{append-nil, map-append, length-map}
 use Rattle.std.proofs.lemmas.Grind.{flat_map-append}
-use Rattle.mcap_io.specs.Outside.{HasCause, Opens, OpenCause, CountsStand, added, Opening, Keeping, Told, opened, with_opening, went_well, SourceState, LiveState, WorldState, TellsName, TellsNothingYet, KeepsLive, KeepsName, NoneIsOut, Names}
+use Rattle.mcap_io.specs.Outside.{added, Opening, Keeping, Told, opened, SourceState, LiveState, WorldState, TellsName, Names}
+use Rattle.mcap_io.specs.OutsideCalls.{HasCause, Opens, OpenCause, CountsStand, with_opening, went_well, TellsNothingYet, KeepsLive, KeepsName, NoneIsOut}
 use Rattle.mcap_io.specs.declared.outside.Failed.{Failed}
 use Rattle.mcap_io.specs.declared.outside.ObjectKind.{ObjectKind}
 use Rattle.mcap_io.specs.declared.outside.ObjectKind.TheVariants as kinds
@@ -20,7 +21,8 @@ use Rattle.recorder.specs.declared.report.Report.{Report}
 use Rattle.recorder.specs.Recorded.{sides, Recorded}
 use Rattle.record_command.specs.declared.answering.Outcome.{Outcome}
 use Rattle.command_base.specs.Ran.{Wanted, wanted, kept, refused, has_failed, failed_so, failed_names, blamed_among, blamed_names, named_when, input_faults, output_faults, world_faults, AreOpened, IsGivenLive}
-use Rattle.record_command.specs.Record.{feeds_and_output, failed_feeds, FeedKept, feed_entry, live_entry, feed_names_kept, back_sources, LeftUnderName, Reported, Unreported, NamesRecorded}
+use Rattle.record_command.specs.Record.{feeds_and_output, failed_feeds, FeedKept, feed_entry, live_entry, feed_names_kept, back_sources, LeftUnderName, Reported, Unreported}
+use Rattle.record_command.specs.RecordSteps.{NamesRecorded}
 use Rattle.record_command.specs.Sources.{feed_given, with_feed_openings, FeedsOpened, FeedRefused, NoSourceOut, FeedsKept, feed_flags_with}
 use Rattle.command_base.proofs.Counting.{added_none, kept_adds}
 use Rattle.command_base.proofs.Opened.{tells_more, not_missing, SameNames, leaves_same, holds_same, same_told}

@@ -4,7 +4,8 @@ use Rattle.std.specs.Prelude.{reverse}
 use Rattle.std.specs.List.{AllZip}
 use Rattle.std.specs.Option.{option_map}
 use Rattle.std.proofs.lemmas.List.{append-nil, reverse-append, map-append, take_more}
-use Rattle.mcap_io.specs.Outside.{WorldState, SourceState, Told, Opening, CountsStand, TellsName, NoneIsOut, with_opening}
+use Rattle.mcap_io.specs.Outside.{WorldState, SourceState, Told, Opening, TellsName}
+use Rattle.mcap_io.specs.OutsideCalls.{CountsStand, NoneIsOut, with_opening}
 use Rattle.mcap_io.specs.declared.outside.ObjectKind.TheVariants as kinds
 use Rattle.mcap_io.proofs.Notes.{noted_in}
 use Rattle.mcap_model.specs.Places.{Each}

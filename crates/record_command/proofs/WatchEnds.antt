@@ -14,8 +14,7 @@ use Rattle.mcap_model.specs.Places.{At, Each}
 use Rattle.mcap_model.proofs.Places.{at_none}
 use Rattle.live_entry.specs.declared.entry.Entry.{Entry}
 use Rattle.live_directory.specs.declared.front.Added.{Added}
-use Rattle.live_directory.specs.Published.{entries_of, end_of}
-use Rattle.live_directory.specs.Writing.{at_most_one}
+use Rattle.live_directory.specs.Published.{entries_of, end_of, at_most_one}
 use Rattle.watching.specs.declared.report.WatchReport.{WatchReport}
 use Rattle.watching.specs.declared.report.WatchEnd.{WatchEnd}
 use Rattle.watching.specs.declared.report.WatchEnd.TheVariants as watch_ends
@@ -25,7 +24,8 @@ use Rattle.watched_recording.specs.Watched.{Watch, WatchTells, AsksView, AsksVie
 use Rattle.command_base.specs.Ran.{has_failed, object_faults, world_faults}
 use Rattle.record_command.specs.Record.{any_failed}
 use Rattle.record_command.specs.Sinks.{SinkKept, sink_entry, back_sinks, sink_faults, watch_faults}
-use Rattle.record_command.specs.Watched.{FaultCause, IsCalm, EndsSo, view_faults, is_watch_fault, is_flaw, or_at, with_ends}
+use Rattle.record_command.specs.Watched.{FaultCause, IsCalm, EndsSo, view_faults, is_watch_fault, is_flaw, with_ends}
+use Rattle.record_command.specs.WatchedSteps.{or_at}
 use Rattle.record_command.proofs.Flags.{failing, told_object, or_first, or_second, which, some_more, AreKind, rest_kind}
 use Rattle.record_command.proofs.KeptSinks.{take_whole, sum_more}
 

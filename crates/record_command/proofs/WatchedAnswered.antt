@@ -22,8 +22,9 @@ use Rattle.record_command.specs.declared.watched_answer.WatchedFailures.{Watched
 use Rattle.record_command.specs.Record.{feed_entry, live_entry, reports_in, any_failed, worst, report_text, limit_was_passed, recording_passes_limit, lacks_memory, FeedHalts}
 use Rattle.record_command.specs.Answer.{feed_flags}
 use Rattle.record_command.specs.Sinks.{SinkKept, sink_entry}
-use Rattle.record_command.specs.Watched.{named, requested, reported_with, CountsBeside, ReportedBeside, NamesWatched, is_watch_fault, is_flaw}
-use Rattle.record_command.specs.WatchedAnswer.{watched_counts_in, AnyCountRose, is_memory_watch, some_flaw, lacks_beside, LackIsToldBeside, BlamesExactly, watch_flags_of, blamed_in, AnyPartFailed, WatchedPartsShow, LacksMemoryBeside, AnswersBeside, ends_status_beside, EndsBeside, RecordsAllBeside, RecordsWatched}
+use Rattle.record_command.specs.Watched.{named, requested, reported_with, CountsBeside, ReportedBeside, is_watch_fault, is_flaw}
+use Rattle.record_command.specs.WatchedSteps.{NamesWatched, some_flaw, watch_flags_of, blamed_in, AnyPartFailed, WatchedPartsShow, LacksMemoryBeside, AnswersBeside}
+use Rattle.record_command.specs.WatchedAnswer.{watched_counts_in, AnyCountRose, is_memory_watch, lacks_beside, LackIsToldBeside, BlamesExactly, ends_status_beside, EndsBeside, RecordsAllBeside, RecordsWatched}
 use Rattle.record_command.proofs.Runs.{input_faults-append, output_faults-append}
 use Rattle.record_command.proofs.Flags.{flags_long, every_caused}
 use Rattle.record_command.proofs.Parts.{shown_every, shown_some}

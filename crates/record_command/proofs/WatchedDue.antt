@@ -5,9 +5,11 @@ use Rattle.std.proofs.lemmas.List.{append-nil, drop-drop}
 use Rattle.std.proofs.lemmas.Grind.{flat_map-append}
 use Rattle.watching.specs.declared.report.WatchReport.{WatchReport}
 use Rattle.command_base.specs.declared.complaint.Complaint.{Complaint}
-use Rattle.command_base.specs.Texts.{Trouble, fault, complained}
+use Rattle.command_base.specs.Texts.{Trouble, fault}
+use Rattle.command_base.specs.ComplaintTroubles.{complained}
 use Rattle.command_base.specs.Ran.{when, first_halts, first_failed, told_of}
-use Rattle.record_command.specs.WatchedAnswer.{first_flaw, flaws_of}
+use Rattle.record_command.specs.WatchedAnswer.{flaws_of}
+use Rattle.record_command.specs.WatchedSteps.{first_flaw}
 
 -- ---- one watcher after another
 

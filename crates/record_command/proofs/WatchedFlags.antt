@@ -12,8 +12,8 @@ use Rattle.command_base.specs.Ran.{has_failed, object_faults, source_faults, liv
 use Rattle.record_command.specs.declared.watched_names.WatchedOutcome.{WatchedOutcome}
 use Rattle.record_command.specs.declared.watched_answer.WatchedFailures.{WatchedFailures}
 use Rattle.record_command.specs.Record.{any_failed}
-use Rattle.record_command.specs.Watched.{requested, NamesWatched, with_ends, watch_flags, is_watch_fault}
-use Rattle.record_command.specs.WatchedAnswer.{watch_flags_of}
+use Rattle.record_command.specs.Watched.{requested, with_ends, watch_flags, is_watch_fault}
+use Rattle.record_command.specs.WatchedSteps.{NamesWatched, watch_flags_of}
 use Rattle.record_command.proofs.Runs.{world_faults-append, input_faults-append, output_faults-append}
 use Rattle.record_command.proofs.Flags.{AreKind, rest_kind, long_of, some_has_input, some_has_output, world_has, inputs_have, outputs_have, stores_read_nothing, feeds_write_nothing, any_flag, some_more}
 

@@ -7,7 +7,7 @@ use Rattle.record_command.specs.declared.watched_answer.WatchedCounts.{WatchedCo
 use Rattle.record_command.specs.declared.watched_answer.WatchedFailures.{WatchedFailures}
 use Rattle.record_command.specs.declared.watched_names.WatchedOutcome.{WatchedOutcome}
 use Rattle.record_command.specs.Record.{any_failed}
-use Rattle.record_command.specs.WatchedAnswer.{WatchedPartsShow}
+use Rattle.record_command.specs.WatchedSteps.{WatchedPartsShow}
 use Rattle.record_command.proofs.Parts.{but, on_or_off, but_both, but_first, but_second, three, three_second, three_third, three_which, three_none, shown_every, shown_some, shown_which, shown_same}
 
 -- so every name is blamed, or none that the recording didn't tell of

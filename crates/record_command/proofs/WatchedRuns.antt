@@ -5,7 +5,8 @@ use Rattle.std.specs.List.{AllZip, list_any, sum}
 use Rattle.std.proofs.lemmas.Bool.{both_ways, false≢true}
 use Rattle.std.proofs.lemmas.List.{append-nil, map-append, length-map}
 use Rattle.std.proofs.lemmas.Option.{same_Some}
-use Rattle.mcap_io.specs.Outside.{Opening, Told, went_well, SourceState, SinkState, LiveState, WorldState, TellsName}
+use Rattle.mcap_io.specs.Outside.{Opening, Told, SourceState, SinkState, LiveState, WorldState, TellsName}
+use Rattle.mcap_io.specs.OutsideCalls.{went_well}
 use Rattle.mcap_io.specs.declared.outside.ObjectKind.{ObjectKind}
 use Rattle.mcap_io.specs.declared.outside.ObjectKind.TheVariants as kinds
 use Rattle.mcap_io.specs.declared.outside.OpenRefused.{OpenRefused}
@@ -20,22 +21,24 @@ use Rattle.live_directory.specs.declared.front.Added.{Added}
 use Rattle.chunk_writer.specs.Stops.{Cause}
 use Rattle.recorder.specs.declared.options.RecordOptions.{RecordOptions}
 use Rattle.recorder.specs.declared.report.Report.{Report}
-use Rattle.recorder.specs.Recorded.{Sides, sides, Recorded, AreFeeds}
-use Rattle.recorder.specs.Laws.{AreReadable}
+use Rattle.recorder.specs.Recorded.{Sides, sides, Recorded, AreFeeds, AreReadable}
 use Rattle.watching.specs.declared.report.WatchReport.{WatchReport}
 use Rattle.watching.specs.declared.report.WatchEnd.{WatchEnd}
 use Rattle.watching.specs.declared.report.WatchEnd.TheVariants as watch_ends
-use Rattle.watched_recording.specs.Watched.{Watch, IsWatched, RecordedWatched}
-use Rattle.watched_recording.specs.Files.{IsWatchedFile, WatchFilesAreTold}
+use Rattle.watched_recording.specs.Watched.{Watch, IsWatched}
+use Rattle.watched_recording.specs.WatchedSteps.{RecordedWatched, WatchFilesAreTold}
+use Rattle.watched_recording.specs.Files.{IsWatchedFile}
 use Rattle.command_words.specs.Commands.{NamesDiffer}
 use Rattle.command_base.specs.Ran.{Wanted, wanted, has_failed, failed_so, failed_names, named_when, object_faults, output_faults, world_faults, AreOpened, IsGivenLive}
 use Rattle.command_base.proofs.Counting.{not_risen}
 use Rattle.record_command.specs.declared.answering.Outcome.{Outcome}
 use Rattle.record_command.specs.declared.watched_names.WatchedOutcome.{WatchedOutcome}
-use Rattle.record_command.specs.Record.{feeds_and_output, any_failed, FeedKept, feed_entry, feed_names_kept, back_sources, LeftUnderName, NamesRecorded}
+use Rattle.record_command.specs.Record.{feeds_and_output, any_failed, FeedKept, feed_entry, feed_names_kept, back_sources, LeftUnderName}
+use Rattle.record_command.specs.RecordSteps.{NamesRecorded}
 use Rattle.record_command.specs.Sources.{feed_flags_with}
 use Rattle.record_command.specs.Sinks.{SinkKept, sink_entry, sink_names, back_sinks, sink_faults, watch_faults}
-use Rattle.record_command.specs.Watched.{requested, reported_with, wanted_names, IsWrittenBeside, EndsSo, view_faults, is_flaw, IsWatchedAlone, with_ends, watch_flags, ReportedBeside, UnreportedBeside, NamesWatched}
+use Rattle.record_command.specs.Watched.{requested, reported_with, wanted_names, IsWrittenBeside, EndsSo, view_faults, is_flaw, IsWatchedAlone, with_ends, watch_flags, ReportedBeside, UnreportedBeside}
+use Rattle.record_command.specs.WatchedSteps.{NamesWatched}
 use Rattle.record_command.proofs.Held.{Holds, holds, placed_holds, placed_nothing}
 use Rattle.record_command.proofs.Flags.{some_more, AreKind, rest_kind}
 use Rattle.record_command.proofs.Runs.{world_faults-append, input_faults-append, output_faults-append, sources_write_nothing, unused_count_nothing, each_both, each_none, each_alone, are_sources, left_all, opened_all, none_some, map_kept, names_same, or_nothing, has_there, refusal_of}

@@ -11,7 +11,8 @@ use Rattle.command_base.specs.Texts.{Trouble, fault, output_fault, output_limit,
 use Rattle.command_base.specs.Ran.{when, first_failed, told_of}
 use Rattle.record_command.specs.Record.{end_status, ends_of, reports_in, limit_was_passed, any_failed, worst}
 use Rattle.record_command.specs.Watched.{named, is_flaw}
-use Rattle.record_command.specs.WatchedAnswer.{Blamed, watch_troubles, flaws_of, some_flaw, watch_status, ends_status_beside, watched_troubles}
+use Rattle.record_command.specs.WatchedAnswer.{Blamed, watch_troubles, flaws_of, watch_status, ends_status_beside, watched_troubles}
+use Rattle.record_command.specs.WatchedSteps.{some_flaw}
 use Rattle.record_command.proofs.Statuses.{halts_ask, faults_ask, asked_told, halts_two, halts_three, halts_four, halts_five, halts_one, faults_two, faults_three, faults_four, faults_five, faults_one, picked, status_picks}
 
 -- ---- what the watchers ask for

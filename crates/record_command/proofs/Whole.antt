@@ -11,7 +11,8 @@ use Rattle.mcap_model.specs.declared.ends.Stop.TheVariants as stops
 use Rattle.mcap_model.specs.Places.{At, Each}
 use Rattle.mcap_model.proofs.Places.{at_none}
 use Rattle.mcap_model.specs.Tops.{Top, flat}
-use Rattle.mcap_model.specs.Kept.{Halt, reading_limits, at_end, grammar as breaks, compressed as names, beyond, Halts, SameHalt}
+use Rattle.mcap_model.specs.Kept.{Halt, reading_limits, at_end, grammar as breaks, compressed as names, beyond, Halts}
+use Rattle.mcap_model.specs.Readings.{SameHalt}
 use Rattle.mcap_model.proofs.Halting.{readings_halt_once}
 use Rattle.chunk_writer.specs.Stops.{Cause as WriterCause}
 use Rattle.feed_lane.specs.declared.report.FeedReport.{FeedReport}
@@ -24,7 +25,6 @@ use Rattle.feed_lane.specs.declared.report.Cause.{Cause}
 use Rattle.feed_lane.specs.declared.report.Cause.TheVariants as causes
 use Rattle.feed_lane.specs.Lanes.{LastFindsEnd as IntakeEnds, CauseFits}
 use Rattle.feed_lane.specs.Feeds.{FeedEnds, TakesMessages}
-use Rattle.feed_lane.specs.Steps.{goes_on}
 use Rattle.recorder.specs.declared.options.RecordOptions.{RecordOptions}
 use Rattle.recorder.specs.declared.report.Report.{Report}
 use Rattle.buffer_swap.specs.Shown.{ShownBy}
@@ -34,7 +34,7 @@ use Rattle.command_base.specs.declared.faults.Counts.{Counts}
 use Rattle.command_base.specs.Texts.{halt_status}
 use Rattle.command_base.specs.Ran.{Scene, counts_in, AnyRose, CountsKept, input_faults, output_faults}
 use Rattle.recorder.proofs.Unfull.{lossless_refuses_none_as_full}
-use Rattle.feed_lane.specs.Causes.{is_over, is_memory}
+use Rattle.feed_lane.specs.Causes.{is_over, is_memory, goes_on}
 use Rattle.record_command.specs.Record.{FeedKept, feed_entry, live_entry, back_sources, Reported, StatusFollows, worst, ends_status, IsAllRecorded, RecordsAll, FeedHalts, refusal_status, end_status, is_full, is_limit_end, feed_lacked_memory, writer_lacked_memory, recording_passes_limit, lacks_memory, limit_was_passed, LackIsTold}
 use Rattle.record_command.proofs.Runs.{input_faults-append, output_faults-append}
 use Rattle.record_command.proofs.Sources.{zip_long}

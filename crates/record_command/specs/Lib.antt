@@ -1,7 +1,12 @@
-pub mod Record
+-- What the promise of the program reaches, in the order to read it.
 pub mod ReportTexts
-pub mod Sources
-pub mod Answer
+pub mod Record
 pub mod Sinks
 pub mod Watched
 pub mod WatchedAnswer
+-- What the functions of this crate and its proofs say besides.
+pub mod RecordSteps
+pub mod Sources
+pub mod Answer
+pub mod SinkSteps
+pub mod WatchedSteps

@@ -3,7 +3,6 @@ use Rattle.std.specs.Prelude.{◌≡◌, ◌⊎◌, ◌↔◌, ◌≤◌, ◌||�
 use Rattle.std.specs.List.{list_any, AllZip}
 use Rattle.mcap_io.specs.Outside.{Rose, WorldState, SourceState, LiveState, Told, Keeping, Opening, TellsName}
 use Rattle.mcap_io.specs.declared.outside.ObjectKind.TheVariants as kinds
-use Rattle.mcap_wire.specs.Limits.{buffer_limit, chunk_size_limit, profile_limit}
 use Rattle.rec_data.specs.declared.owned.Rec.{Rec}
 use Rattle.mcap_model.specs.declared.ends.End.{End}
 use Rattle.mcap_model.specs.declared.ends.End.TheVariants as ends
@@ -27,28 +26,14 @@ use Rattle.recorder.specs.declared.report.Report.{Report}
 use Rattle.recorder.specs.declared.report.WriterReport.{WriterReport}
 use Rattle.recorder.specs.Recorded.{sides, Recorded}
 use Rattle.command_base.specs.declared.faults.Counts.{Counts}
-use Rattle.record_command.specs.declared.answering.Outcome.{Outcome}
 use Rattle.command_base.specs.Texts.{Trouble, output_limit, halt_status}
 use Rattle.command_base.specs.OneFile.{refusal_ending, troubles_in, is_lack}
-use Rattle.command_words.specs.Commands.{feed_limit}
 use Rattle.record_command.specs.ReportTexts.{printed}
-use Rattle.command_base.specs.Ran.{Scene, counts_in, AnyRose, Files, wanted, kept, AreOpened, Leaves, input_faults, output_faults, CountsKept, has_failed, failed_names, blamed_names, when, Findings, Failed, Ran}
+use Rattle.command_base.specs.Ran.{Scene, counts_in, AnyRose, Files, kept, input_faults, output_faults, when, Findings, Failed, Ran}
 
 -- the names of a recording
 abbrev pub feeds_and_output : List ℕ → List (List ℕ) → Files
 feeds_and_output out feeds = record { kind = kinds.Source; inputs = feeds; outputs = out ∷ [] }
-
--- the options of a recording are in their ranges: a buffer of 1 byte to 1 GiB, chunks of 1 byte to 64 MiB, and a profile of at
--- most 65,535 bytes
-pub record AreAllowed (options : RecordOptions) : Type 0 where
-  pub some : 1 ≤ options.limit
-  pub small : options.limit ≤ buffer_limit
-  pub size : (n : ℕ) → options.file.chunk ≡ Some n → (1 ≤ n) × (n ≤ chunk_size_limit)
-  pub short : length options.file.profile ≤ profile_limit
-
--- so many feeds are recorded at once
-abbrev pub AreFew : List (List ℕ) → Type 0
-AreFew feeds = (1 ≤ length feeds) × (length feeds ≤ feed_limit)
 
 -- ---- with a report
 
@@ -144,12 +129,7 @@ end_status feed_ends.Done = 0
 end_status (feed_ends.Refused why) = refusal_status why
 end_status feed_ends.Ended = 0
 
--- that of the feed of the first report
-abbrev pub first_end : List ℕ → List FeedReport → List Trouble
-first_end feed [] = []
-first_end feed (f ∷ fs) = end_troubles feed f.end
-
--- those of all feeds, in their order
+-- the ends of all feeds, in their order
 abbrev pub ends_of : List (List ℕ) → List FeedReport → List (List Trouble)
 ends_of [] reports = []
 ends_of (feed ∷ feeds) [] = []
@@ -285,24 +265,3 @@ pub record Records (options : RecordOptions) (out : List ℕ) (feeds : List (Lis
       → (AnyRose (counts_in old) (counts_in new) → ⊥) → lacked ≡ false → limit_was_passed report ≡ false → status ≡ worst (map halt_status halts)
   -- the status 0 says that all of the feeds was recorded
   pub whole : status ≡ 0 → (r : Report) × (report ≡ Some r) × RecordsAll options r
-
--- ---- what the opening, recording and keeping of all names did
-
-pub record NamesRecorded (options : RecordOptions) (out : List ℕ) (feeds : List (List ℕ)) (old new : WorldState) (outcome : Outcome) : Type 0 where
-  pub entries : List Opening
-  pub opened : AreOpened (wanted (feeds_and_output out feeds)) entries
-  pub leaves : Leaves old new entries
-  pub counts : CountsKept old new entries
-  pub reported : (r : Report) → outcome.report ≡ Some r → Reported options out feeds old new entries r
-  pub unreported : outcome.report ≡ None → Unreported out old new entries
-  pub spares : SparesOutput out feeds old new
-  -- the entries of the feeds failed so, and then that of the output, if it was reached
-  pub inputs : List Opening
-  pub outputs : List Opening
-  pub few : length inputs ≤ length feeds
-  pub parts : entries ≡ inputs ++ outputs
-  pub sources : Each (λ (entry : Opening). entry.kind ≡ kinds.Source) inputs
-  pub stores : Each (λ (entry : Opening). entry.kind ≡ kinds.Live) outputs
-  pub feeds_failed : outcome.feeds_failed.items ≡ map has_failed inputs
-  pub out_failed : outcome.out_failed ≡ list_any has_failed outputs
-  pub failed : failed_names entries ≡ blamed_names (feeds_and_output out feeds) (failed_feeds outcome.feeds_failed.items outcome.out_failed)

@@ -1,7 +1,8 @@
 -- What the openings and the keepings of the feeds of a recording do to a world.
 use Rattle.std.specs.Prelude.{◌≡◌, ℕ, ◌^◌, ◌<◌, List, [], ◌∷◌, ◌++◌, map, take, length, Bool, true, false, if◌then◌else◌, Some, Err}
 use Rattle.std.specs.List.{AllZip}
-use Rattle.mcap_io.specs.Outside.{WorldState, SourceState, Told, Keeping, Opening, Opens, OpenCause, CountsStand, TellsName, NoneIsOut, Notes, added, opened}
+use Rattle.mcap_io.specs.Outside.{WorldState, SourceState, Told, Keeping, Opening, TellsName, added, opened}
+use Rattle.mcap_io.specs.OutsideCalls.{Opens, OpenCause, CountsStand, NoneIsOut, Notes}
 use Rattle.mcap_io.specs.declared.outside.ObjectKind.TheVariants as kinds
 use Rattle.mcap_io.specs.declared.outside.OpenRefused.{OpenRefused}
 use Rattle.mcap_model.specs.Places.{At, Each}

@@ -1,23 +1,21 @@
 -- What a recording with watchers does to the names of the feeds, of the output and of the watch files, and what it came to.
-use Rattle.std.specs.Prelude.{◌≡◌, ◌⊎◌, ℕ, zero, suc, ◌+◌, ◌-◌, ◌^◌, ◌<◌, ◌≤◌, ◌||◌, List, [], ◌∷◌, ◌++◌, map, take, length, Bool, true, false, Option, Some, None}
-use Rattle.std.specs.List.{AllZip, list_any, sum, concat}
+use Rattle.std.specs.Prelude.{◌≡◌, ◌⊎◌, ℕ, ◌+◌, ◌≤◌, ◌||◌, List, [], ◌∷◌, ◌++◌, map, Bool, true, false, Option, Some, None}
+use Rattle.std.specs.List.{AllZip, sum, concat}
 use Rattle.mcap_io.specs.Outside.{Rose, RisesOnce, added, WorldState, SourceState, LiveState, Told, Opening, TellsName}
 use Rattle.mcap_io.specs.declared.outside.ObjectKind.TheVariants as kinds
 use Rattle.mcap_model.specs.declared.replay.Range.{Range}
 use Rattle.mcap_model.specs.Places.{Has, Each}
-use Rattle.live_directory.specs.Writing.{at_most_one}
+use Rattle.live_directory.specs.Published.{at_most_one}
 use Rattle.recorder.specs.declared.options.RecordOptions.{RecordOptions}
 use Rattle.recorder.specs.declared.report.Report.{Report}
-use Rattle.recorder.specs.Recorded.{sides, Recorded}
-use Rattle.recorder.specs.Laws.{AreReadable}
+use Rattle.recorder.specs.Recorded.{sides, Recorded, AreReadable}
 use Rattle.watching.specs.declared.report.WatchReport.{WatchReport}
 use Rattle.watching.specs.declared.report.WatchEnd.{WatchEnd}
 use Rattle.watching.specs.declared.report.WatchEnd.TheVariants as watch_ends
 use Rattle.watched_recording.specs.Watched.{Watch, IsWatched, AsksViews}
 use Rattle.watched_recording.specs.Files.{IsWatchedFile}
-use Rattle.command_base.specs.Ran.{Wanted, wanted, AreOpened, CountsKept, has_failed, failed_names, blamed_names}
-use Rattle.record_command.specs.declared.watched_names.WatchedOutcome.{WatchedOutcome}
-use Rattle.record_command.specs.Record.{feeds_and_output, failed_feeds, any_failed, FeedKept, feed_entry, live_entry, feed_names_kept, back_sources, OutputHolds, Unreported, SparesOutput}
+use Rattle.command_base.specs.Ran.{Wanted, wanted, CountsKept, has_failed}
+use Rattle.record_command.specs.Record.{feeds_and_output, FeedKept, feed_entry, live_entry, feed_names_kept, back_sources, OutputHolds, Unreported}
 use Rattle.record_command.specs.Sinks.{SinkKept, sink_entry, sink_names, back_sinks, watch_faults, SinkHolds}
 
 -- ---- what is asked, and what is reported
@@ -127,12 +125,6 @@ is_flaw (watch_ends.Fault faults) = false
 is_flaw (watch_ends.Flaw rule offset) = true
 is_flaw watch_ends.Memory = false
 
--- the answers, with one added to that at the place
-abbrev pub or_at : List Bool → ℕ → Bool → List Bool
-or_at [] n failed = []
-or_at (first ∷ more) zero failed = (first || failed) ∷ more
-or_at (first ∷ more) (suc n) failed = first ∷ or_at more n failed
-
 -- which of the answers are that a watch file failed, or that its watcher ended at a fault
 abbrev pub with_ends : List Bool → List WatchReport → List Bool
 with_ends [] reports = []
@@ -197,38 +189,3 @@ pub record UnreportedBeside (out : List ℕ) (watches : List (List ℕ)) (old ne
   pub views : failures ≡ 0
   pub watch_files : (told now : Told) → old.told ≡ Some told → new.told ≡ Some now
       → Each (λ (name : List ℕ). (now.names name ≡ told.names name) ⊎ (now.names name ≡ Some [])) watches
-
--- ---- the whole
-
--- What the opening, recording and keeping of all names did.
-pub record NamesWatched (request : Requested) (old new : WorldState) (outcome : WatchedOutcome) : Type 0 where
-  pub entries : List Opening
-  pub opened : AreOpened (wanted_names request.names.out request.names.watches request.names.feeds) entries
-  pub leaves : LeavesBeside old new entries
-  -- the faults of the views that were let go
-  pub failures : ℕ
-  pub counts : CountsBeside old new entries failures
-  pub reported : (r : Report) → outcome.report ≡ Some r
-      → ReportedBeside request old new entries failures (reported_with r outcome.sealed outcome.watches.items)
-  pub unreported : outcome.report ≡ None → UnreportedBeside request.names.out request.names.watches old new entries failures
-  pub none : outcome.report ≡ None → outcome.watches.items ≡ []
-  pub spares : SparesOutput request.names.out request.names.feeds old new
-  -- the entries of the feeds failed so, then that of the output, if it was reached, and then those of the watch files
-  pub inputs : List Opening
-  pub outputs : List Opening
-  pub sinks : List Opening
-  pub few : length inputs ≤ length request.names.feeds
-  pub few_sinks : length sinks ≤ length request.names.watches
-  pub parts : entries ≡ inputs ++ (outputs ++ sinks)
-  pub sources : Each (λ (entry : Opening). entry.kind ≡ kinds.Source) inputs
-  pub stores : Each (λ (entry : Opening). entry.kind ≡ kinds.Live) outputs
-  pub writers : Each (λ (entry : Opening). entry.kind ≡ kinds.Sink) sinks
-  pub sinks_named : map (λ (entry : Opening). entry.name) sinks ≡ take (length sinks) request.names.watches
-  pub feeds_failed : outcome.feeds_failed.items ≡ map has_failed inputs
-  pub out_failed : outcome.out_failed ≡ list_any has_failed outputs
-  pub watches_failed : outcome.watches_failed.items ≡ watch_flags sinks outcome.watches.items
-  pub failed : failed_names (inputs ++ outputs) ≡ blamed_names (feeds_and_output request.names.out request.names.feeds) (failed_feeds outcome.feeds_failed.items outcome.out_failed)
-  -- a watch file is blamed only with a cause, and one is where its count rose
-  pub watch_cause : any_failed outcome.watches_failed.items ≡ true
-      → Rose old.faults new.faults ⊎ (Rose old.output_faults new.output_faults ⊎ Rose old.watch_faults new.watch_faults)
-  pub watch_told : old.watch_faults < 2 ^ 64 - 1 → Rose old.watch_faults new.watch_faults → any_failed outcome.watches_failed.items ≡ true

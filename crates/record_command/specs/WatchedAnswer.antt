@@ -14,12 +14,9 @@ use Rattle.watching.specs.declared.report.WatchReport.{WatchReport}
 use Rattle.command_base.specs.Printing.{Takes}
 use Rattle.command_base.specs.Texts.{Trouble, fault, output_fault, output_limit, flaw, no_memory, halt_status}
 use Rattle.command_base.specs.Ran.{Scene, counted_faults, AnyRose, CountsOn, AreOpened, has_failed, BlamesOutput, when, told_of, Complains}
-use Rattle.record_command.specs.declared.watched_names.WatchedOutcome.{WatchedOutcome}
 use Rattle.record_command.specs.declared.watched_answer.WatchedCounts.{WatchedCounts}
-use Rattle.record_command.specs.declared.watched_answer.WatchedFailures.{WatchedFailures}
 use Rattle.record_command.specs.Record.{ends_of, reports_in, limit_was_passed, recording_passes_limit, lacks_memory, any_failed, end_status, worst, report_text, RecordsAll, FeedHalts, SparesOutput}
-use Rattle.record_command.specs.Answer.{feed_flags, PartFailed}
-use Rattle.record_command.specs.Watched.{Named, Requested, reported_with, wanted_names, LeavesBeside, CountsBeside, is_flaw, ReportedBeside, UnreportedBeside, watch_flags}
+use Rattle.record_command.specs.Watched.{Named, Requested, reported_with, wanted_names, LeavesBeside, CountsBeside, ReportedBeside, UnreportedBeside, watch_flags}
 
 -- ---- counts of faults
 
@@ -56,20 +53,11 @@ is_memory_watch (watch_ends.Fault faults) = false
 is_memory_watch (watch_ends.Flaw rule n) = false
 is_memory_watch watch_ends.Memory = true
 
--- that of the watcher of the first report
-abbrev pub first_flaw : List ℕ → List WatchReport → List Trouble
-first_flaw name [] = []
-first_flaw name (w ∷ ws) = watch_troubles name w.end
-
--- those of all watchers, in their order
+-- the flaws of all watchers, in their order
 abbrev pub flaws_of : List (List ℕ) → List WatchReport → List (List Trouble)
 flaws_of [] reports = []
 flaws_of (name ∷ names) [] = []
 flaws_of (name ∷ names) (report ∷ reports) = watch_troubles name report.end ∷ flaws_of names reports
-
--- a flaw was found
-abbrev pub some_flaw : List WatchReport → Bool
-some_flaw reports = list_any (λ (w : WatchReport). is_flaw w.end) reports
 
 -- memory lacked for the recording, for telling the watchers of the end, or for a watcher
 abbrev pub lacks_beside : Report → Bool → List WatchReport → Bool
@@ -115,31 +103,6 @@ pub record BlamesExactly (old : WorldState) (watches feeds : List (List ℕ)) (e
   pub out_is : AllCountsOn old → b.out ≡ list_any has_failed outputs
   pub watches_are : AllCountsOn old → b.watches ≡ watch_flags sinks reports
 
--- which of the watchers are blamed
-abbrev pub watch_flags_of : List (List ℕ) → WatchedFailures → List Bool
-watch_flags_of watches failed = if failed.every_watch then map (λ (name : List ℕ). true) watches else failed.watches.now
-
-abbrev pub blamed_in : List (List ℕ) → List (List ℕ) → WatchedFailures → Blamed
-blamed_in watches feeds failed = record { feeds = feed_flags feeds failed.parts; out = failed.parts.out; watches = watch_flags_of watches failed }
-
--- some part failed
-abbrev pub AnyPartFailed : WatchedFailures → Type 0
-AnyPartFailed failed = PartFailed failed.parts ⊎ ((failed.every_watch ≡ true) ⊎ (any_failed failed.watches.now ≡ true))
-
--- what a recording told of failures and what the counts tell: which parts failed
-pub record WatchedPartsShow (before now : WatchedCounts) (watches feeds : List (List ℕ)) (outcome : WatchedOutcome) (failed : WatchedFailures) : Type 0 where
-  pub causes : CausesBeside before now (blamed_in watches feeds failed)
-  pub printing : (failed.parts.printing ≡ true) ↔ Rose before.seen.printing now.seen.printing
-  pub any : AnyCountRose before now → AnyPartFailed failed
-  pub feeds_told : failed.parts.feeds.now ≡ outcome.feeds_failed.items
-  pub watches_told : failed.watches.now ≡ outcome.watches_failed.items
-  -- nothing else is blamed where each count that rose shows in what the recording told
-  pub feeds_are : (Rose before.seen.inputs now.seen.inputs → any_failed outcome.feeds_failed.items ≡ true) → feed_flags feeds failed.parts ≡ outcome.feeds_failed.items
-  pub watches_are : (Rose before.watches now.watches → any_failed outcome.watches_failed.items ≡ true) → watch_flags_of watches failed ≡ outcome.watches_failed.items
-  pub out_is : (Rose before.seen.outputs now.seen.outputs → outcome.out_failed ≡ true)
-      → (Rose before.seen.world now.seen.world → (any_failed outcome.feeds_failed.items ≡ true) ⊎ ((outcome.out_failed ≡ true) ⊎ (any_failed outcome.watches_failed.items ≡ true)))
-      → failed.parts.out ≡ outcome.out_failed
-
 -- ---- standard error
 
 -- all troubles, in their order: those of the feeds, of the output, of the watchers, and the others
@@ -147,17 +110,6 @@ abbrev pub watched_troubles : Named → Option Report → List WatchReport → B
 watched_troubles names report reports lacked b printing =
     told_of names.feeds (ends_of names.feeds (reports_in report)) b.feeds (when b.out (fault names.out) ++ (when (limit_was_passed report) (output_limit names.out)
     ++ told_of names.watches (flaws_of names.watches reports) b.watches (when printing output_fault ++ when lacked no_memory)))
-
--- memory lacked exactly where the reports name that, or where there are none though no part failed
-abbrev pub LacksMemoryBeside : Option Report → Bool → List WatchReport → WatchedFailures → Bool → Type 0
-LacksMemoryBeside None sealed reports failed lacked = (AnyPartFailed failed → ⊥) ↔ (lacked ≡ true)
-LacksMemoryBeside (Some r) sealed reports failed lacked = lacked ≡ lacks_beside r sealed reports
-
--- what standard error is told of a recording with watchers, and the status
-pub record AnswersBeside (names : Named) (outcome : WatchedOutcome) (failed : WatchedFailures) (before now : SinkState) (status : ℕ) : Type 0 where
-  pub lacked : Bool
-  pub lacks : LacksMemoryBeside outcome.report outcome.sealed outcome.watches.items failed lacked
-  pub told : Complains (watched_troubles names outcome.report outcome.watches.items lacked (blamed_in names.watches names.feeds failed) failed.parts.printing) before now status
 
 -- ---- the status
 

@@ -3,13 +3,15 @@ ghost use Rattle.std.specs.List.{list_any, flat_map};
 ghost use Rattle.std.specs.Prelude.{◌≡◌, ◌⊎◌, ◌↔◌, ◌≤◌, ◌+◌, ◌*◌, ◌||◌, ℕ, [], ◌∷◌, ◌++◌, List, drop, length, not, if◌then◌else◌, true, false, IsTrue};
 ghost use Rattle.arrayvec.specs.ArrayVec.{array_vec_len};
 ghost use Rattle.mcap_io.specs.Outside.{Rose};
-ghost use Rattle.command_base.specs.Texts.{Trouble, trouble_of, complained, bad_words, said};
+ghost use Rattle.command_base.specs.Texts.{Trouble, bad_words, said};
+ghost use Rattle.command_base.specs.ComplaintTroubles.{trouble_of, complained};
 ghost use Rattle.command_base.specs.Printing.{Takes};
 ghost use Rattle.feed_lane.specs.Causes.{is_over, is_memory, is_memory_stop};
 ghost use Rattle.command_words.specs.Commands.{feed_limit};
 ghost use Rattle.record_command.specs.Answer.{feed_flags, PartFailed, Answers, LacksMemory, RecordingFaultsShow};
 ghost use Rattle.command_base.specs.Ran.{first_failed, told_of, Complains};
-ghost use Rattle.record_command.specs.Record.{AreFew, end_troubles, first_end, ends_of, reports_in, any_failed, is_limit_end, recording_passes_limit, feed_lacked_memory, writer_lacked_memory, lacks_memory as report_lacks, limit_was_passed};
+ghost use Rattle.record_command.specs.Record.{end_troubles, ends_of, reports_in, any_failed, is_limit_end, recording_passes_limit, feed_lacked_memory, writer_lacked_memory, lacks_memory as report_lacks, limit_was_passed};
+ghost use Rattle.record_command.specs.RecordSteps.{AreFew, first_end};
 
 use arrayvec::ArrayVec;
 use command_base::{Complaint, Counts, complain_of, due_when, reading_complaint, rose};

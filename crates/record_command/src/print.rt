@@ -1,7 +1,7 @@
 //! What the program prints of a recording on standard output.
 ghost use Rattle.std.specs.Prelude.{◌≡◌, ◌+◌, ◌≤◌, ◌++◌, length};
 ghost use Rattle.record_command.specs.ReportTexts.{refusal_text, feed_end_text, end_text, feed_line, feed_lines, file_line, printed};
-ghost use Rattle.command_base.specs.Printing.{Prints};
+ghost use Rattle.command_base.specs.Putting.{Prints};
 
 use command_base::{LINE_ROOM, Line};
 use mcap_io::{Failed, Sink, write_all_of};

@@ -2,13 +2,15 @@
 ghost use Rattle.std.specs.Prelude.{◌≡◌, ◌+◌, ◌≤◌, ◌<◌, ◌^◌, ◌++◌, ℕ, [], ◌∷◌, length, map, take, vec_len, vec_capacity, Some, true, false, IfOk, IfErr, OnOk, OnErr};
 ghost use Rattle.mcap_io.specs.Outside.{LiveState, WorldState};
 ghost use Rattle.mcap_wire.specs.Layout.{content_limit};
-ghost use Rattle.mcap_wire.specs.Limits.{buffer_limit, chunk_size_limit};
+ghost use Rattle.mcap_wire.specs.Limits.{chunk_size_limit};
+ghost use Rattle.mcap_wire.specs.RecordingLimits.{buffer_limit};
 ghost use Rattle.mcap_model.specs.Places.{Each};
-ghost use Rattle.feed_lane.specs.Feeds.{ListsMessages};
+ghost use Rattle.feed_lane.specs.Steps.{ListsMessages};
 ghost use Rattle.command_base.specs.Printing.{Takes};
-ghost use Rattle.command_base.specs.Ran.{scene};
+ghost use Rattle.command_base.specs.Scenes.{scene};
 ghost use Rattle.record_command.specs.Sources.{FeedsOpened, FeedRefused, SourceKept, FeedsKept, feed_flags_with};
-ghost use Rattle.record_command.specs.Record.{AreAllowed, AreFew, report_text, NamesRecorded, Records};
+ghost use Rattle.record_command.specs.Record.{report_text, Records};
+ghost use Rattle.record_command.specs.RecordSteps.{AreAllowed, AreFew, NamesRecorded};
 
 use crate::answering::{Outcome, answer, failed_parts};
 use crate::print::print_report;

@@ -1,6 +1,6 @@
 //! The sinks of a recording's watchers, as they are opened under their names and kept.
 ghost use Rattle.std.specs.Prelude.{◌≡◌, ◌≤◌, ◌<◌, [], length, map, vec_len, vec_capacity, IfErr, OnOk, OnErr};
-ghost use Rattle.record_command.specs.Sinks.{SinksOpened, SinkRefused, OneSinkKept, SinksKept, ViewsLetGo};
+ghost use Rattle.record_command.specs.SinkSteps.{SinksOpened, SinkRefused, OneSinkKept, SinksKept, ViewsLetGo};
 
 use command_base::has_failed;
 use mcap_io::{LiveStore, OpenRefused, Sink, World};

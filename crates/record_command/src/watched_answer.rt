@@ -4,14 +4,17 @@ ghost use Rattle.std.specs.Prelude.{◌≡◌, ◌⊎◌, ◌↔◌, ◌≤◌, 
 ghost use Rattle.arrayvec.specs.ArrayVec.{array_vec_len};
 ghost use Rattle.mcap_io.specs.Outside.{Rose};
 ghost use Rattle.mcap_model.specs.Places.{Each};
-ghost use Rattle.feed_lane.specs.Feeds.{ListsMessages};
+ghost use Rattle.feed_lane.specs.Steps.{ListsMessages};
 ghost use Rattle.command_words.specs.Commands.{NamesDiffer, feed_limit, watcher_limit};
-ghost use Rattle.command_base.specs.Texts.{trouble_of, complained};
-ghost use Rattle.command_base.specs.Ran.{scene, first_failed, told_of};
-ghost use Rattle.record_command.specs.Record.{AreAllowed, AreFew, any_failed, report_text};
+ghost use Rattle.command_base.specs.ComplaintTroubles.{trouble_of, complained};
+ghost use Rattle.command_base.specs.Ran.{first_failed, told_of};
+ghost use Rattle.command_base.specs.Scenes.{scene};
+ghost use Rattle.record_command.specs.Record.{any_failed, report_text};
+ghost use Rattle.record_command.specs.RecordSteps.{AreAllowed, AreFew};
 ghost use Rattle.record_command.specs.Answer.{feed_flags, PartFailed};
 ghost use Rattle.record_command.specs.Watched.{named, requested};
-ghost use Rattle.record_command.specs.WatchedAnswer.{watched_counts, watch_troubles, first_flaw, flaws_of, is_memory_watch, lacks_beside, watch_flags_of, AnyPartFailed, WatchedPartsShow, LacksMemoryBeside, AnswersBeside, RecordsWatched};
+ghost use Rattle.record_command.specs.WatchedAnswer.{watched_counts, watch_troubles, flaws_of, is_memory_watch, lacks_beside, RecordsWatched};
+ghost use Rattle.record_command.specs.WatchedSteps.{first_flaw, watch_flags_of, AnyPartFailed, WatchedPartsShow, LacksMemoryBeside, AnswersBeside};
 
 use crate::answering::{
     Failures, MOST_COMPLAINTS, any_holds, feed_complaints, feed_reports, has_failed, has_limit,

@@ -2,14 +2,16 @@
 ghost use Rattle.std.specs.Prelude.{◌≡◌, ◌≤◌, ◌<◌, ◌^◌, ◌||◌, ℕ, [], length, map, vec_len, vec_capacity, Some, IfOk, true, false};
 ghost use Rattle.mcap_io.specs.Outside.{WorldState};
 ghost use Rattle.mcap_wire.specs.Layout.{content_limit};
-ghost use Rattle.mcap_wire.specs.Limits.{buffer_limit, chunk_size_limit};
+ghost use Rattle.mcap_wire.specs.Limits.{chunk_size_limit};
+ghost use Rattle.mcap_wire.specs.RecordingLimits.{buffer_limit};
 ghost use Rattle.mcap_model.specs.Places.{Each};
-ghost use Rattle.feed_lane.specs.Feeds.{ListsMessages};
+ghost use Rattle.feed_lane.specs.Steps.{ListsMessages};
 ghost use Rattle.command_words.specs.Commands.{NamesDiffer, watcher_limit};
-ghost use Rattle.record_command.specs.Record.{AreFew};
+ghost use Rattle.record_command.specs.RecordSteps.{AreFew};
 ghost use Rattle.record_command.specs.Sources.{FeedsOpened};
-ghost use Rattle.record_command.specs.Sinks.{CountsFit, OutOpened, SinksOpened};
-ghost use Rattle.record_command.specs.Watched.{requested, is_watch_fault, or_at, with_ends, NamesWatched};
+ghost use Rattle.record_command.specs.SinkSteps.{CountsFit, OutOpened, SinksOpened};
+ghost use Rattle.record_command.specs.Watched.{requested, is_watch_fault, with_ends};
+ghost use Rattle.record_command.specs.WatchedSteps.{or_at, NamesWatched};
 
 use crate::recording::{Room, add_refused, is_failed, keep_feeds, make_room, open_feeds};
 use crate::sinks::{keep_sinks, keep_views, open_sinks};

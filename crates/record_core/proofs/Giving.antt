@@ -19,7 +19,8 @@ use Rattle.id_table.specs.declared.given.IdRefused.{IdRefused}
 use Rattle.id_table.specs.declared.given.IdRefused.TheVariants.{TooManySchemas, TooManyChannels, Memory}
 use Rattle.record_core.specs.declared.answers.DeclareRefused.{DeclareRefused}
 use Rattle.record_core.specs.declared.answers.DeclareRefused.TheVariants as declaring
-use Rattle.record_core.specs.Ids.{Ids, schemas_in, channels_in, with_ids, same_schema, fields_of_schema, fields_with, fields_of_channel, schema_place, id_at, schema_id, channel_place, channel_id, new_schema_at, new_schema, new_at, new_records}
+use Rattle.record_core.specs.Ids.{Ids, schemas_in, channels_in, with_ids, same_schema, fields_of_channel, schema_place, id_at, schema_id, channel_place, channel_id, new_schema_at, new_schema, new_at, new_records}
+use Rattle.record_core.specs.DeclarationFields.{fields_of_schema, fields_with}
 use Rattle.record_core.specs.Tables.{content_in, ids_in, SchemaHasId, HasSchemas, GivesAt, GivesSchema, GivesIds, schemas_lack, ids_lack, IdsDeclared, id_given, id_of, schema_with}
 use Rattle.record_core.proofs.Places.{map_same, found_more, found_last}
 use Rattle.record_core.proofs.Searches.{schema_own, schemas_more, channels_more}

@@ -10,7 +10,8 @@ use Rattle.mcap_model.specs.Places.{At}
 use Rattle.mcap_model.specs.Fields.{SchemaFields, ChannelFields, MessageFields}
 use Rattle.mcap_model.specs.History.{schema_of, channel_of, message_of, SchemaFollows, ChannelFollows, MessageFollows, Follows, Numbered}
 use Rattle.mcap_model.proofs.Places.{at_read, each_more, at_last}
-use Rattle.record_core.specs.Ids.{Ids, schemas_in, channels_in, same_schema, same_channel, is_known_channel, fields_of_schema, schema_place, id_at, schema_id, fields_of_channel, channel_place, new_schema_at, new_schema, new_at, new_records}
+use Rattle.record_core.specs.Ids.{Ids, schemas_in, channels_in, same_schema, same_channel, is_known_channel, schema_place, id_at, schema_id, fields_of_channel, channel_place, new_schema_at, new_schema, new_at, new_records}
+use Rattle.record_core.specs.DeclarationFields.{fields_of_schema}
 use Rattle.record_core.proofs.Searches.{found, not_found, schema_own, schema_same, channel_own, schemas_counted, channels_counted, channels_more, schema_there, channel_there, schema_content, channel_content}
 use Rattle.mcap_model.proofs.Maps.{same_is}
 

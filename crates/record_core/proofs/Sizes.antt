@@ -13,12 +13,11 @@ use Rattle.rec_data.specs.Records.{schema_text, channel_text}
 use Rattle.rec_data.proofs.OwnedLengths.{length-schema_text, length-channel_text}
 use Rattle.mcap_model.specs.Fields.{SchemaFields}
 use Rattle.mcap_model.specs.History.{schema_of, channel_of}
-use Rattle.record_cache.specs.Buffers.{IsKept}
+use Rattle.record_cache.specs.KeptRecords.{IsKept}
 use Rattle.id_table.specs.declared.given.Given.{Given}
 use Rattle.id_table.specs.declared.given.Given.TheVariants.{Known, New}
-use Rattle.record_core.specs.Ids.{fields_of_schema, fields_with}
+use Rattle.record_core.specs.DeclarationFields.{fields_of_schema, fields_with, schema_size, declared_size}
 use Rattle.record_core.specs.Tables.{id_of, schema_with}
-use Rattle.record_core.specs.Desk.{schema_size, declared_size}
 use Rattle.record_core.specs.Sights.{FirstFits, SchemaKept}
 
 schema_length : (id : ℕ) (f : SchemaFields) → length (rec_bytes (schema_of id f)) ≡ 9 + (14 + length f.name + length f.encoding + length f.payload)

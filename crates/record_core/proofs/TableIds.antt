@@ -8,7 +8,8 @@ use Rattle.mcap_model.specs.Fields.{SchemaFields, ChannelFields}
 use Rattle.mcap_model.proofs.Places.{at_within, at_one}
 use Rattle.id_table.specs.Ids as tables
 use Rattle.id_table.specs.Given.{Lacks, EachOnce, Found, SharesSchema}
-use Rattle.record_core.specs.Ids.{same_schema, same_channel, fields_of_schema, fields_of_channel, schema_place, id_at, schema_id, channel_place}
+use Rattle.record_core.specs.Ids.{same_schema, same_channel, fields_of_channel, schema_place, id_at, schema_id, channel_place}
+use Rattle.record_core.specs.DeclarationFields.{fields_of_schema}
 use Rattle.record_core.specs.Tables.{content_in, ids_in, SchemaHasId, HasSchemas, IsIdAt, IsSchemaAt, HasSchemaOf}
 use Rattle.record_core.proofs.Places.{at_map, map_at}
 use Rattle.record_core.proofs.Searches.{found, not_found, schema_own, schema_same, channel_own, channel_same}

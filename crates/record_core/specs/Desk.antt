@@ -2,16 +2,14 @@
 use Rattle.std.specs.Prelude.{◌≡◌, ℕ, ◌+◌, ◌≤◌, List, [], ◌∷◌, ◌++◌, length, nat_lt, nat_le, if◌then◌else◌, Option, Some, None, Result, Ok, Err}
 use Rattle.mcap_wire.specs.Limits.{data_limit, declaration_limit, record_count_limit}
 use Rattle.rec_data.specs.declared.owned.Rec.{Rec}
-use Rattle.rec_data.specs.declared.schema.SchemaDef.{SchemaDef}
 use Rattle.rec_data.specs.declared.channel.ChannelDef.{ChannelDef}
-use Rattle.rec_data.specs.Owned.{rec_bytes}
 use Rattle.mcap_model.specs.declared.ends.End.{End}
 use Rattle.mcap_model.specs.declared.ends.End.TheVariants.{Closed, Stopped}
 use Rattle.mcap_model.specs.declared.ends.Stop.{Stop}
 use Rattle.mcap_model.specs.declared.ends.Stop.TheVariants.{Fault, Limit, Memory}
 use Rattle.mcap_model.specs.Fields.{MessageFields}
-use Rattle.mcap_model.specs.History.{schema_of, channel_of, message_of, history_bytes}
-use Rattle.record_core.specs.Ids.{Ids, no_ids, with_ids, is_known_channel, fields_of_schema, fields_with, channel_place, channel_id, new_records}
+use Rattle.mcap_model.specs.History.{message_of, history_bytes}
+use Rattle.record_core.specs.Ids.{Ids, no_ids, with_ids, is_known_channel, channel_place, channel_id, new_records}
 use Rattle.record_core.specs.Tables.{ids_lack}
 use Rattle.record_core.specs.declared.answers.PublishRefused.{PublishRefused}
 use Rattle.record_core.specs.declared.answers.PublishRefused.TheVariants as publishing
@@ -22,6 +20,7 @@ use Rattle.record_core.specs.declared.answers.NewMessage.{NewMessage}
 use Rattle.record_cache.specs.Buffers.{Buffer}
 use Rattle.record_core.specs.declared.answers.DeclareRefused.{DeclareRefused}
 use Rattle.record_core.specs.declared.answers.DeclareRefused.TheVariants as declaring
+use Rattle.record_core.specs.DeclarationFields.{declared_size}
 
 -- ---- the desk
 
@@ -81,14 +80,6 @@ abbrev pub publish_refusal : DeskView → ℕ → ℕ → Option PublishRefused
 publish_refusal d channel len = if nat_lt data_limit len then Some (publishing.TooLarge len) else publish_ended d.end d channel
 
 -- ---- declaring
-
--- how many bytes the records of a declaration have, new or not
-abbrev pub schema_size : Option SchemaDef → ℕ
-schema_size None = 0
-schema_size (Some s) = length (rec_bytes (schema_of 0 (fields_of_schema s)))
-
-abbrev pub declared_size : ChannelDef → ℕ
-declared_size c = schema_size c.schema + length (rec_bytes (channel_of 0 (fields_with c 0)))
 
 abbrev pub declare_new : DeskView → ChannelDef → Option DeclareRefused
 declare_new d c =

@@ -1,3 +1,6 @@
+-- What the promise of the program reaches, in the order to read it.
+pub mod DeclarationFields
+-- What the functions of this crate and its proofs say besides.
 pub mod Ids
 pub mod Tables
 pub mod Desk

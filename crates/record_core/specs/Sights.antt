@@ -8,12 +8,14 @@ use Rattle.record_core.specs.declared.desk.Sight.{Sight}
 use Rattle.record_core.specs.declared.desk.Sight.TheVariants.{Refused, Known, New}
 use Rattle.record_core.specs.Ids.{channel_place}
 use Rattle.record_core.specs.Tables.{IsIdAt, ids_lack}
-use Rattle.record_core.specs.Desk.{DeskView, bytes_held, accepted, declare_refusal, declared_size}
+use Rattle.record_core.specs.Desk.{DeskView, bytes_held, accepted, declare_refusal}
+use Rattle.record_core.specs.DeclarationFields.{declared_size}
 use Rattle.rec_data.specs.declared.owned.Rec.{Rec}
 use Rattle.record_cache.specs.declared.cache.Full.{Full}
 use Rattle.rec_data.specs.Owned.{rec_bytes, RecFits}
 use Rattle.record_cache.specs.declared.records.RecRef.{RecRef}
-use Rattle.record_cache.specs.Buffers.{IsKept, Buffer}
+use Rattle.record_cache.specs.Buffers.{Buffer}
+use Rattle.record_cache.specs.KeptRecords.{IsKept}
 use Rattle.record_cache.specs.Offers.{rec_of, Offered}
 
 -- the lengths of a declaration fit in front of what they count

@@ -7,7 +7,8 @@ use Rattle.rec_data.specs.declared.owned.Rec.{Rec}
 use Rattle.mcap_model.specs.History.{schema_of}
 use Rattle.mcap_model.specs.Fields.{SchemaFields, ChannelFields}
 use Rattle.mcap_model.specs.Places.{At, Has, Each}
-use Rattle.record_core.specs.Ids.{Ids, with_ids, fields_of_schema, fields_of_channel, schema_place, channel_place, new_schema, new_records}
+use Rattle.record_core.specs.Ids.{Ids, with_ids, fields_of_channel, schema_place, channel_place, new_schema, new_records}
+use Rattle.record_core.specs.DeclarationFields.{fields_of_schema}
 use Rattle.record_core.specs.declared.answers.DeclareRefused.{DeclareRefused}
 use Rattle.record_core.specs.declared.answers.DeclareRefused.TheVariants as declaring
 use Rattle.id_table.specs.Ids as tables

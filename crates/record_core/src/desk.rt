@@ -1,6 +1,7 @@
 //! The desk: records are accepted into a buffer, and ids are given by content.
 ghost use Rattle.std.specs.Prelude.{◌≡◌, ◌≤◌, ◌<◌, ◌+◌, [], ◌∷◌, length, None, true, IfOk, OnOk};
-ghost use Rattle.mcap_wire.specs.Limits.{buffer_limit, data_limit, record_count_limit};
+ghost use Rattle.mcap_wire.specs.Limits.{data_limit, record_count_limit};
+ghost use Rattle.mcap_wire.specs.RecordingLimits.{buffer_limit};
 ghost use Rattle.mcap_model.specs.declared.ends.End.TheVariants.{Closed, Stopped};
 ghost use Rattle.record_core.specs.Ids.{is_known_channel};
 ghost use Rattle.record_core.specs.Tables.{HasFewIds, MayShare};

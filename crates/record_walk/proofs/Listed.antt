@@ -8,7 +8,8 @@ use Rattle.mcap_model.specs.Tops.{Top, records_in, Placed, placed_inside}
 use Rattle.mcap_model.specs.Made.{top}
 use Rattle.mcap_model.specs.Walk.{inner_top, StepsOver}
 use Rattle.record_walk.specs.declared.heads.MessageHead.{MessageHead}
-use Rattle.record_walk.specs.Heads.{is_headed, head_of, heads_at, HeadIs}
+use Rattle.record_walk.specs.Heads.{head_of, heads_at, HeadIs}
+use Rattle.record_walk.specs.HeadTimes.{is_headed}
 
 pub headed : (op : ℕ) (content : List ℕ) → op ≡ 5 → 22 ≤ length content → is_headed (top op content) ≡ true
 headed op content is long = ap (λ (b : Bool). b && nat_le 22 (length content)) (eq-eqb op 5 is) ∙ le-leb 22 (length content) long

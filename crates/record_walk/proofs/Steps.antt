@@ -9,7 +9,8 @@ use Rattle.mcap_wire.proofs.Numbers.{length-le}
 use Rattle.mcap_model.specs.declared.inner.Inner.{Inner}
 use Rattle.mcap_model.specs.declared.replay.Place.{Place}
 use Rattle.mcap_model.specs.Places.{At}
-use Rattle.mcap_model.specs.Tops.{Top, top_bytes, records_in, inner_tops, is_chunk, chunk_records, offset_behind, Placed, placed_inside, walked_one, walked}
+use Rattle.mcap_model.specs.Tops.{Top, top_bytes, records_in, inner_tops, is_chunk, chunk_records, offset_behind, Placed, placed_inside}
+use Rattle.mcap_model.specs.WalkedRecords.{walked_one, walked}
 use Rattle.mcap_model.specs.Rules.{V6, V10}
 use Rattle.mcap_model.specs.Kept.{reading_limits, Good}
 use Rattle.mcap_model.specs.Made.{top}

@@ -1,27 +1,19 @@
 -- The heads of the Messages that a chunk holds, and the record that some bytes begin with.
-use Rattle.std.specs.Prelude.{◌≡◌, ℕ, ◌≤◌, List, ◌∷◌, [], take, drop, length, Bool, true, false, ◌&&◌, nat_le, Option, Some, None, if◌then◌else◌}
+use Rattle.std.specs.Prelude.{◌≡◌, ℕ, ◌≤◌, List, ◌∷◌, [], take, length, true, false, Option, Some, None, if◌then◌else◌}
 use Rattle.std.specs.List.{flat_map}
 use Rattle.mcap_wire.specs.Layout.{number, part}
 use Rattle.mcap_model.specs.Tops.{Top, Placed, top_bytes, records_in, is_chunk, chunk_records, placed_inside}
 use Rattle.mcap_model.specs.Rules.{V6}
-use Rattle.mcap_model.specs.Scan.{is_message_top}
 use Rattle.mcap_model.specs.Walk.{inner_top, StepsOver}
 use Rattle.mcap_model.specs.declared.inner.Inner.{Inner}
 use Rattle.record_walk.specs.declared.heads.MessageHead.{MessageHead}
+use Rattle.record_walk.specs.HeadTimes.{time_in, is_headed}
 
 -- ---- heads
 
 -- the id of the channel in a Message's content, at its front
 abbrev pub channel_id_in : List ℕ → ℕ
 channel_id_in content = number (take 2 content)
-
--- the log time in a Message's content, which stands behind a number of two bytes and one of four
-abbrev pub time_in : List ℕ → ℕ
-time_in content = number (take 8 (drop 6 content))
-
--- a Message whose content meets its layout: two bytes, four, and twice eight, before what it holds
-abbrev pub is_headed : Top → Bool
-is_headed t = is_message_top t && nat_le 22 (length t.content)
 
 abbrev pub head_of : Placed → MessageHead
 head_of p = record { channel = channel_id_in p.top.content; time = time_in p.top.content; offset = p.place.inner }

@@ -1,2 +1,5 @@
+-- What the promise of the program reaches, in the order to read it.
+pub mod HeadTimes
+-- What the functions of this crate and its proofs say besides.
 pub mod Walking
 pub mod Heads

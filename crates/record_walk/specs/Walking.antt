@@ -7,7 +7,8 @@ use Rattle.mcap_wire.specs.Limits.{file_limit}
 use Rattle.mcap_model.specs.declared.replay.Place.{Place}
 use Rattle.mcap_model.specs.declared.tables.Tables.{Tables}
 use Rattle.mcap_model.specs.declared.refusals.ReadingRefused.{ReadingRefused}
-use Rattle.mcap_model.specs.Tops.{Top, Placed, records_in, placed_inside, walked}
+use Rattle.mcap_model.specs.Tops.{Top, Placed, records_in, placed_inside}
+use Rattle.mcap_model.specs.WalkedRecords.{walked}
 use Rattle.mcap_model.specs.Rules.{V6, V10}
 use Rattle.mcap_model.specs.Made.{top}
 use Rattle.mcap_scan.specs.Scanning.{Stands, content_of, tables_of, next_offset, IsGoing, FindsEnd, Refuses, IsDone, KeptBy, HandsOut}

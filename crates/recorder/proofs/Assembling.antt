@@ -14,7 +14,8 @@ use Rattle.record_core.specs.declared.answers.Found.{Found}
 use Rattle.feed_lane.specs.Pass.{PassState, Reason, with_places}
 use Rattle.feed_lane.specs.Lanes.{IsGiven}
 use Rattle.feed_lane.specs.Feeds.{reported}
-use Rattle.buffer_swap.specs.Shown.{ShownBy, ShownTo}
+use Rattle.buffer_swap.specs.Shown.{ShownBy}
+use Rattle.buffer_swap.specs.ShownSteps.{ShownTo}
 use Rattle.buffer_swap.specs.Plays.{Unclosed, Met}
 use Rattle.buffer_swap.specs.Posts.{Gathered, Post}
 use Rattle.buffer_swap.specs.Calls.{reasoned, DrainIsOver}

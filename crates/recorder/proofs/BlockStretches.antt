@@ -14,7 +14,8 @@ use Rattle.mcap_model.specs.History.{rec_top, message_of}
 use Rattle.mcap_model.specs.Blocks.{block, logged_channels, entries_for, written_fields, chunk_content, block_bytes}
 use Rattle.mcap_model.specs.Built.{declarations}
 use Rattle.mcap_model.specs.Whole.{count_of}
-use Rattle.mcap_model.specs.Laws.{IsReadBack, IsNumberedRec, chunk_top, index_top}
+use Rattle.mcap_model.specs.Laws.{IsNumberedRec, chunk_top, index_top}
+use Rattle.mcap_model.specs.ReadBack.{IsReadBack}
 use Rattle.mcap_model.proofs.ReadBack.{at_map, message_back}
 use Rattle.mcap_model.proofs.Histories.{message_shown, recs_are_flat}
 use Rattle.mcap_model.proofs.WrittenChunks.{written_shows}
@@ -25,8 +26,8 @@ use Rattle.mcap_model.proofs.Section.{PieceIsSound, piece_spelled, written_chunk
 use Rattle.mcap_laws.proofs.BlockIndexes.{indexes_are}
 use Rattle.mcap_laws.proofs.StatisticsRight.{count_messages}
 use Rattle.live_entry.specs.declared.entry.Entry.{Entry}
-use Rattle.live_entry.specs.Entries.{IsEntry}
-use Rattle.live_entry.specs.Following.{Stretch, HasMessageOn, HasMessageIndex, IsStretch, HasNumbers}
+use Rattle.live_entry.specs.Entries.{IsEntry, HasNumbers}
+use Rattle.live_entry.specs.Following.{Stretch, HasMessageOn, HasMessageIndex, IsStretch}
 
 abbrev pub stretch_of : List Rec → Stretch
 stretch_of records = record { chunk = chunk_top records; indexes = map (index_top records) (logged_channels records) }

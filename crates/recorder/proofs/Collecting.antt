@@ -13,7 +13,7 @@ use Rattle.buffer_swap.specs.Calls.{reasoned, closed_at}
 use Rattle.buffer_swap.specs.Plays.{Unclosed}
 use Rattle.buffer_swap.specs.Posts.{Gathered, Post}
 use Rattle.recorder.specs.Recorded.{FeedRecorded}
-use Rattle.feed_lane.specs.Feeds.{ListsMessages}
+use Rattle.feed_lane.specs.Steps.{ListsMessages}
 use Rattle.recorder.specs.Lanes.{LaneRan, LanesRan}
 
 -- ---- lists

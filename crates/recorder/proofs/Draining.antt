@@ -11,7 +11,7 @@ use Rattle.mcap_model.specs.declared.ends.Stop.{Stop}
 use Rattle.mcap_model.specs.declared.ends.Stop.TheVariants as stops
 use Rattle.mcap_model.specs.History.{Numbered}
 use Rattle.mcap_model.proofs.Places.{at_none}
-use Rattle.record_cache.specs.Buffers.{IsKept}
+use Rattle.record_cache.specs.KeptRecords.{IsKept}
 use Rattle.record_core.specs.Desk.{IsCause}
 use Rattle.chunk_writer.specs.declared.phase.Phase.{Phase}
 use Rattle.chunk_writer.specs.declared.phase.Phase.TheVariants as phases
@@ -19,7 +19,8 @@ use Rattle.live_entry.specs.declared.entry.Entry.{Entry}
 use Rattle.mcap_io.specs.Outside.{one_more}
 use Rattle.chunk_writer.specs.Tapes.{HasTaken, MayTake, StopsFor, EndsFor}
 use Rattle.record_core.specs.declared.answers.Found.{Found}
-use Rattle.feed_lane.specs.Pass.{PassState, Finds, with_found}
+use Rattle.feed_lane.specs.Pass.{PassState}
+use Rattle.feed_lane.specs.PassCalls.{Finds, with_found}
 use Rattle.buffer_swap.specs.Posts.{Post}
 use Rattle.buffer_swap.specs.Calls.{stopped_at}
 use Rattle.recorder.specs.Recorded.{end_answer}

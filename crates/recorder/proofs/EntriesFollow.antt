@@ -12,12 +12,13 @@ use Rattle.mcap_model.specs.Tops.{Top, top_bytes, spelled, offset_behind}
 use Rattle.mcap_model.specs.Rules.{Agrees}
 use Rattle.mcap_wire.specs.Limits.{chunk_size_limit}
 use Rattle.mcap_model.specs.History.{rec_top, Numbered}
-use Rattle.mcap_model.specs.Written.{IdsAgree}
-use Rattle.record_cache.specs.Buffers.{IsKept}
+use Rattle.mcap_model.specs.Histories.{IdsAgree}
+use Rattle.record_cache.specs.KeptRecords.{IsKept}
 use Rattle.mcap_model.specs.Blocks.{Piece, block, alone, pieces_of, piece_bytes, pieces_bytes, block_bytes}
 use Rattle.mcap_model.specs.File.{library, front, blocks_from}
 use Rattle.mcap_model.specs.Recovery.{piece_records}
-use Rattle.mcap_model.specs.Laws.{IsReadBack, IsNumberedRec, PieceIsShort}
+use Rattle.mcap_model.specs.Laws.{IsNumberedRec, PieceIsShort}
+use Rattle.mcap_model.specs.ReadBack.{IsReadBack}
 use Rattle.mcap_model.proofs.Places.{at_none, at_kept, each_front}
 use Rattle.mcap_model.proofs.Lists.{pairs_at, pairs_from}
 use Rattle.mcap_model.proofs.Readings.{length-top}
@@ -30,7 +31,8 @@ use Rattle.mcap_model.proofs.Standing.{Rises, blocks_are, blocks_rise}
 use Rattle.mcap_laws.proofs.Ranges.{length-chunk, entries_short}
 use Rattle.mcap_laws.proofs.FirstPieces.{pieces_indexed, pieces_good, header_shown, header_starts}
 use Rattle.live_entry.specs.declared.entry.Entry.{Entry}
-use Rattle.live_entry.specs.Following.{Stored, Stretch, all_tops, IsStretch, AreGood, Follow, IsStored, HasNumbers}
+use Rattle.live_entry.specs.Following.{Stored, Stretch, all_tops, IsStretch, AreGood, Follow, IsStored}
+use Rattle.live_entry.specs.Entries.{HasNumbers}
 use Rattle.chunk_writer.proofs.Planned.{length-front}
 use Rattle.recorder.specs.Entries.{IsEntryThere, AreFirst, RecordedEntriesFollow}
 use Rattle.recorder.proofs.ReadBack.{recs_back, pieces_short}

@@ -4,7 +4,8 @@ use Rattle.std.specs.List.{AllZip}
 use Rattle.rec_data.specs.declared.owned.Rec.{Rec}
 use Rattle.mcap_model.specs.declared.options.FileOptions.{FileOptions}
 use Rattle.mcap_model.specs.Blocks.{Piece, block, cuts, pieces_of, pieces_bytes}
-use Rattle.mcap_model.specs.File.{front, blocks_from, written_of}
+use Rattle.mcap_model.specs.File.{front, blocks_from}
+use Rattle.mcap_model.specs.Histories.{written_of}
 use Rattle.mcap_model.proofs.OneMore.{zip_push}
 use Rattle.mcap_model.proofs.ShownMessages.{zip_joined}
 use Rattle.live_entry.specs.declared.entry.Entry.{Entry}

@@ -14,7 +14,7 @@ use Rattle.chunk_writer.specs.Stops.{numbers, StopsAt, StopCause, Cause}
 use Rattle.chunk_writer.specs.Scribes.{WritesHistory, store_of, phase_of, blocks_of, planned_bytes}
 use Rattle.chunk_writer.specs.Tapes.{KeepsCause, seen_store, TakesOn, EndsOn, MeetsLimit}
 use Rattle.feed_lane.specs.declared.report.FeedReport.{FeedReport}
-use Rattle.feed_lane.specs.Feeds.{ListsMessages}
+use Rattle.feed_lane.specs.Steps.{ListsMessages}
 use Rattle.recorder.specs.declared.options.RecordOptions.{RecordOptions}
 use Rattle.recorder.specs.declared.report.Report.{Report}
 use Rattle.recorder.specs.declared.report.WriterReport.{WriterReport}

@@ -16,7 +16,8 @@ use Rattle.mcap_model.specs.Summary.{Noted, Group, group_bytes, groups_of, group
 use Rattle.mcap_model.specs.File.{front, file_of, noted}
 use Rattle.mcap_model.specs.Kept.{reading_limits, is_beyond}
 use Rattle.mcap_model.specs.Whole.{offset_of, IsWhole}
-use Rattle.mcap_model.specs.Laws.{IsReadBack, CanBeWritten}
+use Rattle.mcap_model.specs.Laws.{CanBeWritten}
+use Rattle.mcap_model.specs.ReadBack.{IsReadBack}
 use Rattle.mcap_model.proofs.Places.{at_none, at_within}
 use Rattle.mcap_model.proofs.Lists.{at_either, cut_at, each_cons}
 use Rattle.mcap_model.proofs.Logged.{few_channels, length-entries}
@@ -33,8 +34,9 @@ use Rattle.mcap_model.proofs.Body.{standing, pieces_back}
 use Rattle.mcap_model.proofs.Flaws.{whole_once}
 use Rattle.mcap_laws.proofs.Scanned.{read_so}
 use Rattle.mcap_laws.proofs.Tails.{full_groups, full_tops, each_full, schemas_has, channels_has}
-use Rattle.record_cache.specs.Buffers.{IsKept}
-use Rattle.recorder.specs.Laws.{AreReadable, IsWithinLimits}
+use Rattle.record_cache.specs.KeptRecords.{IsKept}
+use Rattle.recorder.specs.Laws.{IsWithinLimits}
+use Rattle.recorder.specs.Recorded.{AreReadable}
 use Rattle.recorder.proofs.ReadBack.{recs_back, rec_short, can_be_read, IsClosedFile}
 
 abbrev IsShort : Top → Type 0

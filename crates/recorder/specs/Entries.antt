@@ -11,12 +11,12 @@ use Rattle.mcap_model.specs.Scan.{Seen, Scan}
 use Rattle.mcap_model.specs.History.{Numbered}
 use Rattle.mcap_model.specs.Blocks.{Piece, block_bytes, pieces_of, pieces_bytes}
 use Rattle.mcap_model.specs.File.{front, blocks_from}
-use Rattle.record_cache.specs.Buffers.{IsKept}
+use Rattle.record_cache.specs.KeptRecords.{IsKept}
 use Rattle.live_entry.specs.declared.entry.Entry.{Entry}
-use Rattle.live_entry.specs.Entries.{SeenExtents, IsEntry}
-use Rattle.live_entry.specs.Following.{Stored, Stretch, Follow, ScanStored, IsStored, EntriesFollow}
+use Rattle.live_entry.specs.Entries.{SeenExtents, IsEntry, EntriesFollow}
+use Rattle.live_entry.specs.Following.{Stored, Stretch, Follow, ScanStored, IsStored}
 use Rattle.chunk_writer.specs.Scribes.{sure_blocks, GivesEntries, GivesLast}
-use Rattle.recorder.specs.Laws.{AreReadable}
+use Rattle.recorder.specs.Recorded.{AreReadable}
 
 -- an entry has the numbers of the block of these records, which stands at that offset, and where its extent tells, it
 -- tells the block's bytes

@@ -6,7 +6,8 @@ use Rattle.record_cache.specs.Buffers.{Buffer}
 use Rattle.feed_lane.specs.declared.report.FeedReport.{FeedReport}
 use Rattle.feed_lane.specs.Pass.{PassState}
 use Rattle.feed_lane.specs.Lanes.{InStep}
-use Rattle.feed_lane.specs.Feeds.{Reports, ListsMessages}
+use Rattle.feed_lane.specs.Feeds.{Reports}
+use Rattle.feed_lane.specs.Steps.{ListsMessages}
 use Rattle.buffer_swap.specs.Calls.{reasoned}
 use Rattle.buffer_swap.specs.Plays.{Unclosed}
 use Rattle.buffer_swap.specs.Posts.{Gathered, Post}

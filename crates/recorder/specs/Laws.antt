@@ -1,8 +1,6 @@
 -- Laws of recordings.
-use Rattle.std.specs.Prelude.{◌≡◌, ℕ, ◌<◌, ◌≤◌, List, [], length, filter, true, false, Some, IsUtf8, ◌-◌}
+use Rattle.std.specs.Prelude.{◌≡◌, ℕ, ◌<◌, List, [], length, filter, true, false, Some}
 use Rattle.std.specs.List.{AllZip}
-use Rattle.mcap_wire.specs.Layout.{content_limit}
-use Rattle.mcap_wire.specs.Limits.{chunk_size_limit}
 use Rattle.rec_data.specs.declared.owned.Rec.{Rec}
 use Rattle.mcap_io.specs.Outside.{SourceState}
 use Rattle.mcap_model.specs.declared.ends.End.{End}
@@ -13,26 +11,20 @@ use Rattle.mcap_model.specs.Tops.{Top, flat}
 use Rattle.mcap_model.specs.Rules.{Agrees}
 use Rattle.mcap_model.specs.Kept.{Halts, reading_limits, is_beyond, at_end}
 use Rattle.mcap_model.specs.Scan.{Seen, Scan}
-use Rattle.mcap_model.specs.History.{is_message, flat_history, history_bytes}
+use Rattle.mcap_model.specs.History.{is_message, history_bytes}
+use Rattle.mcap_model.specs.Histories.{flat_history}
 use Rattle.mcap_model.specs.File.{file_of}
 use Rattle.mcap_model.specs.Whole.{offset_of, IsWhole}
-use Rattle.mcap_model.specs.Valid.{IsValid, IsFullyIndexed}
-use Rattle.mcap_model.specs.Laws.{HoldsSeen, CanBeWritten}
+use Rattle.mcap_model.specs.Laws.{IsValid, HoldsSeen, CanBeWritten}
+use Rattle.mcap_model.specs.Valid.{IsFullyIndexed}
 use Rattle.recorder.specs.declared.options.RecordOptions.{RecordOptions}
 use Rattle.recorder.specs.declared.report.Report.{Report}
 use Rattle.recorder.specs.Assembled.{LanePart, Assembled}
 use Rattle.feed_lane.specs.declared.report.FeedReport.{FeedReport}
 use Rattle.feed_lane.specs.declared.report.Cause.TheVariants as causes
-use Rattle.recorder.specs.Recorded.{Sides, Recorded}
+use Rattle.recorder.specs.Recorded.{Sides, Recorded, AreReadable}
 
 -- ---- recordings are read back
-
--- The profile is UTF-8, and so short that a reader takes the Header, which has 17 bytes besides; a chunk, where there are
--- any, is closed at 64 MiB or sooner.
-pub record AreReadable (options : FileOptions) : Type 0 where
-  pub profile : IsUtf8 options.profile
-  pub short : length options.profile ≤ content_limit - 17
-  pub size : (n : ℕ) → options.chunk ≡ Some n → (1 ≤ n) × (n ≤ chunk_size_limit)
 
 -- a file is read to its Data End: its flat records are those of a history, and its messages too, in order
 pub record ReadsAs (file : List ℕ) (history : List Rec) : Type 0 where

@@ -1,5 +1,7 @@
+-- What the promise of the program reaches, in the order to read it.
 pub mod Assembled
 pub mod Recorded
+-- What the functions of this crate and its proofs say besides.
 pub mod Writing
 pub mod Lanes
 pub mod Onto

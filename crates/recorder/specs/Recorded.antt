@@ -1,18 +1,19 @@
 -- What a recording did to its sources and to its store.
-use Rattle.std.specs.Prelude.{◌≡◌, ◌⊎◌, ◌≤◌, ℕ, List, [], map, length, true, Result, Ok, Err, OnOk}
+use Rattle.std.specs.Prelude.{◌≡◌, ℕ, ◌≤◌, length, Some, IsUtf8, ◌-◌, ◌⊎◌, List, [], map, true, Result, Ok, Err, OnOk}
+use Rattle.mcap_wire.specs.Layout.{content_limit}
+use Rattle.mcap_wire.specs.Limits.{chunk_size_limit}
+use Rattle.mcap_model.specs.declared.options.FileOptions.{FileOptions}
 use Rattle.rec_data.specs.declared.owned.Rec.{Rec}
 use Rattle.mcap_io.specs.Outside.{SourceState, LiveState}
 use Rattle.mcap_model.specs.declared.ends.End.{End}
 use Rattle.mcap_model.specs.declared.ends.End.TheVariants as ends
 use Rattle.mcap_model.specs.declared.ends.Stop.{Stop}
-use Rattle.mcap_model.specs.declared.options.FileOptions.{FileOptions}
 use Rattle.mcap_model.specs.Places.{Each}
 use Rattle.mcap_model.specs.Tops.{flat}
 use Rattle.mcap_model.specs.File.{front}
-use Rattle.record_cache.specs.Buffers.{IsKept}
+use Rattle.record_cache.specs.KeptRecords.{IsKept}
 use Rattle.chunk_writer.specs.Limits.{Holds}
-use Rattle.chunk_writer.specs.Stops.{numbers, Cause}
-use Rattle.chunk_writer.specs.Scribes.{Ends}
+use Rattle.chunk_writer.specs.Stops.{numbers, Cause, Ends}
 use Rattle.feed_lane.specs.declared.report.FeedReport.{FeedReport}
 use Rattle.feed_lane.specs.Pass.{PassState}
 use Rattle.feed_lane.specs.Feeds.{reported, Reports}
@@ -85,3 +86,12 @@ pub record Recorded (options : RecordOptions) (before now : Sides) (r : Report) 
   -- each record can be framed, and is read back from its frame
   pub kept : Each IsKept history
   pub writer : WriterRecorded options.file before.live now.live history r.writer
+
+-- ---- recordings are read back
+
+-- The profile is UTF-8, and so short that a reader takes the Header, which has 17 bytes besides; a chunk, where there are
+-- any, is closed at 64 MiB or sooner.
+pub record AreReadable (options : FileOptions) : Type 0 where
+  pub profile : IsUtf8 options.profile
+  pub short : length options.profile ≤ content_limit - 17
+  pub size : (n : ℕ) → options.chunk ≡ Some n → (1 ≤ n) × (n ≤ chunk_size_limit)

@@ -3,7 +3,8 @@ use Rattle.std.specs.Prelude.{◌≡◌, ◌⊎◌, ℕ, ◌≤◌, List, [], �
 use Rattle.rec_data.specs.declared.owned.Rec.{Rec}
 use Rattle.mcap_model.specs.declared.ends.End.{End}
 use Rattle.mcap_model.specs.declared.ends.Stop.{Stop}
-use Rattle.record_cache.specs.Buffers.{Buffer, IsKept}
+use Rattle.record_cache.specs.Buffers.{Buffer}
+use Rattle.record_cache.specs.KeptRecords.{IsKept}
 use Rattle.record_core.specs.Desk.{IsCause}
 use Rattle.record_core.specs.declared.answers.Found.{Found}
 use Rattle.live_entry.specs.declared.entry.Entry.{Entry}

@@ -2,7 +2,7 @@
 ghost use Rattle.std.specs.Prelude.{◌≡◌, ◌+◌, ◌<◌, ◌≤◌, ℕ, [], ◌∷◌, ◌++◌, map, vec_capacity, vec_len, false, Some, None, IsSome};
 ghost use Rattle.std.specs.List.{AllZip};
 ghost use Rattle.mcap_model.specs.Places.{Each};
-ghost use Rattle.feed_lane.specs.Pass.{no_calls};
+ghost use Rattle.feed_lane.specs.PassCalls.{no_calls};
 ghost use Rattle.feed_lane.specs.Lanes.{InStep};
 ghost use Rattle.buffer_swap.specs.Plays.{hires, gathered, Unclosed};
 ghost use Rattle.recorder.specs.Lanes.{LaneRan, IsFreshControl, LanesRan};

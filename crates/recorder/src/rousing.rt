@@ -1,8 +1,10 @@
 //! A feed whose lane rouses the writer where it may have to wait.
 ghost use Rattle.std.proofs.Common.{◌∙◌};
 ghost use Rattle.std.specs.Prelude.{refl, ◌≡◌, ℕ};
-ghost use Rattle.feed_lane.specs.Pass.{PassState, no_calls};
-ghost use Rattle.feed_lane.specs.Feeds.{Reports, ListsMessages};
+ghost use Rattle.feed_lane.specs.Pass.{PassState};
+ghost use Rattle.feed_lane.specs.PassCalls.{no_calls};
+ghost use Rattle.feed_lane.specs.Feeds.{Reports};
+ghost use Rattle.feed_lane.specs.Steps.{ListsMessages};
 
 use buffer_swap::Rouser;
 use feed_lane::{FeedReport, Pass, publish_feed};

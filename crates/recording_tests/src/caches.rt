@@ -1,7 +1,7 @@
 //! Walks over the records of a buffer, and one that is full.
 ghost use Rattle.std.specs.Prelude.{◌≤◌, length};
 ghost use Rattle.rec_data.specs.Owned.{rec_bytes};
-ghost use Rattle.record_cache.specs.Buffers.{IsKept};
+ghost use Rattle.record_cache.specs.KeptRecords.{IsKept};
 ghost use Rattle.record_cache.specs.Offers.{rec_of};
 
 use crate::same::holds;

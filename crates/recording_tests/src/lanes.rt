@@ -1,6 +1,6 @@
 //! A lane over an intake that lacks memory.
 ghost use Rattle.std.specs.Prelude.{◌≡◌};
-ghost use Rattle.feed_lane.specs.Pass.{no_calls};
+ghost use Rattle.feed_lane.specs.PassCalls.{no_calls};
 
 use crate::same::holds;
 use feed_lane::{Cause, FeedEnd, FeedReport, Pass, Refused, publish_feed};

@@ -1,6 +1,6 @@
 //! Recordings of feeds on threads: each message of a feed is told once, and stands at its place in the file.
 ghost use Rattle.std.specs.Prelude.{◌≡◌, ◌≤◌, vec_len, IfOk};
-ghost use Rattle.mcap_wire.specs.Limits.{buffer_limit};
+ghost use Rattle.mcap_wire.specs.RecordingLimits.{buffer_limit};
 
 use crate::same::{holds, holds_at};
 use mcap_io::{FailingWrite, MemoryLive, MemorySource};

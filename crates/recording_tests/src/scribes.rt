@@ -1,7 +1,7 @@
 //! Files that are written record by record, the entries of their blocks, and the limits.
 ghost use Rattle.std.specs.Prelude.{◌≡◌, ◌≤◌, ℕ, Some};
 ghost use Rattle.mcap_wire.specs.Limits.{chunk_size_limit};
-ghost use Rattle.rec_data.specs.Owned.{LengthsFit};
+ghost use Rattle.rec_data.specs.OwnedReading.{LengthsFit};
 
 use crate::same::{holds, holds_at};
 use chunk_writer::{Entry, Phase, Scribe, keep_limit};

@@ -1,7 +1,7 @@
 //! A summary, byte by byte, of ids that stand in another order than their records.
 ghost use Rattle.std.specs.Prelude.{◌≡◌, ◌≤◌, ◌+◌, List, length, IfOk, IfSome};
 ghost use Rattle.rec_data.specs.declared.owned.Rec.{Rec};
-ghost use Rattle.rec_data.specs.Owned.{LengthsFit};
+ghost use Rattle.rec_data.specs.OwnedReading.{LengthsFit};
 ghost use Rattle.mcap_model.specs.Built.{IsBlock};
 ghost use Rattle.chunk_build.specs.Chunker.{StandsFor};
 

@@ -19,7 +19,7 @@ use Rattle.mcap_model.proofs.Places.{at_none, at_within, at_more}
 use Rattle.mcap_model.proofs.Readings.{length-top}
 use Rattle.mcap_model.proofs.TakenRecords.{spelled_more}
 use Rattle.mcap_model.proofs.OneMore.{each_last}
-use Rattle.summary_read.specs.Parts.{cut_tops}
+use Rattle.summary_read.specs.PartSteps.{cut_tops}
 use Rattle.summary_read.proofs.Walking.{declared_there, opcode_there}
 use Rattle.mcap_model.specs.declared.refusals.ReadingRefused.{ReadingRefused}
 use Rattle.mcap_model.specs.declared.refusals.ReadingRefused.TheVariants as refusals

@@ -12,7 +12,7 @@ use Rattle.mcap_model.specs.Plain.{cut_top}
 use Rattle.mcap_model.proofs.Front.{IsTail, tail_not}
 use Rattle.mcap_model.proofs.Lists.{each_cons, each_joined, each_taken}
 use Rattle.mcap_model.proofs.Places.{at_none, at_within}
-use Rattle.summary_read.specs.Parts.{cut_tops}
+use Rattle.summary_read.specs.PartSteps.{cut_tops}
 use Rattle.summary_read.specs.Steps.{Judged}
 use Rattle.summary_check.specs.Body.{known, KnownInPlace}
 use Rattle.summary_check.specs.Files.{spelled_file}

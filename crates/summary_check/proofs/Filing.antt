@@ -20,7 +20,7 @@ use Rattle.mcap_model.proofs.Places.{at_none, at_within, at_kept, at_last, last_
 use Rattle.mcap_model.proofs.Readings.{short_there}
 use Rattle.mcap_model.proofs.TakenRecords.{ended_more}
 use Rattle.index_check.specs.declared.section.Section.{Section}
-use Rattle.summary_read.specs.Parts.{cut_tops, AreInside}
+use Rattle.summary_read.specs.PartSteps.{cut_tops, AreInside}
 use Rattle.summary_read.proofs.FileEnds.{footer_size}
 use Rattle.summary_check.specs.Closing.{IsOfFooter, NoFooter}
 use Rattle.summary_check.specs.Cutting.{ArePlaced, AreCutBehind}

@@ -18,7 +18,7 @@ use Rattle.mcap_model.proofs.ReadBack.{at_map}
 use Rattle.index_check.specs.declared.summary_places.SummaryPlaces.{SummaryPlaces}
 use Rattle.index_check.proofs.Ends.{named_start}
 use Rattle.index_check.specs.SummaryPlaces.{FirstStands, PlacesOf}
-use Rattle.summary_read.specs.Parts.{cut_tops}
+use Rattle.summary_read.specs.PartSteps.{cut_tops}
 use Rattle.summary_check.specs.Closing.{IsOfFooter}
 use Rattle.summary_check.specs.Files.{spelled_file}
 use Rattle.summary_check.specs.Filed.{records_of, Filed}

@@ -19,7 +19,7 @@ use Rattle.index_check.specs.Chunks.{HasMessage, ChunksOf, ChunksNamed}
 use Rattle.index_check.proofs.Spotted.{one_place, note_there}
 use Rattle.mcap_wire.specs.declared.faults.Cut.{Cut}
 use Rattle.mcap_model.proofs.Once.{chunk_index_once}
-use Rattle.summary_read.specs.Parts.{cut_tops}
+use Rattle.summary_read.specs.PartSteps.{cut_tops}
 use Rattle.summary_read.specs.Steps.{Judged}
 use Rattle.summary_check.specs.Offsets.{Spans}
 use Rattle.summary_check.proofs.Onward.{op_there, tops_within}

@@ -16,7 +16,7 @@ use Rattle.mcap_model.proofs.Lists.{at_either, at_second, take_second}
 use Rattle.mcap_model.proofs.Readings.{length-top}
 use Rattle.mcap_model.proofs.TakenRecords.{ended_front, ended_more, spelled_more}
 use Rattle.mcap_model.proofs.OneMore.{taken_more}
-use Rattle.summary_read.specs.Parts.{cut_tops}
+use Rattle.summary_read.specs.PartSteps.{cut_tops}
 use Rattle.summary_check.specs.Laid.{all_of, EndsWithDataEnd, IsFrontRecord, Laid}
 use Rattle.summary_check.proofs.Onward.{length-tops}
 

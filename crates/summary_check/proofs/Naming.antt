@@ -13,7 +13,7 @@ use Rattle.mcap_model.proofs.ReadBack.{at_map}
 use Rattle.mcap_model.proofs.Places.{at_none, at_within, at_kept, at_last, at_more, at_one, has_kept, has_last}
 use Rattle.mcap_model.proofs.Lists.{at_either}
 use Rattle.mcap_model.proofs.Once.{summary_offset_once}
-use Rattle.summary_read.specs.Parts.{cut_tops}
+use Rattle.summary_read.specs.PartSteps.{cut_tops}
 use Rattle.summary_check.specs.Laid.{all_of, IsFrontRecord, Laid}
 use Rattle.summary_check.specs.Offsets.{Spans, SpanIs, AreNamedOpcodes, OffsetTaken}
 use Rattle.summary_check.proofs.Laying.{front_not, body_there, offset_cut, offset_behind_cut}

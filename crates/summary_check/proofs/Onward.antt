@@ -7,7 +7,7 @@ use Rattle.mcap_model.specs.Tops.{Top}
 use Rattle.mcap_model.specs.Plain.{cut_top}
 use Rattle.mcap_model.proofs.Flat.{at_mapped}
 use Rattle.mcap_model.proofs.Places.{at_within, at_one}
-use Rattle.summary_read.specs.Parts.{cut_tops}
+use Rattle.summary_read.specs.PartSteps.{cut_tops}
 
 pub length-tops : (bytes : List ℕ) (cuts : List Cut) → length (cut_tops bytes cuts) ≡ length cuts
 length-tops bytes [] = refl

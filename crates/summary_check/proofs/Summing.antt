@@ -16,7 +16,7 @@ use Rattle.mcap_model.proofs.Places.{at_none}
 use Rattle.index_check.specs.declared.section.Section.{Section}
 use Rattle.index_check.specs.Chunks.{IndexesChunk}
 use Rattle.index_check.specs.Extras.{IndexesAttachment, IndexesMetadata}
-use Rattle.summary_read.specs.Parts.{cut_tops}
+use Rattle.summary_read.specs.PartSteps.{cut_tops}
 use Rattle.summary_read.specs.Steps.{Judged}
 use Rattle.summary_check.specs.Body.{OrderJudged}
 use Rattle.summary_check.specs.Files.{spelled_file}

@@ -6,7 +6,7 @@ use Rattle.mcap_model.specs.Places.{At}
 use Rattle.mcap_model.specs.Tops.{Top, spelled}
 use Rattle.mcap_model.specs.Plain.{cut_top}
 use Rattle.mcap_model.specs.Whole.{V12}
-use Rattle.summary_read.specs.Parts.{cut_tops}
+use Rattle.summary_read.specs.PartSteps.{cut_tops}
 use Rattle.index_check.specs.declared.section.Section.{Section}
 use Rattle.summary_check.specs.Cutting.{AreCutBehind}
 use Rattle.summary_check.specs.Files.{spelled_file}

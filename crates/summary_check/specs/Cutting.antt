@@ -6,7 +6,7 @@ use Rattle.mcap_wire.specs.Reading.{IsCut}
 use Rattle.mcap_model.specs.Places.{At, Each}
 use Rattle.mcap_model.specs.Tops.{Top, spelled, offset_behind}
 use Rattle.mcap_model.specs.Whole.{AreShort}
-use Rattle.summary_read.specs.Parts.{cut_tops, AreInside}
+use Rattle.summary_read.specs.PartSteps.{cut_tops, AreInside}
 use Rattle.mcap_model.specs.declared.refusals.ReadingRefused.{ReadingRefused}
 use Rattle.summary_check.specs.Files.{spelled_file, FailsThere}
 

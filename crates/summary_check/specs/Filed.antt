@@ -7,7 +7,7 @@ use Rattle.mcap_model.specs.Fields.{IsFooter}
 use Rattle.mcap_model.specs.Whole.{IsWhole}
 use Rattle.mcap_model.specs.Valid.{IsPlain}
 use Rattle.mcap_model.specs.Plain.{cut_top}
-use Rattle.summary_read.specs.Parts.{cut_tops}
+use Rattle.summary_read.specs.PartSteps.{cut_tops}
 use Rattle.summary_check.specs.Files.{spelled_file}
 use Rattle.summary_check.specs.Laid.{all_of, Laid}
 

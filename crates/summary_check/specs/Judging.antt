@@ -7,7 +7,7 @@ use Rattle.mcap_model.specs.Tops.{Top, spelled}
 use Rattle.mcap_model.specs.Valid.{Valid, FullyIndexed}
 use Rattle.index_check.specs.Chunks.{HasMessage}
 use Rattle.index_check.specs.Tally.{TallyOf}
-use Rattle.summary_read.specs.Parts.{cut_tops}
+use Rattle.summary_read.specs.PartSteps.{cut_tops}
 use Rattle.summary_read.specs.Steps.{Judged}
 use Rattle.summary_check.specs.Laid.{EndsWithDataEnd, IsFrontRecord}
 use Rattle.index_check.specs.declared.section.Section.{Section}

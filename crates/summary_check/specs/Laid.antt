@@ -4,7 +4,7 @@ use Rattle.mcap_wire.specs.declared.faults.Cut.{Cut}
 use Rattle.mcap_model.specs.Places.{Each}
 use Rattle.mcap_model.specs.Tops.{Top, offset_behind}
 use Rattle.mcap_model.specs.Rules.{HasDataEnd, stands_in_section}
-use Rattle.summary_read.specs.Parts.{AreInside}
+use Rattle.summary_read.specs.PartSteps.{AreInside}
 use Rattle.summary_check.specs.Cutting.{ArePlaced}
 
 abbrev pub all_of : List Top → List Top → Top → List Top

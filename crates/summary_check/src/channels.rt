@@ -2,7 +2,7 @@
 ghost use Rattle.std.specs.Prelude.{◌∷◌, ◌++◌, [], List, IfOk, OnOk};
 ghost use Rattle.mcap_model.specs.Tops.{Top};
 ghost use Rattle.mcap_model.specs.Made.{top};
-ghost use Rattle.summary_read.specs.Parts.{cut_tops, AreInside};
+ghost use Rattle.summary_read.specs.PartSteps.{cut_tops, AreInside};
 ghost use Rattle.summary_check.specs.Declaring.{AreChannelIds};
 
 use crate::records::record_at;

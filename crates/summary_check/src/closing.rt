@@ -3,7 +3,7 @@ ghost use Rattle.std.specs.Prelude.{◌≡◌, ◌+◌, ◌-◌, ◌≤◌, ℕ,
 ghost use Rattle.mcap_model.specs.Tops.{Top};
 ghost use Rattle.mcap_model.specs.Plain.{cut_top};
 ghost use Rattle.mcap_model.specs.Whole.{V11, V16};
-ghost use Rattle.summary_read.specs.Parts.{cut_tops};
+ghost use Rattle.summary_read.specs.PartSteps.{cut_tops};
 ghost use Rattle.index_check.specs.SummaryPlaces.{FirstStands, PlacesOf};
 ghost use Rattle.summary_check.specs.Files.{spelled_file, FailsThere, IsOfSummary};
 ghost use Rattle.summary_check.specs.Filed.{records_of, Filed};

@@ -4,7 +4,7 @@ ghost use Rattle.mcap_model.specs.Places.{Each};
 ghost use Rattle.mcap_model.specs.Tops.{Top, flat};
 ghost use Rattle.mcap_model.specs.Declarations.{TablesOf};
 ghost use Rattle.mcap_model.specs.Made.{top};
-ghost use Rattle.summary_read.specs.Parts.{cut_tops, AreInside};
+ghost use Rattle.summary_read.specs.PartSteps.{cut_tops, AreInside};
 ghost use Rattle.summary_read.specs.Steps.{Judged};
 ghost use Rattle.summary_check.specs.Declaring.{DeclarationTaken, DeclarationsTaken};
 

@@ -6,7 +6,7 @@ ghost use Rattle.mcap_model.specs.Tops.{Top, flat};
 ghost use Rattle.mcap_model.specs.Declarations.{TablesOf};
 ghost use Rattle.mcap_model.specs.Whole.{offset_of, V14, V15};
 ghost use Rattle.index_check.specs.Tally.{TallyOf};
-ghost use Rattle.summary_read.specs.Parts.{cut_tops, AreInside};
+ghost use Rattle.summary_read.specs.PartSteps.{cut_tops, AreInside};
 ghost use Rattle.summary_read.specs.Steps.{Judged};
 ghost use Rattle.summary_check.specs.Body.{StandFrom, KeptFrom, OrderJudged};
 ghost use Rattle.summary_check.specs.Declaring.{DeclarationsTaken};

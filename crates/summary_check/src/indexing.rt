@@ -8,7 +8,7 @@ ghost use Rattle.mcap_model.specs.Whole.{IsIndexOf, V12};
 ghost use Rattle.mcap_model.specs.Made.{top};
 ghost use Rattle.mcap_wire.specs.declared.faults.Cut.{Cut as OneCut};
 ghost use Rattle.index_check.specs.Chunks.{ChunksOf};
-ghost use Rattle.summary_read.specs.Parts.{cut_tops, AreInside};
+ghost use Rattle.summary_read.specs.PartSteps.{cut_tops, AreInside};
 ghost use Rattle.summary_check.specs.Filed.{records_of};
 ghost use Rattle.summary_check.specs.FullIndex.{EmptyIsRight, EmptyRight, HasStatistics, MakesFullyIndexed};
 ghost use Rattle.summary_check.specs.Judging.{KnownOf};

@@ -1,5 +1,5 @@
 //! Which records may stand behind a Data End, and their layouts.
-ghost use Rattle.summary_read.specs.Parts.{cut_tops, AreInside};
+ghost use Rattle.summary_read.specs.PartSteps.{cut_tops, AreInside};
 ghost use Rattle.summary_check.specs.Body.{BrokenFound};
 
 use crate::records::record_at;

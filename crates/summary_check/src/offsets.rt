@@ -5,7 +5,7 @@ ghost use Rattle.mcap_model.specs.Places.{At};
 ghost use Rattle.mcap_model.specs.Tops.{Top};
 ghost use Rattle.mcap_model.specs.Whole.{IsGroup, V15};
 ghost use Rattle.mcap_model.specs.Made.{top};
-ghost use Rattle.summary_read.specs.Parts.{cut_tops, AreInside};
+ghost use Rattle.summary_read.specs.PartSteps.{cut_tops, AreInside};
 ghost use Rattle.summary_check.specs.Body.{RuleJudged};
 ghost use Rattle.summary_check.specs.Laid.{all_of, Laid};
 ghost use Rattle.summary_check.specs.Offsets.{SpanIs, AreNamedOpcodes, OffsetTaken};

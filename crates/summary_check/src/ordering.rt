@@ -2,7 +2,7 @@
 ghost use Rattle.std.specs.Prelude.{◌≡◌, List, ℕ, IfOk};
 ghost use Rattle.mcap_model.specs.Tops.{Top};
 ghost use Rattle.index_check.specs.Order.{OrderOf};
-ghost use Rattle.summary_read.specs.Parts.{cut_tops};
+ghost use Rattle.summary_read.specs.PartSteps.{cut_tops};
 ghost use Rattle.summary_check.specs.Body.{known, OpTaken, OrderJudged};
 
 use crate::records::op_at;

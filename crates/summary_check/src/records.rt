@@ -3,7 +3,7 @@ ghost use Rattle.std.specs.Prelude.{◌≡◌, ◌<◌, ℕ, List, length};
 ghost use Rattle.mcap_model.specs.Places.{At};
 ghost use Rattle.mcap_model.specs.Tops.{Top};
 ghost use Rattle.mcap_model.specs.Made.{top};
-ghost use Rattle.summary_read.specs.Parts.{cut_tops, AreInside};
+ghost use Rattle.summary_read.specs.PartSteps.{cut_tops, AreInside};
 ghost use Rattle.mcap_wire.specs.declared.faults.Cut.{Cut as OneCut};
 
 use mcap_wire::Cut;

@@ -10,7 +10,8 @@ use Rattle.mcap_model.specs.Rules.{V1}
 use Rattle.mcap_model.specs.declared.refusals.ReadingRefused.{ReadingRefused}
 use Rattle.mcap_model.specs.declared.refusals.ReadingRefused.TheVariants as refusals
 use Rattle.summary_read.specs.Reached.{EndsIn, SummaryStartsAt, summary_part, inside, record_passes, FailsInside, PassesInside}
-use Rattle.summary_read.specs.Parts.{Parts, IsLoaded, ListsParts, offsets_of_kind, cut_tops}
+use Rattle.summary_read.specs.Parts.{Parts, IsLoaded, offsets_of_kind}
+use Rattle.summary_read.specs.PartSteps.{ListsParts, cut_tops}
 use Rattle.summary_read.specs.Loading.{IsUnloaded, AskedFor}
 use Rattle.summary_read.specs.Steps.{NamesPart, HasHeader, AreCut, SummaryCut}
 

@@ -7,7 +7,7 @@ use Rattle.mcap_model.specs.Rules.{V6}
 use Rattle.mcap_model.specs.Made.{top}
 use Rattle.mcap_model.specs.Plain.{cut_top}
 use Rattle.mcap_model.proofs.Flat.{at_mapped}
-use Rattle.summary_read.specs.Parts.{IsSummaryCut, AreHeld, AreInside, IsContentAt, cut_tops}
+use Rattle.summary_read.specs.PartSteps.{IsSummaryCut, AreHeld, AreInside, IsContentAt, cut_tops}
 
 -- the record at that place, by its content
 pub record FoundAt (summary : List ℕ) (op : ℕ) (cuts : List Cut) (i : ℕ) (content : List ℕ) : Type 0 where

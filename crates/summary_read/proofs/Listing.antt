@@ -12,7 +12,8 @@ use Rattle.mcap_model.proofs.Flat.{at_mapped}
 use Rattle.mcap_model.proofs.Lists.{filter_passed}
 use Rattle.mcap_model.proofs.Places.{at_none}
 use Rattle.mcap_model.proofs.Readings.{length-top}
-use Rattle.summary_read.specs.Parts.{AreHeld, AreInside, of_kind, offsets_of, offsets_of_kind, cut_tops}
+use Rattle.summary_read.specs.Parts.{of_kind, offsets_of_kind}
+use Rattle.summary_read.specs.PartSteps.{AreHeld, AreInside, offsets_of, cut_tops}
 use Rattle.summary_read.specs.Steps.{InRow, AreCut}
 
 row_head : (at end : ℕ) (cuts : List Cut) (n : ℕ) (c : Cut) → InRow at cuts end → At cuts n c → 9 ≤ c.from

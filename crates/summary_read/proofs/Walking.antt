@@ -17,7 +17,8 @@ use Rattle.mcap_model.proofs.Lists.{each_cons, each_joined}
 use Rattle.mcap_model.proofs.Places.{at_none}
 use Rattle.mcap_model.proofs.Readings.{length-top}
 use Rattle.summary_read.specs.Reached.{BreaksFirst, breaks_4, breaks_5, breaks_6, DeclaresPast}
-use Rattle.summary_read.specs.Parts.{cut_tops, IsSummaryRecord}
+use Rattle.summary_read.specs.Parts.{IsSummaryRecord}
+use Rattle.summary_read.specs.PartSteps.{cut_tops}
 use Rattle.summary_read.specs.Steps.{Judged, IsTaken, InRow, CutsTo, AreCut}
 
 -- ---- what stands at an offset

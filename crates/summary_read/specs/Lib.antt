@@ -1,5 +1,8 @@
+-- What the promise of the program reaches, in the order to read it.
 pub mod Reached
 pub mod Parts
 pub mod Loading
+-- What the functions of this crate and its proofs say besides.
+pub mod PartSteps
 pub mod Steps
 pub mod Laws

@@ -1,7 +1,6 @@
 -- What loading comes to.
 use Rattle.std.specs.Prelude.{◌≡◌, ◌⊎◌, ℕ, ◌+◌, ◌-◌, ◌≤◌, List, length, drop, Option, Some, Result, Ok, Err}
 use Rattle.mcap_io.specs.Outside.{RisesOnce}
-use Rattle.mcap_io.specs.Stores.{StoreState}
 use Rattle.mcap_model.specs.Tops.{declared_length}
 use Rattle.mcap_model.specs.declared.refusals.ReadingRefused.{ReadingRefused}
 use Rattle.mcap_model.specs.declared.refusals.ReadingRefused.TheVariants as refusals
@@ -49,10 +48,6 @@ PlainCause before now (refusals.Compressed offset name) = ⊥
 PlainCause before now (refusals.Limit offset) = now ≡ before
 PlainCause before now refusals.Memory = now ≡ before
 
-abbrev pub StepCause : {P : Type 0} → ℕ → ℕ → Result P ReadingRefused → Type 0
-StepCause before now (Ok it) = now ≡ before
-StepCause before now (Err why) = PlainCause before now why
-
 -- so it is of a loading, by which a file is only said not to be indexed where it has no summary
 abbrev pub LoadCause : {P : Type 0} → ℕ → ℕ → Result P IndexedRefused → Type 0
 LoadCause before now (Ok parts) = now ≡ before
@@ -64,6 +59,3 @@ LoadCause before now (Err (by_index.Refused why)) = PlainCause before now why
 abbrev pub AskedFor : List ℕ → ℕ → ℕ → Type 0
 AskedFor file before now = (now ≤ before + 45)
     ⊎ ((start : ℕ) × SummaryStartsAt file start × (now ≤ before + 54 + declared_length (drop 8 file) + (length file - 37 - start)))
-
-abbrev pub AsksLittle : StoreState → StoreState → Type 0
-AsksLittle old new = (file : List ℕ) → old.bytes ≡ Some file → AskedFor file old.asked new.asked

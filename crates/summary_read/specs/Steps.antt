@@ -1,6 +1,8 @@
 -- The steps of loading.
-use Rattle.std.specs.Prelude.{◌≡◌, ◌⊎◌, ◌↔◌, ℕ, ◌+◌, ◌-◌, ◌≤◌, List, [], ◌∷◌, ◌++◌, length, take, drop, Bool, true, false, Option, Some, None, Result, Ok, Err, Vec, vec_len}
+use Rattle.std.specs.Prelude.{◌≡◌, ℕ, List, Some, Result, Ok, Err, ◌⊎◌, ◌↔◌, ◌+◌, ◌-◌, ◌≤◌, [], ◌∷◌, ◌++◌, length, take, drop, Bool, true, false, Option, None, Vec, vec_len}
 use Rattle.mcap_io.specs.Stores.{StoreState}
+use Rattle.mcap_model.specs.declared.refusals.ReadingRefused.{ReadingRefused}
+use Rattle.summary_read.specs.Loading.{PlainCause, AskedFor, IsUnsummed, IsUnloaded, IsLoadRefused}
 use Rattle.mcap_io.specs.declared.outside.Failed.{Failed}
 use Rattle.mcap_wire.specs.declared.faults.Cut.{Cut}
 use Rattle.mcap_wire.specs.Layout.{le, content_limit}
@@ -12,14 +14,13 @@ use Rattle.mcap_model.specs.Rules.{V1, V6}
 use Rattle.mcap_model.specs.Whole.{V2, stands_in_summary}
 use Rattle.mcap_model.specs.Made.{top}
 use Rattle.mcap_model.specs.Plain.{cut_top}
-use Rattle.mcap_model.specs.declared.refusals.ReadingRefused.{ReadingRefused}
 use Rattle.mcap_model.specs.declared.refusals.ReadingRefused.TheVariants as refusals
 use Rattle.mcap_model.specs.declared.refusals.IndexedRefused.{IndexedRefused}
 use Rattle.mcap_model.specs.declared.refusals.IndexedRefused.TheVariants as by_index
 use Rattle.mcap_wire.specs.Limits.{file_limit}
 use Rattle.summary_read.specs.Reached.{summary_limit, RecordShowsFooter, EndsIn, HasNoSummary, BreaksFirst, DeclaresPast, FailsLoading, Passes, FailsInside, PassesInside}
-use Rattle.summary_read.specs.Parts.{cut_tops, AreInside, IsSummaryRecord}
-use Rattle.summary_read.specs.Loading.{IsUnsummed, IsUnloaded, IsLoadRefused}
+use Rattle.summary_read.specs.PartSteps.{cut_tops, AreInside}
+use Rattle.summary_read.specs.Parts.{IsSummaryRecord}
 
 -- ---- the ends of a file
 
@@ -193,3 +194,12 @@ SummaryCut bytes start (Err (refusals.Grammar offset rule)) = FailsInside bytes 
 SummaryCut bytes start (Err (refusals.Compressed offset name)) = ⊥
 SummaryCut bytes start (Err (refusals.Limit offset)) = PassesInside bytes start offset
 SummaryCut bytes start (Err refusals.Memory) = Unit {0}
+
+-- ---- causes, and what is asked for
+
+abbrev pub StepCause : {P : Type 0} → ℕ → ℕ → Result P ReadingRefused → Type 0
+StepCause before now (Ok it) = now ≡ before
+StepCause before now (Err why) = PlainCause before now why
+
+abbrev pub AsksLittle : StoreState → StoreState → Type 0
+AsksLittle old new = (file : List ℕ) → old.bytes ≡ Some file → AskedFor file old.asked new.asked

@@ -5,7 +5,7 @@ ghost use Rattle.rec_data.specs.Records.{ShowsHeader};
 ghost use Rattle.rec_index.specs.Parsed.{chunk_index_fields, attachment_index_fields};
 ghost use Rattle.mcap_model.specs.Places.{At};
 ghost use Rattle.mcap_model.specs.Fields.{IsSchema, IsChannel, IsChunkIndex, IsAttachmentIndex, IsMetadataIndex, IsSummaryOffset};
-ghost use Rattle.summary_read.specs.Parts.{AreInside, IsContentAt, IsSuchAt, GivesStatistics};
+ghost use Rattle.summary_read.specs.PartSteps.{AreInside, IsContentAt, IsSuchAt, GivesStatistics};
 
 use mcap_wire::Cut;
 use rec_data::{Channel, Footer, Header, Schema};
@@ -35,7 +35,8 @@ impl Model for Loaded {
     ghost use Rattle.std.specs.Prelude.{◌+◌, ◌^◌, ◌<◌, length, slice_get};
     ghost use Rattle.mcap_model.specs.Fields.{IsHeader};
     ghost use Rattle.mcap_model.specs.Made.{top};
-    ghost use Rattle.summary_read.specs.Parts.{Parts, AreHeld, offsets_of, cut_tops};
+    ghost use Rattle.summary_read.specs.Parts.{Parts};
+    ghost use Rattle.summary_read.specs.PartSteps.{AreHeld, offsets_of, cut_tops};
 
     ghost Value = { Parts };
 

@@ -1,12 +1,12 @@
 //! Loading: the ends of a file are read and judged, then its summary.
 ghost use Rattle.std.specs.Prelude.{◌≡◌, ◌+◌, ◌^◌, ◌<◌, ◌≤◌, length, IfOk, OnOk};
-ghost use Rattle.mcap_io.specs.Outside.{HasCause};
-ghost use Rattle.mcap_io.specs.Stores.{LeavesStore};
+ghost use Rattle.mcap_io.specs.OutsideCalls.{HasCause};
+ghost use Rattle.mcap_io.specs.StoreAnswers.{LeavesStore};
 ghost use Rattle.mcap_model.specs.Fields.{IsHeader};
 ghost use Rattle.mcap_model.specs.Made.{top};
-ghost use Rattle.summary_read.specs.Loading.{Loads, LoadCause, PlainCause, StepCause, AsksLittle};
-ghost use Rattle.summary_read.specs.Parts.{ListsParts};
-ghost use Rattle.summary_read.specs.Steps.{AreCut, FooterNamesPlace, TellsEnd, TellsFooter, TellsFront, TellsHeader, TellsMagic, TellsRefused, HeaderAsks, TellsPart, AsksAtMost};
+ghost use Rattle.summary_read.specs.Loading.{Loads, LoadCause, PlainCause};
+ghost use Rattle.summary_read.specs.PartSteps.{ListsParts};
+ghost use Rattle.summary_read.specs.Steps.{AreCut, FooterNamesPlace, TellsEnd, TellsFooter, TellsFront, TellsHeader, TellsMagic, TellsRefused, HeaderAsks, TellsPart, AsksAtMost, StepCause, AsksLittle};
 
 use crate::ends::{END_LENGTH, FRONT_LENGTH, begins_with_magic, is_header, judge_end, judge_front};
 use crate::lists::of_kind;

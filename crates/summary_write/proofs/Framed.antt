@@ -2,8 +2,8 @@
 use Rattle.std.proofs.Common.{◌≡◌, ℕ, ◌<◌, ◌^◌, List, ◌++◌, length, drop, get_or, Some, None, refl, ap, ◌∙◌, arith}
 use Rattle.std.proofs.lemmas.List.{drop_at}
 use Rattle.mcap_wire.specs.declared.faults.Why.{Why}
-use Rattle.mcap_wire.specs.Layout.{le}
-use Rattle.mcap_wire.specs.Reading.{NumberAt, NumberFails}
+use Rattle.mcap_wire.specs.Layout.{le, NumberAt}
+use Rattle.mcap_wire.specs.Reading.{NumberFails}
 use Rattle.mcap_wire.proofs.Numbers.{length-le}
 use Rattle.mcap_wire.proofs.Framing.{number_decided, number_not_refused}
 use Rattle.rec_data.specs.declared.owned.Rec.{Rec}

@@ -2,7 +2,7 @@
 ghost use Rattle.std.specs.Prelude.{◌≡◌, ◌+◌, ◌^◌, ◌<◌, ◌≤◌, ◌++◌, ◌==◌, Some, List, map, min, if◌then◌else◌, All, IfOk, OnOk, OnErr};
 ghost use Rattle.mcap_wire.specs.Limits.{record_count_limit};
 ghost use Rattle.rec_data.specs.declared.owned.Rec.{Rec};
-ghost use Rattle.rec_data.specs.Owned.{LengthsFit};
+ghost use Rattle.rec_data.specs.OwnedReading.{LengthsFit};
 ghost use Rattle.rec_data.specs.Fields.{AttachmentFields, MetadataFields};
 ghost use Rattle.rec_data.specs.Records.{ShowsAttachment, ShowsMetadata};
 ghost use Rattle.chunk_build.specs.Building.{mark_of};

@@ -10,11 +10,10 @@ use Rattle.mcap_model.specs.declared.replay.Range.{Range}
 use Rattle.mcap_model.specs.declared.replay.Shown.{Shown}
 use Rattle.mcap_model.specs.declared.tables.Tables.{Tables}
 use Rattle.mcap_model.specs.Tops.{Top, Placed}
-use Rattle.mcap_model.specs.Scan.{Seen, IsSeen}
+use Rattle.mcap_model.specs.Scan.{Seen, IsSeen, is_within}
 use Rattle.mcap_model.specs.Showing.{shown_as}
 use Rattle.mcap_model.specs.Made.{top}
 use Rattle.rec_data.specs.Records.{ShowsMessage}
-use Rattle.mcap_model.specs.Plain.{is_within}
 use Rattle.mcap_model.proofs.NamedTopics.{shown_once}
 use Rattle.time_player.specs.Asking.{is_asked, is_topic, Knows, KeepsAsked}
 

@@ -6,7 +6,7 @@ use Rattle.std.proofs.lemmas.List.Sums.{sum_by-cons}
 use Rattle.std.proofs.lemmas.List.Sorted.{sum_by-IsPermutation}
 use Rattle.mcap_model.specs.declared.replay.Shown.{Shown}
 use Rattle.time_player.specs.Heads.{same_place}
-use Rattle.time_player.specs.Keeping.{data_in}
+use Rattle.time_player.specs.DataOfMessages.{data_in}
 
 abbrev size : Shown → ℕ
 size s = length s.payload

@@ -17,13 +17,12 @@ use Rattle.mcap_model.specs.declared.replay.Topic.{Topic}
 use Rattle.mcap_model.specs.declared.replay.Replayed.{Replayed}
 use Rattle.mcap_model.specs.declared.tables.Tables.{Tables}
 use Rattle.mcap_model.specs.Places.{Has, At, EachBehind}
-use Rattle.mcap_model.specs.Tops.{Top, Placed, placed, is_flat_kind}
-use Rattle.mcap_model.specs.Tops.{flat as flat_tops}
+use Rattle.mcap_model.specs.Tops.{Top, Placed, placed, is_flat_kind, flat as flat_tops}
 use Rattle.mcap_model.specs.Rules.{Agrees}
 use Rattle.mcap_model.specs.Kept.{reading_limits}
-use Rattle.mcap_model.specs.Scan.{Seen, HasTopic, IsSeen, OnTopic, IsAsked, tops_of}
+use Rattle.mcap_model.specs.Scan.{Seen, HasTopic, IsSeen, OnTopic, IsAsked, tops_of, is_within}
 use Rattle.mcap_model.specs.Showing.{shown_as, Shows}
-use Rattle.mcap_model.specs.Plain.{is_used, is_within, is_chosen, AreNamed, PlacesDiffer, InOrder, IsShown}
+use Rattle.mcap_model.specs.Plain.{is_used, is_chosen, AreNamed, PlacesDiffer, InOrder, IsShown}
 use Rattle.mcap_model.proofs.Places.{at_kept, each_at}
 use Rattle.mcap_model.proofs.Lists.{pairs_at, pairs_from, filter_passed, filter_has}
 use Rattle.std.proofs.lemmas.Option.{same_Some}

@@ -4,9 +4,10 @@ use Rattle.std.proofs.Math.ListN.{drop_of_length-le}
 use Rattle.std.proofs.lemmas.List.{append-nil, take-append-le}
 use Rattle.std.proofs.lemmas.Bool.{cases_lt}
 use Rattle.std.proofs.lemmas.Option.{same_Some}
-use Rattle.mcap_crc.specs.Remainder.{IsChecksumOf}
+use Rattle.mcap_crc.specs.Checksums.{IsChecksumOf}
 use Rattle.mcap_io.specs.declared.outside.Short.{Short}
-use Rattle.mcap_io.specs.Outside.{SinkState, RisesOnce, Adds, WritesAll}
+use Rattle.mcap_io.specs.Outside.{SinkState, RisesOnce, Adds}
+use Rattle.mcap_io.specs.OutsideCalls.{WritesAll}
 use Rattle.mcap_io.proofs.Calls.{adds-adds, adds-part}
 use Rattle.mcap_model.specs.declared.replay.Shown.{Shown}
 use Rattle.mcap_model.specs.declared.table.Declared.{Declared}

@@ -8,10 +8,9 @@ use Rattle.mcap_model.specs.declared.tables.Tables.{Tables}
 use Rattle.mcap_model.specs.Places.{EachBehind}
 use Rattle.mcap_model.specs.Tops.{Top, Placed}
 use Rattle.mcap_model.specs.Rules.{Agrees}
-use Rattle.mcap_model.specs.Scan.{Seen, IsSeen, is_message_top}
+use Rattle.mcap_model.specs.Scan.{Seen, IsSeen, is_message_top, is_within}
 use Rattle.mcap_model.specs.Declarations.{TablesOf}
 use Rattle.mcap_model.specs.Showing.{shown_as}
-use Rattle.mcap_model.specs.Plain.{is_within}
 
 -- whether this is the topic that is asked for, if any
 abbrev pub is_topic : Option (List ℕ) → List ℕ → Bool

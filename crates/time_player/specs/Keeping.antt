@@ -1,5 +1,5 @@
 -- What messages that are kept show.
-use Rattle.std.specs.Prelude.{◌≡◌, ℕ, ◌+◌, ◌≤◌, ◌++◌, ◌∷◌, [], List, length, map, sum_by, take, drop, Option, Some, Result, Ok, Err}
+use Rattle.std.specs.Prelude.{◌≡◌, ℕ, ◌+◌, ◌≤◌, ◌++◌, ◌∷◌, [], List, length, map, take, drop, Option, Some, Result, Ok, Err}
 use Rattle.mcap_io.specs.declared.outside.ReadRefused.{ReadRefused}
 use Rattle.mcap_model.specs.declared.replay.Shown.{Shown}
 use Rattle.rec_data.specs.declared.message.Message.{Message}
@@ -10,10 +10,6 @@ use Rattle.time_player.specs.Heads.{shown_in}
 -- the messages that are kept
 abbrev pub kept_in : Kept → List Shown
 kept_in k = map (shown_in k.payloads.items) k.heads.items
-
--- how many bytes of data messages have together
-abbrev pub data_in : List Shown → ℕ
-data_in shown = sum_by (λ s. length s.payload) shown
 
 -- how many bytes of data are held for those that are kept
 abbrev pub data_held : Kept → ℕ

@@ -1,3 +1,7 @@
+-- What the promise of the program reaches, in the order to read it.
+pub mod DataOfMessages
+pub mod Text
+-- What the functions of this crate and its proofs say besides.
 pub mod Asking
 pub mod Heads
 pub mod Keeping
@@ -8,4 +12,3 @@ pub mod Ordering
 pub mod Printing
 pub mod Reading
 pub mod Replaying
-pub mod Text

@@ -1,7 +1,7 @@
 -- Parts of a store that are read behind other bytes.
 use Rattle.std.specs.Prelude.{◌≡◌, ℕ, ◌+◌, ◌≤◌, List, ◌++◌, length, take, drop, Option, Some, Result, Ok, Err}
 use Rattle.mcap_io.specs.declared.outside.ReadRefused.{ReadRefused}
-use Rattle.mcap_io.specs.Outside.{ReadCause}
+use Rattle.mcap_io.specs.OutsideCalls.{ReadCause}
 use Rattle.mcap_io.specs.Stores.{StoreState}
 
 -- so many bytes are added behind others; where the store tells, they are those that stand there

@@ -12,7 +12,7 @@ use Rattle.mcap_model.specs.Showing.{shown_as, Shows}
 use Rattle.time_player.specs.Text.{cat_text}
 use Rattle.mcap_model.specs.declared.refusals.ReadingRefused.{ReadingRefused}
 use Rattle.mcap_io.specs.Outside.{SourceState}
-use Rattle.mcap_scan.specs.Scanning.{HaltsSo, MemoryStands, RefusalStands}
+use Rattle.mcap_scan.specs.RefusedReadings.{HaltsSo, MemoryStands, RefusalStands}
 use Rattle.time_player.specs.declared.kept.Kept.{Kept}
 use Rattle.time_player.specs.Asking.{is_asked}
 use Rattle.time_player.specs.Keeping.{kept_in}

@@ -101,7 +101,8 @@ impl Kept {
     ghost use Rattle.std.specs.List.{dedup};
     ghost use Rattle.time_player.specs.Heads.{same_place};
     ghost use Rattle.time_player.specs.Ordering.{IsOrdered};
-    ghost use Rattle.time_player.specs.Keeping.{data_in, data_held, kept_in, shown_at, shown_with, HoldsMoreBytes, KeepsPart};
+    ghost use Rattle.time_player.specs.Keeping.{data_held, kept_in, shown_at, shown_with, HoldsMoreBytes, KeepsPart};
+    ghost use Rattle.time_player.specs.DataOfMessages.{data_in};
     ghost use Rattle.time_player.specs.Reading.{ReadsFrom};
 
     pub fn new(alloc: Global) -> Kept

@@ -1,5 +1,5 @@
 //! Writing bytes in pieces of a bounded length.
-ghost use Rattle.mcap_io.specs.Outside.{WritesAll};
+ghost use Rattle.mcap_io.specs.OutsideCalls.{WritesAll};
 ghost use Rattle.time_player.specs.Printing.{CountsAllBut, piece_limit};
 
 use mcap_io::{Short, Sink, write_all_of};

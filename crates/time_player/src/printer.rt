@@ -1,7 +1,7 @@
 //! Printing the lines of messages in pieces.
 ghost use Rattle.std.specs.Prelude.{◌≡◌, ◌+◌, ◌≤◌, List, [], IfOk, IfSome, vec_capacity};
 ghost use Rattle.mcap_crc.specs.Remainder.{remainder};
-ghost use Rattle.mcap_io.specs.Outside.{WritesAll};
+ghost use Rattle.mcap_io.specs.OutsideCalls.{WritesAll};
 ghost use Rattle.mcap_model.specs.Places.{Each};
 ghost use Rattle.time_player.specs.Lines.{EachDeclaredOnce, spelling, line_room, lines_of, HasLineRoom};
 ghost use Rattle.time_player.specs.Messages.{messages_in};

@@ -7,8 +7,7 @@ use Rattle.mcap_model.specs.Tops.{Top, top_bytes, spelled}
 use Rattle.mcap_model.specs.Blocks.{Piece, block, cuts, pieces_of, piece_bytes, pieces_bytes, block_in, blocks_in, last_piece}
 use Rattle.mcap_model.specs.File.{front, data_end, section, noted, tail_by, file_of}
 use Rattle.mcap_model.specs.Pieces.{joined, back_of}
-use Rattle.chunk_writer.specs.Stops.{numbers}
-use Rattle.chunk_writer.specs.Scribes.{Ends}
+use Rattle.chunk_writer.specs.Stops.{numbers, Ends}
 
 -- so many first pieces have all blocks only where they are all pieces, and the last of these is a block
 past_all : (ps : List Piece) (records : List Rec) (n : ℕ) → length (blocks_in (take n (ps ++ block records ∷ []))) ≡ length (blocks_in ps) + 1 → length (ps ++ block records ∷ []) ≤ n

@@ -14,11 +14,11 @@ use Rattle.mcap_model.specs.Kept.{reading_limits, Kept}
 use Rattle.mcap_model.specs.Places.{Each}
 use Rattle.mcap_model.proofs.Places.{at_kept}
 use Rattle.mcap_model.proofs.Section.{IsBlock, pieces_are_blocks}
-use Rattle.record_cache.specs.Buffers.{IsKept}
+use Rattle.record_cache.specs.KeptRecords.{IsKept}
 use Rattle.live_entry.specs.declared.entry.Entry.{Entry}
 use Rattle.live_entry.specs.Following.{Stored, IsStored}
 use Rattle.recorder.specs.Entries.{IsEntryThere, AreFirst}
-use Rattle.recorder.specs.Laws.{AreReadable}
+use Rattle.recorder.specs.Recorded.{AreReadable}
 use Rattle.recorder.proofs.FrontsTold.{fronts_are_told}
 use Rattle.watching.specs.Text.{replays_of}
 use Rattle.watched_recording.specs.Files.{FrontReplay}

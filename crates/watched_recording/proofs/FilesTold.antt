@@ -16,16 +16,16 @@ use Rattle.live_directory.specs.Published.{entries_of, end_of}
 use Rattle.recorder.specs.declared.options.RecordOptions.{RecordOptions}
 use Rattle.recorder.specs.declared.report.Report.{Report}
 use Rattle.recorder.specs.declared.report.WriterReport.{WriterReport}
-use Rattle.recorder.specs.Laws.{AreReadable}
-use Rattle.recorder.specs.Recorded.{Sides}
+use Rattle.recorder.specs.Recorded.{Sides, AreReadable}
 use Rattle.watching.specs.declared.report.WatchEnd.{WatchEnd}
 use Rattle.watching.specs.declared.report.WatchEnd.TheVariants as watch_ends
 use Rattle.watching.specs.Text.{sealed_by, WatchText, WatchPart, WatchTextOf, WatchPartOf, replays_of}
 use Rattle.watching.specs.Watching.{Written, unwritten, written_by, TakesSuchText, WritesTo}
 use Rattle.watching.proofs.Taking.{takes_as}
 use Rattle.watching.proofs.Texts.{whole_as, part_as}
-use Rattle.watched_recording.specs.Watched.{Watch, AsksViews, WatchTells, IsWatched, SeenWatching, RecordedWatched}
-use Rattle.watched_recording.specs.Files.{FrontReplay, WritesOfFile, TellsWatchFile, IsWatchedFile, WatchFilesAreTold}
+use Rattle.watched_recording.specs.Watched.{Watch, AsksViews, WatchTells, IsWatched}
+use Rattle.watched_recording.specs.WatchedSteps.{SeenWatching, RecordedWatched, WatchFilesAreTold}
+use Rattle.watched_recording.specs.Files.{FrontReplay, WritesOfFile, TellsWatchFile, IsWatchedFile}
 use Rattle.watched_recording.proofs.FilesFronts.{front_replayed}
 
 -- the store holds what it held before it was asked for views

@@ -10,25 +10,25 @@ use Rattle.mcap_model.specs.declared.ends.End.TheVariants as ends
 use Rattle.mcap_model.specs.declared.ends.Stop.{Stop}
 use Rattle.mcap_model.specs.declared.options.FileOptions.{FileOptions}
 use Rattle.mcap_model.specs.Blocks.{Piece, block, block_bytes, cuts, pieces_of, last_piece, block_in, blocks_in}
-use Rattle.mcap_model.specs.File.{written_of}
+use Rattle.mcap_model.specs.Histories.{written_of}
 use Rattle.mcap_model.proofs.OneMore.{zip_push}
 use Rattle.live_entry.specs.declared.entry.Entry.{Entry}
 use Rattle.live_entry.specs.Entries.{SeenExtents, HasBlockExtent, seen_before}
 use Rattle.live_entry.specs.Following.{Stored, IsStored}
-use Rattle.live_directory.specs.Writing.{at_most_one}
+use Rattle.live_directory.specs.Published.{at_most_one}
 use Rattle.chunk_writer.specs.declared.phase.Phase.{Phase}
 use Rattle.chunk_writer.specs.declared.phase.Phase.TheVariants as phases
 use Rattle.chunk_writer.specs.declared.scribe.Scribe.{Scribe}
 use Rattle.chunk_writer.specs.Limits.{Holds}
-use Rattle.chunk_writer.specs.Stops.{numbers}
-use Rattle.chunk_writer.specs.Scribes.{WritesHistory, Ends, GivesEntries, store_of, phase_of, blocks_of, planned_bytes}
+use Rattle.chunk_writer.specs.Stops.{numbers, Ends}
+use Rattle.chunk_writer.specs.Scribes.{WritesHistory, GivesEntries, store_of, phase_of, blocks_of, planned_bytes}
 use Rattle.chunk_writer.specs.Tapes.{PutsFirst, IsLeft, seen_store, TakesOn, EndsOn}
 use Rattle.chunk_writer.proofs.Cuts.{pieces_grow}
 use Rattle.recorder.specs.declared.report.WriterReport.{WriterReport}
 use Rattle.recorder.specs.Recorded.{end_answer}
 use Rattle.recorder.specs.Onto.{written_numbers}
 use Rattle.recorder.proofs.EntriesGathered.{entries_gathered}
-use Rattle.watched_recording.specs.Watched.{AreBlockEntries}
+use Rattle.watched_recording.specs.WatchedSteps.{AreBlockEntries}
 use Rattle.watched_recording.proofs.Ends.{all_stand}
 use Rattle.watched_recording.proofs.Follows.{still_going}
 

@@ -12,10 +12,9 @@ use Rattle.mcap_model.specs.Places.{Each}
 use Rattle.mcap_model.specs.Blocks.{cuts, pieces_of, last_piece}
 use Rattle.mcap_model.specs.History.{Follows, Numbered}
 use Rattle.mcap_model.proofs.Places.{at_one, at_read, at_within, at_kept, each_front}
-use Rattle.record_cache.specs.Buffers.{IsKept}
+use Rattle.record_cache.specs.KeptRecords.{IsKept}
 use Rattle.live_entry.specs.declared.entry.Entry.{Entry}
-use Rattle.live_entry.specs.Entries.{seen_before}
-use Rattle.live_entry.specs.Following.{EntriesFollow}
+use Rattle.live_entry.specs.Entries.{seen_before, EntriesFollow}
 use Rattle.live_directory.specs.Published.{entries_of, end_of}
 use Rattle.chunk_writer.specs.declared.phase.Phase.{Phase}
 use Rattle.chunk_writer.specs.declared.phase.Phase.TheVariants as phases

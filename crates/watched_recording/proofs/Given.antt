@@ -4,7 +4,8 @@ use Rattle.std.specs.Prelude.{Bool, true, false}
 use Rattle.std.proofs.lemmas.Bool.{false≢true}
 use Rattle.live_entry.specs.declared.entry.Entry.{Entry}
 use Rattle.live_directory.specs.declared.front.Added.{Added}
-use Rattle.live_directory.specs.Published.{added_batch, entries_of, end_of}
+use Rattle.live_directory.specs.Published.{entries_of, end_of}
+use Rattle.live_directory.specs.Histories.{added_batch}
 use Rattle.live_directory.specs.Writing.{DirectoryState, Publishes, Defers}
 use Rattle.watched_recording.specs.Publishing.{Board, KnowsLack, GivesTo, entries_held}
 

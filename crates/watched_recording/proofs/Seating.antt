@@ -9,11 +9,11 @@ use Rattle.mcap_io.specs.Outside.{LiveState, SinkState}
 use Rattle.mcap_model.specs.declared.replay.Range.{Range}
 use Rattle.mcap_model.proofs.OneMore.{zip_push}
 use Rattle.live_directory.specs.declared.front.Added.{Added}
-use Rattle.live_directory.specs.Writing.{at_most_one}
+use Rattle.live_directory.specs.Published.{at_most_one}
 use Rattle.watching.specs.declared.report.WatchReport.{WatchReport}
 use Rattle.watching.specs.Watching.{WatcherState}
 use Rattle.watched_recording.specs.declared.seats.Unviewed.{Unviewed}
-use Rattle.watched_recording.specs.Watched.{failures_in, LeftState, SeatEnds, SeatMade, SeatsMade, SeatsEnd}
+use Rattle.watched_recording.specs.WatchedSteps.{failures_in, LeftState, SeatEnds, SeatMade, SeatsMade, SeatsEnd}
 
 -- ---- lists
 

@@ -15,8 +15,8 @@ use Rattle.mcap_model.specs.File.{front}
 use Rattle.mcap_model.proofs.Places.{at_none}
 use Rattle.live_entry.specs.declared.entry.Entry.{Entry}
 use Rattle.live_directory.specs.declared.front.Added.{Added}
-use Rattle.live_directory.specs.Published.{entries_of, end_of}
-use Rattle.live_directory.specs.Writing.{DirectoryState, Seals, StaysUnsealed, empty_directory, at_most_one}
+use Rattle.live_directory.specs.Published.{entries_of, end_of, at_most_one}
+use Rattle.live_directory.specs.Writing.{DirectoryState, Seals, StaysUnsealed, empty_directory}
 use Rattle.chunk_writer.specs.declared.phase.Phase.{Phase}
 use Rattle.chunk_writer.specs.declared.phase.Phase.TheVariants as phases
 use Rattle.chunk_writer.specs.declared.scribe.Scribe.{Scribe}
@@ -31,7 +31,7 @@ use Rattle.recorder.specs.declared.report.WriterReport.{WriterReport}
 use Rattle.recorder.specs.Recorded.{end_answer, sides, WriterRecorded}
 use Rattle.recorder.specs.Onto.{IsAll, IsReported, written_numbers}
 use Rattle.watched_recording.specs.Publishing.{GivesTo, Publishing, PublishesOn, PublishesEnd, empty_board, entries_held, gives_on}
-use Rattle.watched_recording.specs.Watched.{AreBlockEntries, RecordedBeside}
+use Rattle.watched_recording.specs.WatchedSteps.{AreBlockEntries, RecordedBeside}
 use Rattle.watched_recording.proofs.Follows.{held_since}
 use Rattle.watched_recording.proofs.Given.{board}
 use Rattle.watched_recording.proofs.FirstBlocks.{first_blocks_are}

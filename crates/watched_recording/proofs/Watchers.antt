@@ -8,19 +8,21 @@ use Rattle.mcap_model.specs.Places.{Each}
 use Rattle.mcap_model.proofs.Places.{at_none}
 use Rattle.mcap_model.proofs.Lists.{each_cons}
 use Rattle.feed_lane.specs.declared.report.FeedReport.{FeedReport}
-use Rattle.feed_lane.specs.Feeds.{ListsMessages}
+use Rattle.feed_lane.specs.Steps.{ListsMessages}
 use Rattle.feed_lane.specs.Lanes.{InStep}
 use Rattle.live_directory.specs.declared.front.Added.{Added}
 use Rattle.live_directory.specs.Reading.{unread}
-use Rattle.live_directory.specs.Writing.{at_most_one}
+use Rattle.live_directory.specs.Published.{at_most_one}
 use Rattle.recorder.specs.declared.options.RecordOptions.{RecordOptions}
 use Rattle.recorder.specs.declared.report.Report.{Report}
 use Rattle.recorder.specs.Recorded.{Sides, sides, Recorded}
 use Rattle.watching.specs.declared.report.WatchReport.{WatchReport}
-use Rattle.watching.specs.Watching.{WatcherState, WatchedSince, new_watcher}
+use Rattle.watching.specs.Watching.{WatcherState, new_watcher}
+use Rattle.watching.specs.WatcherSteps.{WatchedSince}
 use Rattle.watching.proofs.Steps.{new_watched}
 use Rattle.watched_recording.specs.declared.seats.Unviewed.{Unviewed}
-use Rattle.watched_recording.specs.Watched.{RecordedBeside, IsUnviewed, Watch, WatchTells, IsWatched, AsksView, AsksViews, SeenWatching, RecordedWatched, LeftState, SeatRuns, SeatEnds, SeatMade, SeatsMade, SeatsEnd}
+use Rattle.watched_recording.specs.Watched.{IsUnviewed, Watch, WatchTells, IsWatched, AsksView, AsksViews}
+use Rattle.watched_recording.specs.WatchedSteps.{RecordedBeside, SeenWatching, RecordedWatched, LeftState, SeatRuns, SeatEnds, SeatMade, SeatsMade, SeatsEnd}
 
 -- ---- lists
 

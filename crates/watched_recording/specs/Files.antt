@@ -1,24 +1,19 @@
 -- What watchers wrote of the file of what was recorded.
-use Rattle.std.specs.Prelude.{◌≡◌, ℕ, List, length, true, Option, Some, None}
+use Rattle.std.specs.Prelude.{◌≡◌, ℕ, List, length, Option, Some, None}
 use Rattle.rec_data.specs.declared.owned.Rec.{Rec}
 use Rattle.mcap_model.specs.declared.options.FileOptions.{FileOptions}
 use Rattle.mcap_model.specs.declared.replay.Range.{Range}
 use Rattle.mcap_model.specs.File.{front_of}
 use Rattle.mcap_model.specs.Kept.{reading_limits, Kept}
-use Rattle.mcap_model.specs.Places.{Each}
 use Rattle.mcap_model.specs.Scan.{Seen, Scan, Replay}
 use Rattle.mcap_model.specs.Tops.{Top}
 use Rattle.time_player.specs.Text.{cat_text}
-use Rattle.recorder.specs.declared.options.RecordOptions.{RecordOptions}
-use Rattle.recorder.specs.declared.report.Report.{Report}
 use Rattle.recorder.specs.declared.report.WriterReport.{WriterReport}
-use Rattle.recorder.specs.Laws.{AreReadable}
-use Rattle.recorder.specs.Recorded.{Sides}
 use Rattle.watching.specs.declared.report.WatchEnd.{WatchEnd}
 use Rattle.watching.specs.declared.report.WatchEnd.TheVariants as watch_ends
 use Rattle.watching.specs.Text.{sealed_by, WatchText, WatchPart}
 use Rattle.watching.specs.Watching.{Written, unwritten, written_by, IsQuiet, HasFailed, TakesSuchText}
-use Rattle.watched_recording.specs.Watched.{Watch, SeenWatching, RecordedWatched}
+use Rattle.watched_recording.specs.Watched.{Watch}
 
 -- Up to its n-th block the file of this history has so many messages of the range, and these are their lines.
 pub record FrontReplay (options : FileOptions) (range : Range) (history : List Rec) (n count : ℕ) (text : List ℕ) : Type 0 where
@@ -47,11 +42,3 @@ TellsWatchFile options range history w it None = it.now ≡ it.before
 
 abbrev pub IsWatchedFile : FileOptions → Range → List Rec → WriterReport → Watch → Type 0
 IsWatchedFile options range history w it = TellsWatchFile options range history w it it.view
-
--- Where a recording in chunks was sealed, and its store told what it held before, each watcher wrote of the file of the
--- history: the line of a front is that of the file up to that block, and the lines of the end are those of all its blocks.
-abbrev pub WatchFilesAreTold : {X : Type 0} → (X → Option (List ℕ)) → Type 0
-WatchFilesAreTold {X} tells = (options : RecordOptions) (range : Range) (before now : Sides) (r : Report) (told : SeenWatching)
-    → (it : RecordedWatched tells options range before now r told) → AreReadable options.file → (size : ℕ) → options.file.chunk ≡ Some size
-    → (held : List ℕ) → before.live.held ≡ Some held → told.sealed ≡ true
-    → Each (IsWatchedFile options.file range it.recorded.recorded.history r.writer) it.watches

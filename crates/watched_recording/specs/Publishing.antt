@@ -9,8 +9,8 @@ use Rattle.mcap_io.specs.Outside.{LiveState}
 use Rattle.mcap_model.specs.declared.options.FileOptions.{FileOptions}
 use Rattle.mcap_model.specs.declared.ends.Stop.{Stop}
 use Rattle.live_entry.specs.declared.entry.Entry.{Entry}
-use Rattle.live_directory.specs.Published.{entries_of, end_of}
-use Rattle.live_directory.specs.Writing.{DirectoryState, empty_directory, at_most_one}
+use Rattle.live_directory.specs.Published.{entries_of, end_of, at_most_one}
+use Rattle.live_directory.specs.Writing.{DirectoryState, empty_directory}
 use Rattle.chunk_writer.specs.declared.phase.Phase.TheVariants as phases
 use Rattle.chunk_writer.specs.declared.scribe.Scribe.{Scribe}
 use Rattle.chunk_writer.specs.declared.tape.Written.{Written}

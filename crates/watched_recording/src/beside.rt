@@ -7,10 +7,10 @@ ghost use Rattle.mcap_model.specs.declared.ends.End.{End as Last};
 ghost use Rattle.mcap_model.specs.Places.{Each};
 ghost use Rattle.live_directory.specs.Published.{end_of};
 ghost use Rattle.live_directory.specs.Writing.{empty_directory};
-ghost use Rattle.feed_lane.specs.Feeds.{ListsMessages};
+ghost use Rattle.feed_lane.specs.Steps.{ListsMessages};
 ghost use Rattle.recorder.specs.Lanes.{AreReady};
 ghost use Rattle.recorder.specs.Recorded.{sides};
-ghost use Rattle.watched_recording.specs.Watched.{RecordedBeside};
+ghost use Rattle.watched_recording.specs.WatchedSteps.{RecordedBeside};
 
 use crate::publishing::{PublishingTape, Sealed};
 use chunk_writer::Scribe;

@@ -1,5 +1,5 @@
 //! Laws of recordings that are watched, each as the contract of a function that does nothing.
-ghost use Rattle.watched_recording.specs.Files.{WatchFilesAreTold};
+ghost use Rattle.watched_recording.specs.WatchedSteps.{WatchFilesAreTold};
 
 use mcap_io::Extent;
 

@@ -4,7 +4,7 @@ ghost use Rattle.mcap_wire.specs.Layout.{content_limit};
 ghost use Rattle.mcap_wire.specs.Limits.{chunk_size_limit};
 ghost use Rattle.rec_data.specs.declared.owned.Rec.{Rec};
 ghost use Rattle.mcap_model.specs.Tops.{Top};
-ghost use Rattle.live_entry.specs.Following.{EntriesFollow};
+ghost use Rattle.live_entry.specs.Entries.{EntriesFollow};
 ghost use Rattle.live_directory.specs.Published.{entries_of, end_of};
 ghost use Rattle.live_directory.specs.Writing.{empty_directory};
 ghost use Rattle.chunk_writer.specs.declared.phase.Phase.TheVariants as phases;

@@ -2,17 +2,18 @@
 ghost use Rattle.std.specs.Prelude.{◌≡◌, ◌≤◌, ℕ, [], length, map, vec_len, vec_capacity, None, Some, true, IfOk, IfSome};
 ghost use Rattle.std.specs.List.{AllZip};
 ghost use Rattle.mcap_wire.specs.Layout.{content_limit};
-ghost use Rattle.mcap_wire.specs.Limits.{buffer_limit, chunk_size_limit};
+ghost use Rattle.mcap_wire.specs.Limits.{chunk_size_limit};
+ghost use Rattle.mcap_wire.specs.RecordingLimits.{buffer_limit};
 ghost use Rattle.mcap_model.specs.declared.ends.End.{End as Last};
 ghost use Rattle.mcap_model.specs.Places.{Each};
-ghost use Rattle.feed_lane.specs.Feeds.{ListsMessages};
+ghost use Rattle.feed_lane.specs.Steps.{ListsMessages};
 ghost use Rattle.feed_lane.specs.Lanes.{InStep};
 ghost use Rattle.live_directory.specs.Published.{end_of};
-ghost use Rattle.live_directory.specs.Reading.{AreUnread};
+ghost use Rattle.live_directory.specs.ReaderSteps.{AreUnread};
 ghost use Rattle.live_directory.specs.Writing.{empty_directory};
 ghost use Rattle.recorder.specs.Lanes.{AreReady};
 ghost use Rattle.recorder.specs.Recorded.{sides};
-ghost use Rattle.watched_recording.specs.Watched.{SeatRuns, RecordedBeside, RecordedWatched};
+ghost use Rattle.watched_recording.specs.WatchedSteps.{SeatRuns, RecordedBeside, RecordedWatched};
 
 use crate::beside::{Wrote, write_beside};
 use crate::publishing::last_room;

@@ -2,10 +2,10 @@
 ghost use Rattle.std.specs.Prelude.{◌≡◌, ◌<◌, ◌≤◌, ◌++◌, ◌∷◌, [], map, vec_len, vec_capacity, Ok, Some, IfOk, IfSome};
 ghost use Rattle.mcap_model.specs.declared.ends.End.{End as Last};
 ghost use Rattle.feed_lane.specs.Lanes.{InStep};
-ghost use Rattle.live_directory.specs.Published.{end_of};
-ghost use Rattle.live_directory.specs.Reading.{AreUnread, unread};
-ghost use Rattle.live_directory.specs.Writing.{at_most_one};
-ghost use Rattle.watched_recording.specs.Watched.{failures_in, SeatRuns, SeatEnds, SeatMade, SeatsMade, SeatsEnd};
+ghost use Rattle.live_directory.specs.Published.{end_of, at_most_one};
+ghost use Rattle.live_directory.specs.Reading.{unread};
+ghost use Rattle.live_directory.specs.ReaderSteps.{AreUnread};
+ghost use Rattle.watched_recording.specs.WatchedSteps.{failures_in, SeatRuns, SeatEnds, SeatMade, SeatsMade, SeatsEnd};
 
 use live_directory::{Naming, Note, Reader};
 use mcap_io::{Extent, Failed, LiveStore, LiveView, Sink};

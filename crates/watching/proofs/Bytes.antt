@@ -2,7 +2,8 @@
 use Rattle.std.proofs.Common.{◌≡◌, ℕ, List, ◌++◌, Option, Some, Ok, Err, sym, ap, subst, ◌∙◌, length-append, arith}
 use Rattle.std.proofs.lemmas.List.{take-append-le}
 use Rattle.mcap_io.specs.declared.outside.Short.{Short}
-use Rattle.mcap_io.specs.Outside.{SinkState, RisesOnce, AddsPart, WritesAll}
+use Rattle.mcap_io.specs.Outside.{SinkState, RisesOnce, AddsPart}
+use Rattle.mcap_io.specs.OutsideCalls.{WritesAll}
 use Rattle.mcap_io.proofs.Calls.{adds-adds, adds-part}
 use Rattle.watching.specs.declared.report.WatchEnd.{WatchEnd}
 use Rattle.watching.specs.declared.report.WatchEnd.TheVariants as watch_ends

@@ -9,7 +9,8 @@ use Rattle.mcap_model.specs.declared.replay.Range.{Range}
 use Rattle.mcap_model.proofs.Repairs.{zip_join}
 use Rattle.live_entry.specs.declared.entry.Entry.{Entry}
 use Rattle.live_directory.proofs.Beginnings.{prefix_length}
-use Rattle.watching.specs.Text.{Doubles, IsReplayText, IsFrontLineOf, FrontsTextOf}
+use Rattle.watching.specs.Text.{Doubles, IsReplayText, FrontsTextOf}
+use Rattle.watching.specs.WatcherSteps.{IsFrontLineOf}
 
 -- ---- at least twice as many
 

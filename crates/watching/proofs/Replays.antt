@@ -10,7 +10,8 @@ use Rattle.time_player.specs.Text.{cat_text}
 use Rattle.live_entry.specs.declared.entry.Entry.{Entry}
 use Rattle.live_entry.specs.Following.{Stored}
 use Rattle.live_replay.specs.Replaying.{PlaysStored}
-use Rattle.watching.specs.Text.{IsReplayText, ReplayText, replays_of, IsFrontLineOf, front_line}
+use Rattle.watching.specs.Text.{IsReplayText, ReplayText, replays_of, front_line}
+use Rattle.watching.specs.WatcherSteps.{IsFrontLineOf}
 
 pub replay_text : (range : Range) (stored : List Stored) (played : Replayed) (count : ℕ) (text : List ℕ) → PlaysStored range stored played → count ≡ length played.shown.items → ((messages : List Seen) → Shows played messages → text ≡ cat_text messages)
     → ReplayText range stored count text

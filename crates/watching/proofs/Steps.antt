@@ -12,14 +12,17 @@ use Rattle.live_entry.specs.declared.entry.Entry.{Entry}
 use Rattle.live_entry.specs.Following.{IsStored}
 use Rattle.live_directory.specs.declared.front.Added.{Added}
 use Rattle.live_directory.specs.declared.front.Front.{Front}
-use Rattle.live_directory.specs.Published.{entries_of, end_of, published_front, AtLeast}
-use Rattle.live_directory.specs.Reading.{ReaderState, Learns, Refreshes}
+use Rattle.live_directory.specs.Published.{entries_of, end_of}
+use Rattle.live_directory.specs.Histories.{published_front, AtLeast}
+use Rattle.live_directory.specs.Reading.{ReaderState}
+use Rattle.live_directory.specs.ReaderSteps.{Learns, Refreshes}
 use Rattle.live_directory.proofs.Beginnings.{prefix_trans, prefix_whole}
 use Rattle.live_directory.proofs.Histories.{entries_of-append}
 use Rattle.watching.specs.declared.report.WatchEnd.{WatchEnd}
 use Rattle.watching.specs.declared.report.WatchEnd.TheVariants as watch_ends
-use Rattle.watching.specs.Text.{SealState, undecided, sealed_by, unsealed, IsFrontLineOf, FrontsTextOf, IsEndTextOf, WatchTextOf, replays_of, BeginsLine, none_more, of_front, of_end, WatchPartOf, unsealed_line}
-use Rattle.watching.specs.Watching.{Written, WatcherState, IsQuiet, IsUntold, TakesSuchText, WritesTo, Watches, HoldsAllSealed, WatchedSince, EndsUnsealed, MayFollow}
+use Rattle.watching.specs.Text.{SealState, undecided, sealed_by, unsealed, FrontsTextOf, WatchTextOf, replays_of, BeginsLine, none_more, of_front, of_end, WatchPartOf, unsealed_line}
+use Rattle.watching.specs.WatcherSteps.{IsFrontLineOf, IsEndTextOf, WatchedSince, MayFollow}
+use Rattle.watching.specs.Watching.{Written, WatcherState, IsQuiet, IsUntold, TakesSuchText, WritesTo, Watches, HoldsAllSealed, EndsUnsealed}
 use Rattle.watching.specs.Putting.{SinkAndView, sink_and_view, IsPartOf, PutsAll, PutsPiece, PutsBytes}
 use Rattle.watching.proofs.Fronts.{fronts_lift, line_lift, fronts_more, no_fronts}
 use Rattle.watching.proofs.Taking.{takes_more, takes_as, takes_none, takes_bytes, takes_part}

@@ -1,3 +1,6 @@
+-- What the promise of the program reaches, in the order to read it.
 pub mod Text
 pub mod Watching
+-- What the functions of this crate and its proofs say besides.
+pub mod WatcherSteps
 pub mod Putting

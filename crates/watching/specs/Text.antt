@@ -119,14 +119,8 @@ pub record WatchPart (replays : ℕ → ℕ → List ℕ → Type 0) (blocks : �
 
 -- ---- the same of the blocks of these entries
 
-abbrev pub IsFrontLineOf : {X : Type 0} → (X → Option (List ℕ)) → Range → List (Entry X) → ℕ → List ℕ → Type 0
-IsFrontLineOf tells range entries = IsFrontLine (replays_of tells range entries) (length entries)
-
 abbrev pub FrontsTextOf : {X : Type 0} → (X → Option (List ℕ)) → Range → List (Entry X) → List ℕ → List ℕ → Type 0
 FrontsTextOf tells range entries = FrontsText (replays_of tells range entries) (length entries)
-
-abbrev pub IsEndTextOf : {X : Type 0} → (X → Option (List ℕ)) → Range → List (Entry X) → SealState → List ℕ → Type 0
-IsEndTextOf tells range entries = IsEndText (replays_of tells range entries) (length entries)
 
 abbrev pub WatchTextOf : {X : Type 0} → (X → Option (List ℕ)) → Range → List (Entry X) → List ℕ → SealState → List ℕ → Type 0
 WatchTextOf tells range entries = WatchText (replays_of tells range entries) (length entries)

@@ -1,5 +1,5 @@
 -- What a watcher has written, and why it ended.
-use Rattle.std.specs.Prelude.{◌≡◌, ◌⊎◌, ℕ, List, [], ◌∷◌, ◌++◌, Option, Some, None}
+use Rattle.std.specs.Prelude.{◌≡◌, ◌⊎◌, ℕ, List, [], ◌++◌, Option, Some, None}
 use Rattle.std.specs.List.{AllZip}
 use Rattle.mcap_io.specs.Outside.{SinkState, RisesOnce}
 use Rattle.mcap_model.specs.declared.ends.End.{End}
@@ -11,7 +11,7 @@ use Rattle.live_directory.specs.Reading.{ReaderState}
 use Rattle.watching.specs.declared.report.WatchEnd.{WatchEnd}
 use Rattle.watching.specs.declared.report.WatchReport.{WatchReport}
 use Rattle.watching.specs.declared.report.WatchEnd.TheVariants as watch_ends
-use Rattle.watching.specs.Text.{SealState, undecided, sealed_by, unsealed, Doubles, FrontsTextOf, WatchTextOf, WatchPartOf}
+use Rattle.watching.specs.Text.{SealState, undecided, sealed_by, unsealed, FrontsTextOf, WatchTextOf, WatchPartOf}
 
 -- The fronts whose lines were written, why the watcher ended, if it did, and what is seen of its sink and its view.
 pub record Written : Type 0 where
@@ -34,10 +34,6 @@ written_by sink failures report = record { fronts = report.fronts.items; end = S
 
 abbrev pub new_watcher : {X : Type 0} → ReaderState X → Range → SinkState → ℕ → WatcherState X
 new_watcher reader range sink failures = record { reader = reader; range = range; written = unwritten sink failures }
-
--- if each of these fronts has at least twice as many blocks as the one before it, this one has too
-abbrev pub MayFollow : List ℕ → ℕ → Type 0
-MayFollow fronts n = Doubles 0 fronts → Doubles 0 (fronts ++ n ∷ [])
 
 -- ---- causes
 
@@ -79,14 +75,7 @@ HoldsAllSealed reader undecided = Unit {0}
 HoldsAllSealed reader (sealed_by end) = (reader.entries ≡ entries_of reader.known) × (end_of reader.known ≡ Some end)
 HoldsAllSealed reader unsealed = ⊥
 
--- Since it was new, this watcher has written of the blocks that its reader holds.
-pub record WatchedSince {X : Type 0} (tells : X → Option (List ℕ)) (first now : WatcherState X) : Type 0 where
-  pub range : now.range ≡ first.range
-  pub ending : SealState
-  pub holds : HoldsAllSealed now.reader ending
-  pub watches : Watches tells first.range now.reader.entries ending first.written now.written
-
--- The same of one whose directory wasn't sealed.
+-- Since it was new, a watcher whose directory wasn't sealed has written of the blocks that its reader holds.
 pub record EndsUnsealed {X : Type 0} (tells : X → Option (List ℕ)) (first : WatcherState X) (reader : ReaderState X) (now : Written) : Type 0 where
   pub ending : SealState
   pub known : (ending ≡ unsealed) ⊎ HoldsAllSealed reader ending

@@ -1,7 +1,8 @@
 //! The pieces of a watch text: the line of a front, and what stands at the end.
 ghost use Rattle.std.specs.Prelude.{◌≡◌, ◌++◌, length, IfOk, MatchResult};
-ghost use Rattle.live_entry.specs.Following.{EntriesFollow};
-ghost use Rattle.watching.specs.Text.{sealed_by, unsealed, unsealed_line, IsReplayText, IsFrontLineOf, IsEndTextOf};
+ghost use Rattle.live_entry.specs.Entries.{EntriesFollow};
+ghost use Rattle.watching.specs.Text.{sealed_by, unsealed, unsealed_line, IsReplayText};
+ghost use Rattle.watching.specs.WatcherSteps.{IsFrontLineOf, IsEndTextOf};
 ghost use Rattle.live_replay.specs.Answering.{RefusesReplay};
 ghost use Rattle.watching.specs.Putting.{sink_and_view, IsEndedBy, MakingFails, PutsPiece, PutsBytes};
 

@@ -3,11 +3,13 @@ ghost use Rattle.std.specs.Prelude.{◌≡◌, ◌⊎◌, ◌∷◌, ◌++◌, [
 ghost use mathlib.Core.List.{IsPrefix};
 ghost use Rattle.mcap_io.specs.Outside.{RisesOnce};
 ghost use Rattle.mcap_model.specs.declared.ends.End.{End as Last};
-ghost use Rattle.live_directory.specs.Published.{entries_of, end_of, published_front, AtLeast};
+ghost use Rattle.live_directory.specs.Published.{entries_of, end_of};
+ghost use Rattle.live_directory.specs.Histories.{published_front, AtLeast};
 ghost use Rattle.watching.specs.declared.report.WatchEnd.{WatchEnd};
 ghost use Rattle.watching.specs.declared.report.WatchEnd.TheVariants as watch_ends;
 ghost use Rattle.watching.specs.Text.{sealed_by, Doubles};
-ghost use Rattle.watching.specs.Watching.{WatcherState, new_watcher, written_by, MayFollow, HoldsAllSealed, Watches, WatchedSince, EndsUnsealed};
+ghost use Rattle.watching.specs.Watching.{WatcherState, new_watcher, written_by, HoldsAllSealed, Watches, EndsUnsealed};
+ghost use Rattle.watching.specs.WatcherSteps.{MayFollow, WatchedSince};
 
 use crate::pieces::{put_end, put_front, put_unsealed};
 use crate::report::{WatchEnd, WatchReport};

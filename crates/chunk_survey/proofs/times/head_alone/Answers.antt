@@ -3,7 +3,8 @@ use Rattle.std.proofs.lemmas.Bool.{le-leb}
 use Rattle.mcap_wire.proofs.Fields.{number_there}
 use Rattle.mcap_model.specs.Made.{top}
 use Rattle.record_walk.specs.declared.heads.MessageHead.{MessageHead}
-use Rattle.record_walk.specs.Heads.{head_of, time_in}
+use Rattle.record_walk.specs.Heads.{head_of}
+use Rattle.record_walk.specs.HeadTimes.{time_in}
 use Rattle.chunk_survey.specs.Heads.{set_at}
 use Rattle.chunk_survey.proofs.times.head_alone.Goals as goal
 

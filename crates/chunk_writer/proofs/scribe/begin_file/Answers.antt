@@ -1,6 +1,6 @@
 -- A front that was refused.
 use Rattle.std.proofs.Common.{ℕ, List, subst, ◌∙◌, Err, arith}
-use Rattle.chunk_writer.specs.Stops.{Added}
+use Rattle.chunk_writer.specs.StopSteps.{Added}
 use Rattle.chunk_writer.proofs.Planned.{length-front}
 use Rattle.chunk_writer.proofs.Stopping.{front_lacks, front_refused, added_err}
 use Rattle.chunk_writer.proofs.scribe.begin_file.Goals as goal

@@ -1,4 +1,5 @@
-use Rattle.command_base.specs.Texts.{complained, said}
+use Rattle.command_base.specs.Texts.{said}
+use Rattle.command_base.specs.ComplaintTroubles.{complained}
 use Rattle.command_base.proofs.Behind.{puts_more}
 use Rattle.command_base.proofs.complaining.put_lines.Goals as goal
 

@@ -1,7 +1,8 @@
 -- So far the complaints below the index were put.
 use Rattle.std.proofs.Common.{take}
 use Rattle.std.specs.List.{flat_map}
-use Rattle.command_base.specs.Texts.{complained, said}
+use Rattle.command_base.specs.Texts.{said}
+use Rattle.command_base.specs.ComplaintTroubles.{complained}
 use Rattle.command_base.specs.Putting.{PutsText}
 use Rattle.command_base.proofs.complaining.put_lines.Given as goal
 

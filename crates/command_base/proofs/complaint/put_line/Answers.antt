@@ -1,5 +1,6 @@
 use Rattle.std.proofs.Common.{sym, ap}
-use Rattle.command_base.specs.Texts.{trouble_of, trouble_line}
+use Rattle.command_base.specs.Texts.{trouble_line}
+use Rattle.command_base.specs.ComplaintTroubles.{trouble_of}
 use Rattle.command_base.proofs.Behind.{puts_same}
 use Rattle.command_base.proofs.complaint.put_line.Goals as goal
 

@@ -1,6 +1,6 @@
 -- What the calls did is what is promised of a command that reads one file.
 use Rattle.std.proofs.Common.{◌∙◌}
-use Rattle.command_base.specs.Ran.{scene}
+use Rattle.command_base.specs.Scenes.{scene}
 use Rattle.command_base.specs.Readings.{ending_of}
 use Rattle.command_base.proofs.OneFile.{shows_at, reads_one}
 use Rattle.command_base.proofs.ReadNames.{reading_halts}

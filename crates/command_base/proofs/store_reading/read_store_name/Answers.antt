@@ -1,10 +1,11 @@
 -- The opening, the reading and the keeping come to what becomes of the name.
 use Rattle.std.proofs.Common.{◌≡◌, Bool, sym, ap, refl, subst, ◌∙◌}
-use Rattle.mcap_io.specs.Outside.{went_well}
+use Rattle.mcap_io.specs.OutsideCalls.{went_well}
 use Rattle.mcap_io.specs.declared.outside.ObjectKind.TheVariants as kinds
 use Rattle.command_base.specs.Ran.{failed_so}
 use Rattle.command_base.specs.declared.file_reading.Reading.TheVariants as readings
-use Rattle.command_base.specs.Readings.{ending_of, use_of, StoreUnder, IsStoreRead, NameEnds}
+use Rattle.command_base.specs.Readings.{ending_of, StoreUnder, IsStoreRead}
+use Rattle.command_base.specs.ReadingSteps.{use_of, NameEnds}
 use Rattle.command_base.proofs.OneFile.{store_input, store_keeping, same_back}
 use Rattle.command_base.proofs.ReadNames.{unopened_ends, opened_ends}
 use Rattle.command_base.proofs.store_reading.read_store_name.Goals as goal

@@ -1,6 +1,6 @@
 -- The names so far are those of the numbers so far.
 use Rattle.std.proofs.Common.{◌≡◌}
-use Rattle.command_words.specs.Commands.{watch_names}
+use Rattle.command_words.specs.Defaults.{watch_names}
 use Rattle.command_words.proofs.watches.watch_names.Given as goal
 
 abbrev pub invariant-numbers : goal.invariant-numbers

@@ -1,5 +1,5 @@
 use Rattle.std.specs.Prelude.{Some}
-use Rattle.feed_lane.specs.Lanes.{definition_of}
+use Rattle.feed_lane.specs.Steps.{definition_of}
 use Rattle.feed_lane.proofs.Definitions.{shows_def}
 use Rattle.feed_lane.proofs.describing.schema_len.Goals as goal
 

@@ -1,7 +1,7 @@
 use Rattle.std.proofs.Common.{ℕ, List}
 use Rattle.mcap_model.specs.Tops.{Top, Placed}
 use Rattle.record_walk.specs.Walking.{FlatStands, flat_left}
-use Rattle.feed_lane.specs.Pass.{no_calls}
+use Rattle.feed_lane.specs.PassCalls.{no_calls}
 use Rattle.feed_lane.specs.Kept.{IsKnown}
 use Rattle.feed_lane.specs.Steps.{ThenShows, KeepsLists}
 use Rattle.feed_lane.proofs.Feeding.{Feeds}

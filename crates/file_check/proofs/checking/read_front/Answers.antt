@@ -5,7 +5,7 @@ use Rattle.mcap_io.specs.StoreSources.{front_left}
 use Rattle.store_front.specs.Fronts.{WasRead}
 use Rattle.store_front.proofs.Lent.{front_read}
 use Rattle.file_check.specs.Reading.{ReadsSection}
-use Rattle.file_check.specs.Checking.{SectionAsks}
+use Rattle.file_check.specs.CheckSteps.{SectionAsks}
 use Rattle.file_check.proofs.Fronted.{front_asks}
 use Rattle.file_check.proofs.checking.read_front.Goals as goal
 

@@ -1,8 +1,8 @@
 use Rattle.std.proofs.Common.{ℕ, List, Option, inl, subst}
 use Rattle.mcap_model.specs.Kept.{grammar, compressed, beyond}
 use Rattle.mcap_model.specs.declared.refusals.ReadingRefused.{ReadingRefused}
-use Rattle.mcap_scan.specs.Scanning.{RefusalStands}
-use Rattle.file_check.specs.Checking.{checked_front, TellsFlaw}
+use Rattle.mcap_scan.specs.RefusedReadings.{RefusalStands}
+use Rattle.file_check.specs.CheckSteps.{checked_front, TellsFlaw}
 use Rattle.file_check.proofs.Refusing.{halted_at, halts_before, grammar_told, fault_unchecked}
 use Rattle.file_check.proofs.checking.tell_scan.Goals as goal
 

@@ -1,8 +1,9 @@
 use Rattle.std.proofs.Common.{ℕ, List, Option, Ok, refl, sym, subst}
 use Rattle.mcap_model.specs.Kept.{grammar, compressed, beyond}
 use Rattle.mcap_model.specs.declared.refusals.ReadingRefused.{ReadingRefused}
-use Rattle.mcap_scan.specs.Scanning.{RefusalStands}
-use Rattle.file_check.specs.Checking.{IsSo, checked_front, TellsCut}
+use Rattle.mcap_scan.specs.RefusedReadings.{RefusalStands}
+use Rattle.file_check.specs.Checking.{IsSo}
+use Rattle.file_check.specs.CheckSteps.{checked_front, TellsCut}
 use Rattle.file_check.specs.CutFiles.{NamesCut}
 use Rattle.file_check.proofs.Refusing.{halted_at, cut_told, lacks_last, fault_unchecked}
 use Rattle.file_check.proofs.CutTold.{halted_all, halt_told, magic_told, fault_cut}

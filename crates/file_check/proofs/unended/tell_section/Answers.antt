@@ -1,7 +1,7 @@
 use Rattle.std.proofs.Common.{subst, sym, Err}
 use Rattle.file_check.specs.declared.reading.SectionRefused.{SectionRefused}
 use Rattle.file_check.specs.Reading.{ReadsSection}
-use Rattle.file_check.specs.Checking.{checked_front, RefusedCause}
+use Rattle.file_check.specs.CheckSteps.{checked_front, RefusedCause}
 use Rattle.file_check.proofs.Refusing.{index_read_cut}
 use Rattle.file_check.proofs.CutTold.{index_is_told}
 use Rattle.file_check.proofs.unended.tell_section.Goals as goal

@@ -1,6 +1,6 @@
 -- What the reading came to is what the program promises of a printing.
 use Rattle.mcap_model.specs.Plain.{asked_topic}
-use Rattle.command_base.specs.Ran.{scene}
+use Rattle.command_base.specs.Scenes.{scene}
 use Rattle.file_commands.specs.Cat.{selection}
 use Rattle.file_commands.proofs.Cats.{printed}
 use Rattle.file_commands.proofs.cat.print_file.Goals as goal

@@ -1,8 +1,7 @@
 use Rattle.std.proofs.Common.{ℕ, List, sym, subst}
 use Rattle.mcap_model.specs.Fields.{IsChannel}
 use Rattle.mcap_model.proofs.Maps.{shows_once}
-use Rattle.file_commands.specs.Counts.{IsCountTable}
-use Rattle.file_commands.specs.Firsts.{ArePlaces}
+use Rattle.file_commands.specs.IdTables.{IsCountTable, ArePlaces}
 use Rattle.file_commands.proofs.Shown.{places_within, firsts_are}
 use Rattle.file_commands.proofs.channels.put_channels.Goals as goal
 

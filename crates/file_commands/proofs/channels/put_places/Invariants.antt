@@ -4,7 +4,7 @@ use Rattle.json.specs.Token.{begin_array}
 use Rattle.json.specs.Tree.{json_tokens}
 use Rattle.rec_data.specs.Fields.{ChannelFields}
 use Rattle.mcap_model.specs.Fields.{IsChannel}
-use Rattle.file_commands.specs.Counts.{IsCountTable}
+use Rattle.file_commands.specs.IdTables.{IsCountTable}
 use Rattle.file_commands.specs.Json.{channel_value}
 use Rattle.file_commands.specs.Writing.{AddsTokens, ShownAt}
 use Rattle.file_commands.proofs.channels.put_places.Given as goal

@@ -1,7 +1,7 @@
 -- What the calls did is what the program promises of a check.
 use Rattle.std.proofs.Common.{ap, ◌∙◌}
 use Rattle.mcap_io.specs.declared.outside.ObjectKind.TheVariants as kinds
-use Rattle.command_base.specs.Ran.{scene}
+use Rattle.command_base.specs.Scenes.{scene}
 use Rattle.file_commands.specs.Check.{final_status}
 use Rattle.file_commands.proofs.Checks.{checked}
 use Rattle.file_commands.proofs.checking.check_file.Goals as goal

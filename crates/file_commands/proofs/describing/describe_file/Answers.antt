@@ -1,5 +1,5 @@
 -- What the reading came to is what the program promises of a telling.
-use Rattle.command_base.specs.Ran.{scene}
+use Rattle.command_base.specs.Scenes.{scene}
 use Rattle.file_commands.proofs.Tellings.{describes}
 use Rattle.file_commands.proofs.describing.describe_file.Goals as goal
 

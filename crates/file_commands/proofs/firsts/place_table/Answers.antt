@@ -4,7 +4,7 @@ use Rattle.mcap_model.specs.Places.{At}
 use Rattle.mcap_model.proofs.Places.{at_read}
 use Rattle.mcap_model.proofs.Lists.{length-take_at}
 use Rattle.mcap_model.proofs.OneMore.{taken_more}
-use Rattle.file_commands.specs.Firsts.{IsPlaceTable}
+use Rattle.file_commands.specs.IdTables.{IsPlaceTable}
 use Rattle.file_commands.proofs.Places.{table_again, table_new}
 use Rattle.file_commands.proofs.firsts.place_table.Goals as goal
 

@@ -1,5 +1,5 @@
 use Rattle.std.proofs.Common.{◌≡◌, take, length}
-use Rattle.file_commands.specs.Firsts.{IsPlaceTable}
+use Rattle.file_commands.specs.IdTables.{IsPlaceTable}
 use Rattle.file_commands.proofs.firsts.place_table.Given as goal
 
 abbrev pub invariant-ids : goal.invariant-ids

@@ -1,6 +1,6 @@
 -- What the reading came to is what the program promises of a printing by the indexes.
 use Rattle.mcap_model.specs.Plain.{asked_topic}
-use Rattle.command_base.specs.Ran.{scene}
+use Rattle.command_base.specs.Scenes.{scene}
 use Rattle.file_commands.specs.Cat.{selection}
 use Rattle.file_commands.proofs.Followings.{printed}
 use Rattle.file_commands.proofs.indexed.print_indexed.Goals as goal

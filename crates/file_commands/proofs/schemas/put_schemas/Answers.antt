@@ -1,7 +1,7 @@
 use Rattle.std.proofs.Common.{ℕ, List, sym, subst}
 use Rattle.mcap_model.specs.Fields.{IsSchema}
 use Rattle.mcap_model.proofs.Maps.{schema_once}
-use Rattle.file_commands.specs.Firsts.{ArePlaces}
+use Rattle.file_commands.specs.IdTables.{ArePlaces}
 use Rattle.file_commands.proofs.Shown.{places_within, firsts_are}
 use Rattle.file_commands.proofs.schemas.put_schemas.Goals as goal
 

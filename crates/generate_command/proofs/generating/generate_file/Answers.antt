@@ -1,6 +1,6 @@
 -- The calls come to what is promised of the command.
 use Rattle.std.proofs.Common.{◌∙◌}
-use Rattle.command_base.specs.Ran.{scene}
+use Rattle.command_base.specs.Scenes.{scene}
 use Rattle.generate_command.proofs.Told.{lack_told, generates}
 use Rattle.generate_command.proofs.generating.generate_file.Goals as goal
 

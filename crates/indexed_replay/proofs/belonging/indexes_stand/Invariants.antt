@@ -1,5 +1,5 @@
 use Rattle.std.proofs.Common.{◌≡◌, ℕ, ◌+◌, ◌-◌, ◌*◌, ◌≤◌, List, length, Some}
-use Rattle.mcap_io.specs.Stores.{StoreStays}
+use Rattle.mcap_io.specs.StoreAnswers.{StoreStays}
 use Rattle.indexed_replay.specs.Reaching.{IndexesStand, head_length}
 use Rattle.indexed_replay.proofs.belonging.indexes_stand.Given as goal
 

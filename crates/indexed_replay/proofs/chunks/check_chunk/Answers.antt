@@ -1,5 +1,5 @@
 use Rattle.std.proofs.Common.{◌≡◌, ℕ, ◌+◌, length, refl, sym, subst, ◌∙◌, arith}
-use Rattle.mcap_wire.specs.Reading.{NumberAt}
+use Rattle.mcap_wire.specs.Layout.{NumberAt}
 use Rattle.mcap_model.specs.Tops.{first_top}
 use Rattle.indexed_replay.proofs.Chunking.{lacks_front, lacks_name, front_name, front_size, chunk_ends, pack_asked}
 use Rattle.indexed_replay.proofs.chunks.check_chunk.Goals as goal

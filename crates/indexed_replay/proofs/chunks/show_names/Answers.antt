@@ -1,7 +1,8 @@
 use Rattle.std.proofs.Common.{ℕ, List, ◌+◌, drop, refl, subst, inl, inr, ◌∙◌, arith}
 use Rattle.std.proofs.lemmas.List.{take_all, length-drop}
 use Rattle.indexed_replay.specs.Steps.{AddsEachOnce}
-use Rattle.indexed_replay.specs.Chunks.{spot_of, IsLedAmong, NamesCost}
+use Rattle.indexed_replay.specs.Chunks.{IsLedAmong}
+use Rattle.indexed_replay.specs.Costs.{spot_of, NamesCost}
 use Rattle.indexed_replay.proofs.Standing.{astray_shown, astray_asked}
 use Rattle.mcap_model.proofs.Places.{at_none}
 use Rattle.indexed_replay.proofs.Naming.{named_none, named_more, names_apart, names_over, own_channel, found_more, dropped, one_name, no_name_ends}

@@ -1,12 +1,13 @@
 use Rattle.std.proofs.Common.{◌≡◌, ℕ, ◌+◌, ◌≤◌, Bool, List, length, take, drop, Some}
-use Rattle.mcap_io.specs.Stores.{StoreStays}
+use Rattle.mcap_io.specs.StoreAnswers.{StoreStays}
 use Rattle.indexed_replay.specs.Steps.{AddsEachOnce}
 use Rattle.indexed_replay.specs.Lists.{KnowsSummaryChannels}
-use Rattle.indexed_replay.specs.Chunks.{IsLedAmong, NamesCost}
+use Rattle.indexed_replay.specs.Chunks.{IsLedAmong}
+use Rattle.indexed_replay.specs.Costs.{NamesCost}
 use Rattle.time_player.specs.Keeping.{kept_in}
 use Rattle.mcap_model.specs.Places.{Has}
 use Rattle.indexed_replay.specs.Reaching.{LacksIndex}
-use Rattle.indexed_replay.specs.Holding.{HoldsExactly}
+use Rattle.indexed_replay.specs.HoldingSteps.{HoldsExactly}
 use Rattle.indexed_replay.proofs.chunks.show_names.Given as goal
 
 abbrev pub invariant-names : goal.invariant-names

@@ -1,5 +1,5 @@
 use Rattle.std.proofs.Common.{rules, ◌+◌, ◌≤◌, inl, inr, sym, ◌∙◌, arith}
-use Rattle.indexed_replay.specs.Steps.{entries_cost}
+use Rattle.indexed_replay.specs.Costs.{entries_cost}
 use Rattle.mcap_model.proofs.Replays.{range_decided}
 use Rattle.indexed_replay.proofs.Adding.{listed_more, listed_over, listed_skip, listed_again, cost_next, cost_skip, cost_all}
 use Rattle.time_player.specs.Keeping.{kept_in}

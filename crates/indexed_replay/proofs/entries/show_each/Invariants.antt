@@ -1,8 +1,9 @@
 use Rattle.std.proofs.Common.{◌≡◌, ℕ, ◌+◌, ◌≤◌, List, length, take, Some}
-use Rattle.mcap_io.specs.Stores.{StoreStays}
-use Rattle.indexed_replay.specs.Steps.{AddsEachOnce, IsLedInRange, entries_cost}
+use Rattle.mcap_io.specs.StoreAnswers.{StoreStays}
+use Rattle.indexed_replay.specs.Steps.{AddsEachOnce, IsLedInRange}
+use Rattle.indexed_replay.specs.Costs.{entries_cost}
 use Rattle.time_player.specs.Keeping.{kept_in}
-use Rattle.indexed_replay.specs.Holding.{HoldsExactly}
+use Rattle.indexed_replay.specs.HoldingSteps.{HoldsExactly}
 use Rattle.indexed_replay.proofs.entries.show_each.Given as goal
 
 abbrev pub invariant-entries : goal.invariant-entries

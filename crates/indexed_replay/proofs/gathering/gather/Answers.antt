@@ -3,7 +3,7 @@ use Rattle.std.proofs.lemmas.Bool.{false≢true}
 use Rattle.rec_index.specs.Parsed.{chunk_index_fields}
 use Rattle.mcap_model.specs.Tops.{Top}
 use Rattle.indexed_replay.specs.Reaching.{IsReached}
-use Rattle.indexed_replay.specs.Gathering.{IndexesCost}
+use Rattle.indexed_replay.specs.Costs.{IndexesCost}
 use Rattle.indexed_replay.proofs.Gathered.{from_none, from_skip, from_more, from_over, one_index}
 use Rattle.indexed_replay.proofs.Naming.{dropped, asked_among}
 use Rattle.time_player.specs.Keeping.{kept_in}

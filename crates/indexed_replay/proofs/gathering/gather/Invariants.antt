@@ -1,9 +1,10 @@
 use Rattle.std.proofs.Common.{◌≡◌, ℕ, ◌+◌, ◌≤◌, List, length, take, drop, Some}
-use Rattle.mcap_io.specs.Stores.{StoreStays}
+use Rattle.mcap_io.specs.StoreAnswers.{StoreStays}
 use Rattle.indexed_replay.specs.Steps.{AddsEachOnce}
 use Rattle.indexed_replay.specs.Lists.{KnowsSummaryChannels}
-use Rattle.indexed_replay.specs.Holding.{HoldsExactly}
-use Rattle.indexed_replay.specs.Gathering.{AreApart, IsLedFrom, IndexesCost}
+use Rattle.indexed_replay.specs.HoldingSteps.{HoldsExactly}
+use Rattle.indexed_replay.specs.Gathering.{AreApart, IsLedFrom}
+use Rattle.indexed_replay.specs.Costs.{IndexesCost}
 use Rattle.time_player.specs.Keeping.{kept_in}
 use Rattle.indexed_replay.proofs.gathering.gather.Given as goal
 

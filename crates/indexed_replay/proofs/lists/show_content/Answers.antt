@@ -1,6 +1,7 @@
 use Rattle.std.proofs.Common.{ℕ, List, ◌≤◌, ◌+◌, Ok, Err, subst}
 use Rattle.std.proofs.lemmas.Bool.{both_ways}
-use Rattle.indexed_replay.specs.Steps.{EntriesShown, entries_cost}
+use Rattle.indexed_replay.specs.Steps.{EntriesShown}
+use Rattle.indexed_replay.specs.Costs.{entries_cost}
 use Rattle.indexed_replay.specs.Lists.{ContentRefused}
 use Rattle.indexed_replay.proofs.Wanting.{index_once}
 use Rattle.indexed_replay.proofs.Listing.{content_shown, content_none, content_lacks}

@@ -1,5 +1,6 @@
 use Rattle.std.proofs.Common.{rules, ◌≡◌, subst, inl, inr, Err}
-use Rattle.mcap_wire.specs.Reading.{NumberAt, NumberFails, ReadsNumber, TextAt, TextFails, ReadsText}
+use Rattle.mcap_wire.specs.Reading.{NumberFails, ReadsNumber, TextAt, TextFails, ReadsText}
+use Rattle.mcap_wire.specs.Layout.{NumberAt}
 use Rattle.indexed_replay.proofs.packings.take_packing.Goals as goal
 
 pub returns-in_err-_crc-clause-first_fault : goal.returns-in_err-_crc-clause-first_fault

@@ -2,7 +2,8 @@ use Rattle.std.proofs.Common.{List, inl, inr, sym, subst, ap, ◌∙◌, arith}
 use Rattle.mcap_model.specs.declared.replay.Shown.{Shown}
 use Rattle.mcap_model.specs.declared.replay.Topic.{Topic}
 use Rattle.mcap_model.specs.Plain.{AreNamed}
-use Rattle.time_player.specs.Keeping.{data_in, kept_in}
+use Rattle.time_player.specs.Keeping.{kept_in}
+use Rattle.time_player.specs.DataOfMessages.{data_in}
 use Rattle.time_player.specs.Ordering.{IsOrdered}
 use Rattle.indexed_replay.specs.Reaching.{nothing}
 use Rattle.indexed_replay.proofs.Summed.{knows, loaded_summary}

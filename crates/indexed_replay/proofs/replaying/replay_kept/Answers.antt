@@ -4,7 +4,7 @@ use Rattle.mcap_model.specs.Tops.{Top}
 use Rattle.mcap_model.specs.Plain.{asked_topic}
 use Rattle.mcap_model.specs.declared.refusals.IndexedRefused.TheVariants as by_index
 use Rattle.indexed_replay.specs.Reaching.{nothing}
-use Rattle.indexed_replay.specs.Gathering.{IndexesCost}
+use Rattle.indexed_replay.specs.Costs.{IndexesCost}
 use Rattle.summary_read.specs.Parts.{Parts, of_kind}
 use Rattle.summary_read.specs.Loading.{AskedFor, LoadCause}
 use Rattle.indexed_replay.proofs.Summed.{loaded_summary, summary_once}

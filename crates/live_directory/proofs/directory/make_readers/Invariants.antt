@@ -1,4 +1,4 @@
-use Rattle.live_directory.specs.Reading.{AreUnread}
+use Rattle.live_directory.specs.ReaderSteps.{AreUnread}
 use Rattle.live_directory.proofs.directory.make_readers.Given as goal
 
 abbrev pub invariant-loop : goal.invariant-loop

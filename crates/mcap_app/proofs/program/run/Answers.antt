@@ -3,9 +3,10 @@ use Rattle.std.proofs.Common.{◌⊎◌, ℕ, List, [], ◌∷◌, ◌++◌, sym
 use Rattle.command_words.specs.declared.command.Command.{Command}
 use Rattle.record_command.specs.declared.recording.Ended.{Ended}
 use Rattle.command_base.specs.Printing.{Takes}
-use Rattle.command_base.specs.Ran.{scene}
+use Rattle.command_base.specs.Scenes.{scene}
 use Rattle.command_base.specs.Texts.{bad_words, said}
-use Rattle.mcap_app.specs.Runs.{LacksForWords, Runs}
+use Rattle.mcap_app.specs.Runs.{Runs}
+use Rattle.mcap_app.specs.Ways.{LacksForWords}
 use Rattle.mcap_app.proofs.Running.{allowed, ran_not_two}
 use Rattle.mcap_app.proofs.program.run.Goals as goal
 

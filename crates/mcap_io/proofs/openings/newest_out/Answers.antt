@@ -1,7 +1,7 @@
 -- The walk has come to the newest opening whose object is out.
 use Rattle.std.proofs.Common.{◌≡◌, suc, ◌-◌, ◌<◌, length, get_or, take, drop, map, subst, arith}
 use Rattle.std.proofs.lemmas.List.{length-take-le}
-use Rattle.mcap_io.specs.Outside.{IsOut, NoneIsOut}
+use Rattle.mcap_io.specs.OutsideCalls.{IsOut, NoneIsOut}
 use Rattle.mcap_io.specs.Standing.{shown}
 use Rattle.mcap_io.proofs.Walking.{split_there}
 use Rattle.mcap_io.proofs.openings.newest_out.Goals as goal

@@ -1,5 +1,5 @@
 use Rattle.std.proofs.Common.{length, drop, map, ◌≤◌}
-use Rattle.mcap_io.specs.Outside.{NoneIsOut}
+use Rattle.mcap_io.specs.OutsideCalls.{NoneIsOut}
 use Rattle.mcap_io.specs.Standing.{shown}
 use Rattle.mcap_io.proofs.openings.newest_out.Given as goal
 

@@ -1,6 +1,6 @@
 -- A step goes on from what was filled; one that doesn't fill its room ends the input.
 use Rattle.std.proofs.Common.{◌≡◌, ◌∙◌, ◌+◌, ◌-◌, ◌≤◌, ◌<◌, ℕ, List, length, drop, subst, sym, arith, length-drop}
-use Rattle.mcap_io.specs.Outside.{TakesFront}
+use Rattle.mcap_io.specs.OutsideCalls.{TakesFront}
 use Rattle.mcap_io.proofs.Filling.{filled-on, filled-end, filled-lost}
 use Rattle.mcap_io.proofs.stretch.read_in_steps.Goals as goal
 

@@ -1,7 +1,7 @@
 use Rattle.std.proofs.Common.{◌+◌, ◌/◌, true, false, sym, subst, arith}
 use Rattle.mcap_model.specs.Places.{At}
 use Rattle.id_table.specs.Ids as tables
-use Rattle.mcap_merge.specs.Inputs.{read_tops}
+use Rattle.mcap_merge.specs.ReadInputs.{read_tops}
 use Rattle.mcap_merge.proofs.Sources.{used_sized, mark_read}
 use Rattle.mcap_merge.proofs.SeenContents.{ContentsSeen, contents_none, contents_more, contents_same, contents_all, contents_lack}
 use Rattle.mcap_merge.proofs.checking.check_ids.Goals as goal

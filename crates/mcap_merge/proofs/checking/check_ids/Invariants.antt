@@ -1,5 +1,6 @@
 use Rattle.std.proofs.Common.{List}
-use Rattle.mcap_merge.specs.Inputs.{Read, read_tops, HoldInputs}
+use Rattle.mcap_merge.specs.Inputs.{HoldInputs}
+use Rattle.mcap_merge.specs.ReadInputs.{Read, read_tops}
 use Rattle.mcap_merge.proofs.SeenContents.{ContentsSeen}
 use Rattle.mcap_merge.proofs.checking.check_ids.Given as goal
 

@@ -1,7 +1,7 @@
 use Rattle.std.proofs.Common.{List, [], ◌++◌, take, get_or, sym, subst, ◌∙◌, arith}
 use Rattle.mcap_model.specs.Places.{At, Each}
 use Rattle.mcap_model.specs.Tops.{Top}
-use Rattle.mcap_model.specs.Laws.{IsExtra}
+use Rattle.mcap_model.specs.ReadBack.{IsExtra}
 use Rattle.mcap_model.proofs.Places.{at_read}
 use Rattle.mcap_merge.specs.declared.input.Extra.{Extra}
 use Rattle.mcap_merge.specs.Inputs.{extra_top, extra_tops}

@@ -2,7 +2,7 @@ use Rattle.std.proofs.Common.{ℕ, List, [], ◌∷◌, ◌++◌, take, sym, sub
 use Rattle.mcap_model.specs.Places.{At}
 use Rattle.mcap_model.specs.Tops.{Top}
 use Rattle.mcap_model.specs.Made.{top}
-use Rattle.mcap_model.specs.Laws.{IsExtra}
+use Rattle.mcap_model.specs.ReadBack.{IsExtra}
 use Rattle.mcap_model.proofs.Places.{at_read}
 use Rattle.mcap_merge.specs.Inputs.{extra_top, extra_tops}
 use Rattle.mcap_merge.proofs.Profiles.{extras_next, extras_rest}

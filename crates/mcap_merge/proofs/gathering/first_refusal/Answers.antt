@@ -1,5 +1,5 @@
 use Rattle.std.proofs.Common.{subst}
-use Rattle.mcap_merge.specs.Inputs.{read_tops}
+use Rattle.mcap_merge.specs.ReadInputs.{read_tops}
 use Rattle.mcap_merge.specs.Joining.{LackMet}
 use Rattle.mcap_merge.proofs.SeenSchemas.{told_lack}
 use Rattle.mcap_merge.proofs.gathering.first_refusal.Goals as goal

@@ -3,7 +3,7 @@ use Rattle.std.proofs.lemmas.List.{length-map}
 use Rattle.mcap_io.specs.Stores.{StoreState}
 use Rattle.mcap_merge.specs.declared.input.Input.{Input}
 use Rattle.mcap_merge.specs.Inputs.{HoldInputs}
-use Rattle.mcap_merge.specs.Gathering.{IsPrepared}
+use Rattle.mcap_merge.specs.GatheringSteps.{IsPrepared}
 use Rattle.mcap_merge.specs.Writing.{extras_of}
 use Rattle.mcap_merge.proofs.Profiles.{meet_all, held_length}
 use Rattle.mcap_merge.proofs.gathering.gather.Goals as goal

@@ -1,4 +1,4 @@
-use Rattle.mcap_merge.specs.Inputs.{read_tops}
+use Rattle.mcap_merge.specs.ReadInputs.{read_tops}
 use Rattle.mcap_merge.proofs.MergeThere.{prepared}
 use Rattle.mcap_merge.proofs.gathering.prepare.Goals as goal
 

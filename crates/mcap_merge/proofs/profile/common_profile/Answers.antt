@@ -5,7 +5,7 @@ use Rattle.mcap_model.specs.Places.{At}
 use Rattle.mcap_model.proofs.Places.{at_within, at_read, at_one}
 use Rattle.mcap_merge.specs.declared.input.Input.{Input}
 use Rattle.mcap_model.specs.Merged.{CommonProfile}
-use Rattle.mcap_merge.specs.Inputs.{read_tops}
+use Rattle.mcap_merge.specs.ReadInputs.{read_tops}
 use Rattle.mcap_merge.proofs.Profiles.{profiles_differ, profiles_same}
 use Rattle.mcap_merge.proofs.profile.common_profile.Goals as goal
 

@@ -3,7 +3,7 @@ use Rattle.mcap_model.proofs.Places.{at_read}
 use Rattle.mcap_model.proofs.OneMore.{each_last, taken_more}
 use Rattle.mcap_model.proofs.NamedTopics.{take_past}
 use Rattle.chunk_survey.specs.declared.spans.Span.{Span}
-use Rattle.mcap_merge.specs.Reading.{EndWithin}
+use Rattle.mcap_merge.specs.ReadingSteps.{EndWithin}
 use Rattle.mcap_merge.proofs.reading.first_outside.Goals as goal
 
 one_more : (len : ℕ) (spans : List Span) (i : ℕ) (d : Span) → i < length spans → EndWithin len (take i spans) → (get_or spans i d).at ≤ len → (get_or spans i d).length ≤ len - (get_or spans i d).at → EndWithin len (take (i + 1) spans)

@@ -1,5 +1,5 @@
 use Rattle.std.proofs.Common.{take}
-use Rattle.mcap_merge.specs.Reading.{EndWithin}
+use Rattle.mcap_merge.specs.ReadingSteps.{EndWithin}
 use Rattle.mcap_merge.proofs.reading.first_outside.Given as goal
 
 abbrev pub invariant-spans : goal.invariant-spans

@@ -4,7 +4,7 @@ use Rattle.mcap_io.specs.Stores.{StoreState}
 use Rattle.mcap_io.specs.StoreSources.{front_left}
 use Rattle.store_front.proofs.Lent.{front_read}
 use Rattle.mcap_merge.specs.Inputs.{ReadsInput}
-use Rattle.mcap_merge.specs.Reading.{FrontReads}
+use Rattle.mcap_merge.specs.ReadingSteps.{FrontReads}
 use Rattle.mcap_merge.proofs.reading.read_front.Goals as goal
 
 pub returns : goal.returns

@@ -1,7 +1,8 @@
 use Rattle.std.proofs.Common.{◌∙◌, ◌+◌, ◌/◌, true, false, List, map, sym, ap, subst, arith}
 use Rattle.mcap_model.specs.Places.{At}
 use Rattle.id_table.specs.Ids as tables
-use Rattle.mcap_merge.specs.Inputs.{Read, read_tops, HoldInputs}
+use Rattle.mcap_merge.specs.Inputs.{HoldInputs}
+use Rattle.mcap_merge.specs.ReadInputs.{Read, read_tops}
 use Rattle.mcap_merge.specs.Schemas.{bare, AreBare}
 use Rattle.mcap_merge.proofs.Sources.{used_sized, mark_read}
 use Rattle.mcap_merge.proofs.SeenSchemas.{SchemasSeen, seen_none, seen_more, seen_same, seen_all, seen_lacks}

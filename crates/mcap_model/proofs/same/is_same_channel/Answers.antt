@@ -2,7 +2,7 @@ use Rattle.std.proofs.Common.{◌≡◌, sym, ap, subst, ◌∙◌}
 use Rattle.std.proofs.lemmas.Bool.{both_ways}
 use Rattle.mcap_model.specs.Fields.{ChannelFields, SameChannel}
 use Rattle.rec_data.specs.Parsed.{channel_fields}
-use Rattle.mcap_model.specs.Declarations.{SameButMetadata}
+use Rattle.mcap_model.specs.WantsOfMemory.{SameButMetadata}
 use Rattle.mcap_model.proofs.Bits.{false_not}
 use Rattle.mcap_model.proofs.Maps.{channel_decided}
 use Rattle.mcap_model.proofs.same.is_same_channel.Goals as goal

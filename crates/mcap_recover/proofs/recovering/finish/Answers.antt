@@ -1,8 +1,7 @@
 -- The writer stopped at the end of the file.
 use Rattle.std.proofs.Common.{Result, sym, subst}
 use Rattle.mcap_model.specs.declared.ends.Stop.{Stop}
-use Rattle.chunk_writer.specs.Stops.{numbers, StopsAt, StopCause, Cause}
-use Rattle.chunk_writer.specs.Scribes.{Ends}
+use Rattle.chunk_writer.specs.Stops.{numbers, StopsAt, StopCause, Cause, Ends}
 use Rattle.mcap_recover.proofs.recovering.finish.Goals as goal
 
 pub returns-in-Err : goal.returns-in-Err

@@ -1,5 +1,5 @@
 use Rattle.std.proofs.Common.{rules, ◌/◌, List, length, sym, subst, arith}
-use Rattle.mcap_wire.specs.Arrays.{ArrayAt}
+use Rattle.mcap_wire.specs.ArrayReading.{ArrayAt}
 use Rattle.mcap_wire.specs.ArrayBytes.{HoldsArray}
 use Rattle.mcap_wire.proofs.Numbers.{AreBytes}
 use Rattle.mcap_wire.proofs.ArrayLemmas.{Entry, whole_entries, array_read, bytes_fit, length_there, whole_there}

@@ -1,6 +1,6 @@
 use Rattle.std.proofs.Common.{◌+◌, take, inl, inr, arith}
 use Rattle.mcap_wire.specs.ArrayBytes.{entries_in}
-use Rattle.mcap_wire.specs.Maps.{LacksKey}
+use Rattle.mcap_wire.specs.MapReading.{LacksKey}
 use Rattle.mcap_wire.specs.declared.faults.Why.TheVariants.{BadLength, DoubleKey}
 use Rattle.mcap_wire.proofs.Framing.{number_is_short}
 use Rattle.mcap_wire.proofs.ArrayLemmas.{one_more_count, no_counts, counts_stop}

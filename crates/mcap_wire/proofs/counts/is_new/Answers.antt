@@ -1,6 +1,6 @@
 use Rattle.std.proofs.Common.{subst, arith, List}
 use Rattle.std.proofs.lemmas.List.{take_all}
-use Rattle.mcap_wire.specs.Maps.{LacksKey}
+use Rattle.mcap_wire.specs.MapReading.{LacksKey}
 use Rattle.mcap_wire.specs.ArrayBytes.{entries_in}
 use Rattle.mcap_wire.proofs.ArrayLemmas.{Entry, length-entries_in, beyond_is_new}
 use Rattle.mcap_wire.proofs.counts.is_new.Goals as goal

@@ -1,5 +1,5 @@
 use Rattle.std.proofs.Common.{take}
-use Rattle.mcap_wire.specs.Maps.{LacksKey}
+use Rattle.mcap_wire.specs.MapReading.{LacksKey}
 use Rattle.mcap_wire.specs.ArrayBytes.{entries_in}
 use Rattle.mcap_wire.proofs.counts.is_new.Given as goal
 

@@ -1,5 +1,5 @@
 use Rattle.std.proofs.Common.{List, ℕ, sym, subst}
-use Rattle.mcap_wire.specs.Maps.{a_uint, MapStops}
+use Rattle.mcap_wire.specs.MapReading.{a_uint, MapStops}
 use Rattle.mcap_wire.proofs.ArrayLemmas.{bytes_there, whole_there}
 use Rattle.mcap_wire.proofs.MapWalks.{map_fails}
 use Rattle.mcap_wire.proofs.counts.take_counts.Goals as goal

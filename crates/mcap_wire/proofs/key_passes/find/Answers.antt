@@ -6,7 +6,7 @@ use Rattle.std.proofs.lemmas.List.{get_or_default}
 use Rattle.std.proofs.lemmas.Cmp.{nat_list_cmp_total}
 use Rattle.std.proofs.lemmas.Map.Lookups.{exact_bytes}
 use Rattle.std.specs.Ordering.{ordering_reverse}
-use Rattle.mcap_wire.specs.Reading.{text_bytes}
+use Rattle.mcap_wire.specs.Layout.{text_bytes}
 use Rattle.mcap_wire.specs.KeyPasses.{IsBelow}
 use Rattle.mcap_wire.proofs.KeyPassLemmas.{below_more, above_from}
 use Rattle.mcap_wire.proofs.key_passes.find.Goals as goal

@@ -1,6 +1,6 @@
 use Rattle.std.proofs.Common.{◌-◌, ◌<◌, ◌≤◌, length}
 use Rattle.std.specs.List.{AllWithin}
-use Rattle.mcap_wire.specs.Reading.{text_bytes}
+use Rattle.mcap_wire.specs.Layout.{text_bytes}
 use Rattle.mcap_wire.specs.KeyPasses.{IsBelow}
 use Rattle.mcap_wire.proofs.key_passes.find.Given as goal
 

@@ -1,6 +1,6 @@
 use Rattle.std.proofs.Common.{◌≡◌, ◌+◌, ◌++◌, ◌∷◌, ◌<◌, [], List, ℕ, length, take, ap, sym, subst, ◌∙◌, arith}
 use Rattle.std.proofs.lemmas.List.{take_more, take_all, get_or-take}
-use Rattle.mcap_wire.specs.Maps.{HasKey}
+use Rattle.mcap_wire.specs.MapReading.{HasKey}
 use Rattle.mcap_wire.specs.PairBytes.{pairs_in}
 use Rattle.mcap_wire.specs.KeyPasses.{TextThere, Sifts, window_room, kept_places}
 use Rattle.mcap_wire.proofs.TextMaps.{Pair}

@@ -1,7 +1,7 @@
 use Rattle.std.proofs.Common.{◌≡◌, ◌+◌, ◌-◌, ◌≤◌, List, ℕ, length, take, sym, ap, subst, ◌∙◌, arith}
 use Rattle.std.proofs.lemmas.List.{length-drop}
-use Rattle.mcap_wire.specs.Reading.{text_bytes}
-use Rattle.mcap_wire.specs.Maps.{a_string, PairsAt, MapStops}
+use Rattle.mcap_wire.specs.Layout.{text_bytes}
+use Rattle.mcap_wire.specs.MapReading.{a_string, PairsAt, MapStops}
 use Rattle.mcap_wire.specs.PairBytes.{pairs_in}
 use Rattle.mcap_wire.proofs.Fields.{number_there}
 use Rattle.mcap_wire.proofs.TextMaps.{Pair, pairs_read}

@@ -1,5 +1,5 @@
 use Rattle.std.proofs.Common.{◌≡◌, ◌+◌, ◌-◌, ℕ, take, drop, ap, ◌∙◌, arith}
-use Rattle.mcap_wire.specs.Reading.{text_length}
+use Rattle.mcap_wire.specs.Layout.{text_length}
 use Rattle.mcap_wire.proofs.Fields.{number_there}
 use Rattle.mcap_wire.proofs.pair_bytes.bytes_there.Goals as goal
 

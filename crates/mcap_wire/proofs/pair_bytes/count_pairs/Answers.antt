@@ -2,7 +2,7 @@ use Rattle.std.proofs.Common.{◌≡◌, false, List, ℕ, [], take, sym, subst,
 use Rattle.std.specs.Ordering.{nat_cmp, is_gt}
 use Rattle.std.specs.Cmp.Lexicographic.{slice_cmp}
 use Rattle.mcap_wire.specs.declared.faults.Why.TheVariants.{DoubleKey}
-use Rattle.mcap_wire.specs.Maps.{HasKey, LacksKey}
+use Rattle.mcap_wire.specs.MapReading.{HasKey, LacksKey}
 use Rattle.mcap_wire.specs.PairBytes.{pairs_in, NoneAbove}
 use Rattle.mcap_wire.proofs.TextMaps.{Pair}
 use Rattle.mcap_wire.proofs.PairWalks.{length-pairs_in, one_more, empty_is_held, none_above_more, pairs_stop, key_fails, value_fails}

@@ -1,7 +1,7 @@
 use Rattle.std.proofs.Common.{rules, ◌≡◌, ◌≢◌, ◌<◌, List, [], length, take, sym, subst, ◌∙◌, arith}
 use Rattle.std.proofs.lemmas.List.{get_or_default, take_all}
 use Rattle.std.proofs.lemmas.List.Elements.{All-more}
-use Rattle.mcap_wire.specs.Maps.{LacksKey}
+use Rattle.mcap_wire.specs.MapReading.{LacksKey}
 use Rattle.mcap_wire.specs.PairBytes.{pairs_in}
 use Rattle.mcap_wire.proofs.TextMaps.{Pair}
 use Rattle.mcap_wire.proofs.PairWalks.{length-pairs_in, nth, key_here, value_here, walked_on}

@@ -1,5 +1,5 @@
 use Rattle.std.proofs.Common.{take}
-use Rattle.mcap_wire.specs.Maps.{LacksKey}
+use Rattle.mcap_wire.specs.MapReading.{LacksKey}
 use Rattle.mcap_wire.specs.PairBytes.{pairs_in}
 use Rattle.mcap_wire.proofs.PairWalks.{WalkedTo}
 use Rattle.mcap_wire.proofs.pair_bytes.has_key.Given as goal

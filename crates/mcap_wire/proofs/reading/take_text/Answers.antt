@@ -1,7 +1,7 @@
 use Rattle.std.proofs.Common.{◌≡◌, ◌+◌, ◌-◌, length, take, sym, ap, subst, ◌∙◌, arith}
 use Rattle.std.specs.Prelude.{IsUtf8}
 use Rattle.std.proofs.lemmas.List.{length-drop}
-use Rattle.mcap_wire.specs.Reading.{text_bytes}
+use Rattle.mcap_wire.specs.Layout.{text_bytes}
 use Rattle.mcap_wire.proofs.Fields.{number_there, text_read}
 use Rattle.mcap_wire.proofs.reading.take_text.Goals as goal
 

@@ -1,6 +1,6 @@
 use Rattle.std.proofs.Common.{◌∷◌, [], ℕ, refl, sym, subst}
 use Rattle.mcap_model.specs.Made.{top}
-use Rattle.message_sums.specs.Reading.{AddsToSums}
+use Rattle.message_sums.specs.SumSteps.{AddsToSums}
 use Rattle.message_sums.specs.declared.sums.Sums.{Sums}
 use Rattle.message_sums.proofs.Added.{other_kind, message_added, message_absent}
 use Rattle.message_sums.proofs.adding.add_record.Goals as goal

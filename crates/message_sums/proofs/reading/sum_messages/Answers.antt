@@ -1,6 +1,6 @@
 use Rattle.std.proofs.Common.{◌∷◌, [], List, ℕ, subst}
 use Rattle.record_walk.specs.Walking.{placed_at}
-use Rattle.message_sums.specs.Reading.{AddsToSums}
+use Rattle.message_sums.specs.SumSteps.{AddsToSums}
 use Rattle.message_sums.proofs.Summed.{sums_begin, sums_on, sums_end}
 use Rattle.message_sums.proofs.reading.sum_messages.Goals as goal
 

@@ -1,9 +1,11 @@
 -- The troubles of the command are told.
 use Rattle.std.proofs.Common.{Bool, List, [], ◌∷◌, ◌++◌, subst, sym, ap, ◌∙◌}
 use Rattle.std.specs.List.{flat_map}
-use Rattle.command_base.specs.Texts.{Trouble, output_limit, no_memory, complained}
+use Rattle.command_base.specs.Texts.{Trouble, output_limit, no_memory}
+use Rattle.command_base.specs.ComplaintTroubles.{complained}
 use Rattle.command_base.specs.Ran.{when, told_of, Complains}
-use Rattle.output_commands.specs.SomeOutput.{halts_in, flags_of}
+use Rattle.output_commands.specs.SomeOutput.{halts_in}
+use Rattle.output_commands.specs.SomeOutputSteps.{flags_of}
 use Rattle.output_commands.proofs.SomeDue.{four_more, told_behind}
 use Rattle.output_commands.proofs.blaming.answer_inputs.Goals as goal
 

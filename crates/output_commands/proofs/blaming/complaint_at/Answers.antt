@@ -1,9 +1,9 @@
 -- Only the input of that number has a complaint.
 use Rattle.std.proofs.Common.{drop, Option, sym, ap, ◌∙◌}
-use Rattle.command_base.specs.Texts.{trouble_of}
+use Rattle.command_base.specs.ComplaintTroubles.{trouble_of}
 use Rattle.command_base.specs.Ran.{first_halts}
 use Rattle.output_commands.specs.declared.blaming.Halted.{Halted}
-use Rattle.output_commands.specs.SomeOutput.{halted_lists}
+use Rattle.output_commands.specs.SomeOutputSteps.{halted_lists}
 use Rattle.output_commands.proofs.SomeDue.{halts_there, halts_elsewhere}
 use Rattle.output_commands.proofs.blaming.complaint_at.Goals as goal
 

@@ -2,7 +2,7 @@
 use Rattle.std.proofs.Common.{◌≡◌, ℕ, ◌+◌, ◌∙◌, ◌∷◌, ◌++◌, [], List, Option, ap, sym, drop, rules}
 use Rattle.std.proofs.lemmas.List.{drop_more}
 use Rattle.command_base.specs.declared.complaint.Complaint.{Complaint}
-use Rattle.output_commands.specs.SomeOutput.{halted_lists, flags_of}
+use Rattle.output_commands.specs.SomeOutputSteps.{halted_lists, flags_of}
 use Rattle.output_commands.proofs.SomeDue.{input_due, drop_again, told_from}
 use Rattle.output_commands.proofs.blaming.input_complaints.Goals as goal
 

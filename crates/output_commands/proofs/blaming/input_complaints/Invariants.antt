@@ -2,8 +2,8 @@
 use Rattle.std.proofs.Common.{◌≡◌, ◌*◌, ◌++◌}
 use Rattle.std.specs.List.{flat_map}
 use Rattle.arrayvec.specs.ArrayVec.{array_vec_len}
-use Rattle.command_base.specs.Texts.{complained}
-use Rattle.output_commands.specs.SomeOutput.{halted_lists, flags_of}
+use Rattle.command_base.specs.ComplaintTroubles.{complained}
+use Rattle.output_commands.specs.SomeOutputSteps.{halted_lists, flags_of}
 use Rattle.output_commands.proofs.SomeDue.{told_from}
 use Rattle.output_commands.proofs.blaming.input_complaints.Given as goal
 

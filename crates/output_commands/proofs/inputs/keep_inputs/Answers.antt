@@ -1,7 +1,7 @@
 -- One input more was kept.
 use Rattle.std.proofs.Common.{◌≡◌, ◌∙◌, ◌++◌, ◌∷◌, ◌<◌, [], rules, map, length, get_or, sym, ap, subst, ℕ, List, ◌+◌, vec_len, length-append, arith}
 use Rattle.std.proofs.lemmas.List.{length-map, map-append}
-use Rattle.output_commands.specs.SomeInputs.{OneKept}
+use Rattle.output_commands.specs.InputSteps.{OneKept}
 use Rattle.output_commands.proofs.SomeInputs.{KeptSoFar, kept_none, kept_more}
 use Rattle.output_commands.proofs.inputs.keep_inputs.Goals as goal
 

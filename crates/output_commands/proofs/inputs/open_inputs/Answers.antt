@@ -2,7 +2,7 @@
 use Rattle.std.proofs.Common.{rules, ◌≡◌, ◌+◌, ℕ, List, take, map, subst, sym, ap, ◌∙◌, ◌++◌, ◌∷◌, []}
 use Rattle.std.proofs.lemmas.List.{take_more}
 use Rattle.std.proofs.lemmas.List.{map-append}
-use Rattle.output_commands.specs.SomeInputs.{InputsOpened}
+use Rattle.output_commands.specs.InputSteps.{InputsOpened}
 use Rattle.output_commands.proofs.SomeInputs.{one_opened}
 use Rattle.output_commands.proofs.inputs.open_inputs.Goals as goal
 

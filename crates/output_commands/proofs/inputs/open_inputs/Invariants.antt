@@ -1,6 +1,6 @@
 -- So far the inputs below the index were opened.
 use Rattle.std.proofs.Common.{◌≡◌, map, take, vec_len, vec_capacity}
-use Rattle.output_commands.specs.SomeInputs.{InputsOpened}
+use Rattle.output_commands.specs.InputSteps.{InputsOpened}
 use Rattle.output_commands.proofs.inputs.open_inputs.Given as goal
 
 abbrev pub invariant-inputs : goal.invariant-inputs

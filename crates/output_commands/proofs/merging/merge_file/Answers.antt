@@ -2,8 +2,9 @@
 use Rattle.std.proofs.Common.{◌⊎◌, Bool, List, subst, sym, ap, ◌∙◌}
 use Rattle.mcap_io.specs.Outside.{Rose}
 use Rattle.command_base.specs.declared.faults.Counts.{Counts}
-use Rattle.command_base.specs.Ran.{scene}
-use Rattle.output_commands.specs.SomeOutput.{some_failed, PartsShow}
+use Rattle.command_base.specs.Scenes.{scene}
+use Rattle.output_commands.specs.SomeOutput.{some_failed}
+use Rattle.output_commands.specs.SomeOutputSteps.{PartsShow}
 use Rattle.output_commands.specs.Merge.{ending_of_merging}
 use Rattle.output_commands.proofs.SomeOutput.{parts_at, counts_same}
 use Rattle.output_commands.proofs.Merges.{merged}

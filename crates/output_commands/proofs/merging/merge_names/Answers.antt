@@ -1,7 +1,7 @@
 -- All names were opened, or one of the inputs wasn't.
 use Rattle.std.proofs.Common.{◌≡◌, refl, sym, subst, ◌∙◌, ℕ, length, map, take, rules}
 use Rattle.std.proofs.lemmas.List.{length-map}
-use Rattle.output_commands.specs.SomeInputs.{InputsKept}
+use Rattle.output_commands.specs.InputSteps.{InputsKept}
 use Rattle.output_commands.proofs.Mergings.{nothing_opened, input_refused}
 use Rattle.output_commands.proofs.merging.merge_names.Goals as goal
 

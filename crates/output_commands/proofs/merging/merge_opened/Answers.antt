@@ -1,6 +1,6 @@
 -- The openings, the merge and the keepings come to what a merge does to the world.
 use Rattle.std.proofs.Common.{refl, ap, ◌∙◌, map}
-use Rattle.mcap_io.specs.Outside.{went_well}
+use Rattle.mcap_io.specs.OutsideCalls.{went_well}
 use Rattle.command_base.specs.Ran.{failed_so}
 use Rattle.output_commands.proofs.MergedStores.{merges_so}
 use Rattle.output_commands.proofs.Mergings.{out_refused, all_merged}

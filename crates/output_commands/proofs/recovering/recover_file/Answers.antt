@@ -1,5 +1,5 @@
 -- What the calls did is what is promised of the command.
-use Rattle.command_base.specs.Ran.{scene}
+use Rattle.command_base.specs.Scenes.{scene}
 use Rattle.output_commands.specs.Recover.{ending_of_recovery}
 use Rattle.output_commands.proofs.OneOutput.{shows_at}
 use Rattle.output_commands.proofs.Recoveries.{recovered}

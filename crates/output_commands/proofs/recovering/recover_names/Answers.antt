@@ -1,9 +1,10 @@
 -- The openings, the recovery and the keepings come to what a recovery does to the world.
 use Rattle.std.proofs.Common.{◌≡◌, sym, ap, subst, ◌∙◌, Bool, false}
-use Rattle.mcap_io.specs.Outside.{went_well}
+use Rattle.mcap_io.specs.OutsideCalls.{went_well}
 use Rattle.command_base.specs.Ran.{failed_so}
 use Rattle.output_commands.specs.declared.recovering.Recovery.{Recovery}
-use Rattle.output_commands.specs.Recover.{unopened_recovery, recovery_of, NamesRecovered}
+use Rattle.output_commands.specs.Recover.{recovery_of}
+use Rattle.output_commands.specs.OneOutputSteps.{unopened_recovery, NamesRecovered}
 use Rattle.output_commands.proofs.Names.{no_input, alone}
 use Rattle.output_commands.proofs.Recoveries.{none_recovered, alone_recovered, both_recovered}
 use Rattle.output_commands.proofs.recovering.recover_names.Goals as goal

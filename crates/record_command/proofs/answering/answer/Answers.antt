@@ -1,7 +1,8 @@
 -- The troubles of the recording are told.
 use Rattle.std.proofs.Common.{Bool, List, [], ◌∷◌, ◌++◌, subst, sym, ap, ◌∙◌}
 use Rattle.std.specs.List.{flat_map}
-use Rattle.command_base.specs.Texts.{Trouble, output_limit, complained}
+use Rattle.command_base.specs.Texts.{Trouble, output_limit}
+use Rattle.command_base.specs.ComplaintTroubles.{complained}
 use Rattle.command_base.specs.Ran.{when, told_of, Complains}
 use Rattle.record_command.specs.Record.{ends_of, reports_in}
 use Rattle.record_command.specs.Answer.{feed_flags}

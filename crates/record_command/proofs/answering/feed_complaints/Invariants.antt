@@ -2,7 +2,7 @@
 use Rattle.std.proofs.Common.{◌≡◌, ◌*◌, ◌++◌}
 use Rattle.std.specs.List.{flat_map}
 use Rattle.arrayvec.specs.ArrayVec.{array_vec_len}
-use Rattle.command_base.specs.Texts.{complained}
+use Rattle.command_base.specs.ComplaintTroubles.{complained}
 use Rattle.record_command.specs.Answer.{feed_flags}
 use Rattle.record_command.proofs.Due.{told_from}
 use Rattle.record_command.proofs.answering.feed_complaints.Given as goal

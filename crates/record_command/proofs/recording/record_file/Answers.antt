@@ -2,7 +2,7 @@
 use Rattle.std.proofs.Common.{◌⊎◌}
 use Rattle.mcap_io.specs.Outside.{Rose}
 use Rattle.command_base.specs.declared.faults.Counts.{Counts}
-use Rattle.command_base.specs.Ran.{scene}
+use Rattle.command_base.specs.Scenes.{scene}
 use Rattle.record_command.proofs.Answered.{shows_in, counts_same, recorded}
 use Rattle.record_command.proofs.Flags.{outcomes_show}
 use Rattle.record_command.proofs.recording.record_file.Goals as goal

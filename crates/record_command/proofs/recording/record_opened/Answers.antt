@@ -2,7 +2,7 @@
 use Rattle.std.proofs.Common.{◌≡◌, refl, sym, ap, ◌∙◌, length, map, vec_len, rules, arith}
 use Rattle.record_command.specs.declared.answering.Outcome.{Outcome}
 use Rattle.command_base.specs.Ran.{failed_so}
-use Rattle.mcap_io.specs.Outside.{went_well}
+use Rattle.mcap_io.specs.OutsideCalls.{went_well}
 use Rattle.record_command.proofs.Sources.{zip_long}
 use Rattle.record_command.proofs.Runs.{out_refused, both}
 use Rattle.record_command.proofs.recording.record_opened.Goals as goal

@@ -1,7 +1,7 @@
 -- One sink more was kept.
 use Rattle.std.proofs.Common.{◌≡◌, ◌∙◌, ◌++◌, ◌∷◌, ◌<◌, [], rules, map, length, get_or, sym, ap, subst, ℕ, List, ◌+◌, vec_len, length-append, arith}
 use Rattle.std.proofs.lemmas.List.{length-map, map-append}
-use Rattle.record_command.specs.Sinks.{OneSinkKept}
+use Rattle.record_command.specs.SinkSteps.{OneSinkKept}
 use Rattle.record_command.proofs.KeptSinks.{SinksSoFar, sinks_none, sinks_more}
 use Rattle.record_command.proofs.sinks.keep_sinks.Goals as goal
 

@@ -2,7 +2,7 @@
 use Rattle.std.proofs.Common.{rules, ◌≡◌, ◌+◌, ℕ, List, take, map, subst, sym, ap, ◌∙◌, ◌++◌, ◌∷◌, []}
 use Rattle.std.proofs.lemmas.List.{take_more}
 use Rattle.std.proofs.lemmas.List.{map-append}
-use Rattle.record_command.specs.Sinks.{SinksOpened}
+use Rattle.record_command.specs.SinkSteps.{SinksOpened}
 use Rattle.record_command.proofs.KeptSinks.{one_sink_opened}
 use Rattle.record_command.proofs.sinks.open_sinks.Goals as goal
 

@@ -1,6 +1,6 @@
 -- So far sinks were opened under the names below the index.
 use Rattle.std.proofs.Common.{◌≡◌, map, take, vec_len, vec_capacity}
-use Rattle.record_command.specs.Sinks.{SinksOpened}
+use Rattle.record_command.specs.SinkSteps.{SinksOpened}
 use Rattle.record_command.proofs.sinks.open_sinks.Given as goal
 
 abbrev pub invariant-names : goal.invariant-names

@@ -1,11 +1,13 @@
 -- The troubles of the recording are told.
 use Rattle.std.proofs.Common.{Bool, List, [], ◌∷◌, ◌++◌, subst, sym, ap, ◌∙◌}
 use Rattle.std.specs.List.{flat_map}
-use Rattle.command_base.specs.Texts.{Trouble, fault, output_limit, output_fault, no_memory, complained}
+use Rattle.command_base.specs.Texts.{Trouble, fault, output_limit, output_fault, no_memory}
+use Rattle.command_base.specs.ComplaintTroubles.{complained}
 use Rattle.command_base.specs.Ran.{when, told_of, Complains}
 use Rattle.record_command.specs.Record.{ends_of, reports_in, limit_was_passed}
 use Rattle.record_command.specs.Answer.{feed_flags}
-use Rattle.record_command.specs.WatchedAnswer.{flaws_of, watch_flags_of}
+use Rattle.record_command.specs.WatchedAnswer.{flaws_of}
+use Rattle.record_command.specs.WatchedSteps.{watch_flags_of}
 use Rattle.record_command.proofs.Due.{told_behind}
 use Rattle.record_command.proofs.WatchedDue.{all_due}
 use Rattle.feed_lane.specs.declared.report.FeedReport.{FeedReport}

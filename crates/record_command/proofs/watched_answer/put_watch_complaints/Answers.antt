@@ -2,9 +2,9 @@
 use Rattle.std.proofs.Common.{◌≡◌, ℕ, ◌+◌, ◌∙◌, ◌∷◌, ◌++◌, [], List, Option, ap, sym, drop, rules}
 use Rattle.std.specs.List.{flat_map}
 use Rattle.std.proofs.lemmas.List.{drop_more}
-use Rattle.command_base.specs.Texts.{complained}
+use Rattle.command_base.specs.ComplaintTroubles.{complained}
 use Rattle.command_base.specs.declared.complaint.Complaint.{Complaint}
-use Rattle.record_command.specs.WatchedAnswer.{watch_flags_of}
+use Rattle.record_command.specs.WatchedSteps.{watch_flags_of}
 use Rattle.record_command.proofs.WatchedDue.{watch_due, watches_from}
 use Rattle.record_command.proofs.watched_answer.put_watch_complaints.Goals as goal
 

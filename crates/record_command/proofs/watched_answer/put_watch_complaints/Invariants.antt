@@ -2,8 +2,8 @@
 use Rattle.std.proofs.Common.{◌≡◌, ◌+◌, ◌*◌, ◌++◌}
 use Rattle.std.specs.List.{flat_map}
 use Rattle.arrayvec.specs.ArrayVec.{array_vec_len}
-use Rattle.command_base.specs.Texts.{complained}
-use Rattle.record_command.specs.WatchedAnswer.{watch_flags_of}
+use Rattle.command_base.specs.ComplaintTroubles.{complained}
+use Rattle.record_command.specs.WatchedSteps.{watch_flags_of}
 use Rattle.record_command.proofs.WatchedDue.{watches_from}
 use Rattle.record_command.proofs.watched_answer.put_watch_complaints.Given as goal
 

@@ -2,7 +2,7 @@
 use Rattle.std.proofs.Common.{◌⊎◌}
 use Rattle.mcap_io.specs.Outside.{Rose}
 use Rattle.record_command.specs.declared.watched_answer.WatchedCounts.{WatchedCounts}
-use Rattle.command_base.specs.Ran.{scene}
+use Rattle.command_base.specs.Scenes.{scene}
 use Rattle.record_command.proofs.WatchedAnswered.{watched_counts_same, watched_shows_in, watched_recorded}
 use Rattle.record_command.proofs.WatchedFlags.{watched_outcomes_show}
 use Rattle.record_command.proofs.watched_answer.record_watched_file.Goals as goal

@@ -2,7 +2,8 @@
 use Rattle.std.proofs.Common.{◌≡◌, ◌+◌, ◌∙◌, ℕ, List, Bool, suc, take, length, sym, ap, subst, rules, arith}
 use Rattle.mcap_model.specs.Places.{At}
 use Rattle.mcap_model.proofs.Places.{at_read}
-use Rattle.record_command.specs.Watched.{is_watch_fault, or_at, with_ends}
+use Rattle.record_command.specs.Watched.{is_watch_fault, with_ends}
+use Rattle.record_command.specs.WatchedSteps.{or_at}
 use Rattle.record_command.proofs.WatchEnds.{ends_nothing, ends_more, written_over}
 use Rattle.record_command.proofs.watched_names.add_ends.Goals as goal
 

@@ -2,13 +2,13 @@
 use Rattle.std.proofs.Common.{◌≡◌, refl, sym, ap, subst, ◌∙◌, ◌∷◌, [], List, ℕ, Bool, length, map, take, rules}
 use Rattle.std.specs.Prelude.{Vec}
 use Rattle.std.proofs.lemmas.List.{length-map}
-use Rattle.mcap_io.specs.Outside.{went_well}
+use Rattle.mcap_io.specs.OutsideCalls.{went_well}
 use Rattle.mcap_io.specs.declared.outside.ObjectKind.TheVariants as kinds
 use Rattle.mcap_model.specs.Places.{At}
 use Rattle.mcap_model.proofs.Places.{at_kept}
 use Rattle.mcap_model.proofs.Lists.{cut_at}
 use Rattle.command_base.specs.Ran.{failed_so}
-use Rattle.record_command.specs.Sinks.{SinksKept}
+use Rattle.record_command.specs.SinkSteps.{SinksKept}
 use Rattle.record_command.proofs.Runs.{refusal_of}
 use Rattle.record_command.proofs.KeptSinks.{no_view}
 use Rattle.record_command.proofs.Beside.{AllSeen, sink_refused, names_once, out_apart}

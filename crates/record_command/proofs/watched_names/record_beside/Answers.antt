@@ -1,7 +1,7 @@
 -- The recording and the keepings come to what a recording with watchers does to the world.
 use Rattle.std.proofs.Common.{◌≡◌, refl, sym, ap, ◌∙◌, [], length, map, vec_len, rules, arith}
 use Rattle.std.proofs.lemmas.List.{append-nil, length-map}
-use Rattle.mcap_io.specs.Outside.{went_well}
+use Rattle.mcap_io.specs.OutsideCalls.{went_well}
 use Rattle.command_base.specs.Ran.{failed_so}
 use Rattle.record_command.specs.Watched.{with_ends}
 use Rattle.record_command.proofs.Sources.{zip_long}

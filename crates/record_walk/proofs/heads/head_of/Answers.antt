@@ -1,7 +1,8 @@
 use Rattle.std.proofs.Common.{◌≡◌, ℕ, ap, sym, ◌∙◌}
 use Rattle.mcap_wire.proofs.Fields.{number_there}
 use Rattle.record_walk.specs.declared.heads.MessageHead.{MessageHead}
-use Rattle.record_walk.specs.Heads.{channel_id_in, time_in}
+use Rattle.record_walk.specs.Heads.{channel_id_in}
+use Rattle.record_walk.specs.HeadTimes.{time_in}
 use Rattle.record_walk.proofs.Listed.{headed}
 use Rattle.record_walk.proofs.heads.head_of.Goals as goal
 

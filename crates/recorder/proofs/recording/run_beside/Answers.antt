@@ -1,6 +1,6 @@
 use Rattle.std.proofs.Common.{map, sym, subst}
 use Rattle.mcap_model.specs.Places.{Each}
-use Rattle.feed_lane.specs.Feeds.{ListsMessages}
+use Rattle.feed_lane.specs.Steps.{ListsMessages}
 use Rattle.recorder.specs.Writing.{seen_tape}
 use Rattle.recorder.specs.Onto.{tape_sides, RecordedOnto}
 use Rattle.recorder.specs.declared.report.Report.{Report}

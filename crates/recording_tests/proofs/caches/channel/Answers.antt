@@ -6,7 +6,7 @@ use Rattle.rec_data.specs.declared.owned.Rec.TheVariants.{Channel}
 use Rattle.rec_data.specs.Owned.{rec_bytes}
 use Rattle.rec_data.specs.Records.{channel_text}
 use Rattle.rec_data.proofs.OwnedLengths.{length-channel_text}
-use Rattle.record_cache.specs.Buffers.{IsKept}
+use Rattle.record_cache.specs.KeptRecords.{IsKept}
 use Rattle.recording_tests.proofs.caches.channel.Goals as goal
 
 topic : IsUtf8 (47 ∷ 97 ∷ [])

@@ -4,7 +4,7 @@ use Rattle.std.proofs.lemmas.List.{take_all}
 use Rattle.mcap_model.specs.Tops.{Top}
 use Rattle.mcap_model.specs.Made.{top}
 use Rattle.mcap_model.proofs.OneMore.{taken_more}
-use Rattle.summary_read.specs.Parts.{cut_tops}
+use Rattle.summary_read.specs.PartSteps.{cut_tops}
 use Rattle.summary_check.specs.Declaring.{AreChannelIds}
 use Rattle.summary_check.proofs.Onward.{length-tops}
 use Rattle.summary_check.proofs.channels.channels_of.Goals as goal

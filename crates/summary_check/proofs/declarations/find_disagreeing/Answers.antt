@@ -6,7 +6,7 @@ use Rattle.mcap_model.specs.Rules.{V7}
 use Rattle.mcap_model.specs.Declarations.{TablesOf}
 use Rattle.mcap_model.specs.Made.{top}
 use Rattle.mcap_model.proofs.OneMore.{taken_more}
-use Rattle.summary_read.specs.Parts.{cut_tops}
+use Rattle.summary_read.specs.PartSteps.{cut_tops}
 use Rattle.summary_check.specs.Declaring.{DeclarationTaken}
 use Rattle.summary_check.proofs.Onward.{tops_within, length-tops, onward}
 use Rattle.summary_check.proofs.declarations.find_disagreeing.Goals as goal

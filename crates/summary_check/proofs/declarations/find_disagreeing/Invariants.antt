@@ -4,7 +4,7 @@ use Rattle.mcap_model.specs.Places.{At, Each}
 use Rattle.mcap_model.specs.Tops.{Top, flat}
 use Rattle.mcap_model.specs.Rules.{V7}
 use Rattle.mcap_model.specs.Declarations.{TablesOf}
-use Rattle.summary_read.specs.Parts.{cut_tops}
+use Rattle.summary_read.specs.PartSteps.{cut_tops}
 use Rattle.summary_read.specs.Steps.{Judged}
 use Rattle.summary_check.proofs.declarations.find_disagreeing.Given as goal
 

@@ -1,6 +1,6 @@
 use Rattle.std.proofs.Common.{length, sym, subst}
 use Rattle.mcap_model.specs.Plain.{cut_top}
-use Rattle.summary_read.specs.Parts.{cut_tops}
+use Rattle.summary_read.specs.PartSteps.{cut_tops}
 use Rattle.summary_check.specs.Files.{spelled_file, FailsThere}
 use Rattle.mcap_model.specs.Whole.{V15}
 use Rattle.summary_check.specs.Body.{RuleJudged}

@@ -1,6 +1,6 @@
 use Rattle.std.proofs.Common.{sym, subst}
 use Rattle.mcap_model.specs.Plain.{cut_top}
-use Rattle.summary_read.specs.Parts.{cut_tops}
+use Rattle.summary_read.specs.PartSteps.{cut_tops}
 use Rattle.summary_check.specs.Files.{spelled_file, FailsThere}
 use Rattle.summary_check.specs.Body.{OrderJudged}
 use Rattle.summary_check.proofs.Failing.{order_flaw}

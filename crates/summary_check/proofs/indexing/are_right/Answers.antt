@@ -2,7 +2,7 @@ use Rattle.std.proofs.Common.{ℕ, false, refl, arith}
 use Rattle.std.proofs.lemmas.Bool.{both_ways}
 use Rattle.mcap_model.specs.Tops.{Top}
 use Rattle.mcap_model.specs.Made.{top}
-use Rattle.summary_read.specs.Parts.{cut_tops}
+use Rattle.summary_read.specs.PartSteps.{cut_tops}
 use Rattle.summary_check.specs.FullIndex.{EmptyRight}
 use Rattle.summary_check.proofs.Onward.{tops_within, onward}
 use Rattle.summary_check.proofs.indexing.are_right.Goals as goal

@@ -3,7 +3,7 @@ use Rattle.mcap_model.specs.Places.{At}
 use Rattle.mcap_model.specs.Tops.{Top}
 use Rattle.mcap_model.specs.Whole.{V12}
 use Rattle.index_check.specs.Chunks.{ChunksOf}
-use Rattle.summary_read.specs.Parts.{cut_tops}
+use Rattle.summary_read.specs.PartSteps.{cut_tops}
 use Rattle.summary_check.specs.FullIndex.{EmptyRight}
 use Rattle.summary_check.proofs.indexing.are_right.Given as goal
 

@@ -2,7 +2,7 @@ use Rattle.std.proofs.Common.{List, [], length, subst}
 use Rattle.mcap_model.specs.Tops.{Top}
 use Rattle.index_check.specs.Tally.{TallyOf}
 use Rattle.mcap_model.specs.Plain.{cut_top}
-use Rattle.summary_read.specs.Parts.{cut_tops}
+use Rattle.summary_read.specs.PartSteps.{cut_tops}
 use Rattle.summary_check.specs.Filed.{records_of}
 use Rattle.summary_check.proofs.Filing.{body_inside, filed_of, section_is, sectioned_ended, sectioned_kinds}
 use Rattle.summary_check.proofs.Laying.{body_there}

@@ -1,6 +1,6 @@
 use Rattle.std.proofs.Common.{List, [], ◌∷◌, ◌++◌, sym, subst, ◌∙◌}
 use Rattle.mcap_wire.specs.declared.faults.Cut.{Cut}
-use Rattle.summary_read.specs.Parts.{AreInside}
+use Rattle.summary_read.specs.PartSteps.{AreInside}
 use Rattle.summary_check.specs.Cutting.{AreCutBehind}
 use Rattle.summary_check.specs.Judging.{KnownOf}
 use Rattle.summary_check.proofs.Filing.{body_inside, sectioned_ended, sectioned_short}

@@ -1,7 +1,7 @@
 use Rattle.std.proofs.Common.{ℕ, None, arith}
 use Rattle.mcap_model.specs.Tops.{Top}
 use Rattle.mcap_model.specs.Made.{top}
-use Rattle.summary_read.specs.Parts.{cut_tops}
+use Rattle.summary_read.specs.PartSteps.{cut_tops}
 use Rattle.summary_read.specs.Steps.{Judged}
 use Rattle.summary_check.proofs.Onward.{tops_within, onward}
 use Rattle.summary_check.proofs.kinds.find_broken.Goals as goal

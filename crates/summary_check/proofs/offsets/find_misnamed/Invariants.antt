@@ -2,7 +2,7 @@ use Rattle.std.proofs.Common.{◌+◌, ◌<◌, ℕ, List, length}
 use Rattle.mcap_model.specs.Places.{At}
 use Rattle.mcap_model.specs.Tops.{Top}
 use Rattle.mcap_model.specs.Whole.{V15}
-use Rattle.summary_read.specs.Parts.{cut_tops}
+use Rattle.summary_read.specs.PartSteps.{cut_tops}
 use Rattle.summary_check.specs.Laid.{all_of, Laid}
 use Rattle.summary_check.specs.Offsets.{AreNamedOpcodes}
 use Rattle.summary_check.proofs.offsets.find_misnamed.Given as goal

@@ -2,7 +2,7 @@ use Rattle.std.proofs.Common.{ℕ, List, true, sym, subst}
 use Rattle.std.proofs.lemmas.Bool.{both_ways}
 use Rattle.mcap_model.specs.Made.{top}
 use Rattle.mcap_model.specs.Fields.{IsSummaryOffset}
-use Rattle.summary_read.specs.Parts.{cut_tops}
+use Rattle.summary_read.specs.PartSteps.{cut_tops}
 use Rattle.summary_check.specs.Laid.{all_of}
 use Rattle.summary_check.specs.Offsets.{OffsetTaken}
 use Rattle.summary_check.proofs.Naming.{other_named, group_named, again_named}

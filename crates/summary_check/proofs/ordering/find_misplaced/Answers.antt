@@ -2,7 +2,7 @@ use Rattle.std.proofs.Common.{List, sym, subst, arith}
 use Rattle.std.specs.Prelude.{take}
 use Rattle.mcap_model.specs.Tops.{Top}
 use Rattle.mcap_model.proofs.OneMore.{taken_more}
-use Rattle.summary_read.specs.Parts.{cut_tops}
+use Rattle.summary_read.specs.PartSteps.{cut_tops}
 use Rattle.index_check.specs.Order.{OrderOf}
 use Rattle.summary_check.specs.Body.{known, KnownInPlace, OpTaken}
 use Rattle.summary_check.proofs.Onward.{tops_within, onward}

@@ -2,7 +2,7 @@ use Rattle.std.proofs.Common.{◌<◌, ℕ, List}
 use Rattle.std.specs.Prelude.{take}
 use Rattle.mcap_model.specs.Places.{At}
 use Rattle.mcap_model.specs.Tops.{Top}
-use Rattle.summary_read.specs.Parts.{cut_tops}
+use Rattle.summary_read.specs.PartSteps.{cut_tops}
 use Rattle.index_check.specs.Order.{OrderOf}
 use Rattle.summary_check.specs.Body.{known, KnownInPlace}
 use Rattle.summary_check.proofs.ordering.find_misplaced.Given as goal

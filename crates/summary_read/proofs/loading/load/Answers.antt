@@ -1,5 +1,5 @@
 use Rattle.std.proofs.Common.{Global, sym, subst, ◌∙◌, arith}
-use Rattle.summary_read.specs.Parts.{ListsParts}
+use Rattle.summary_read.specs.PartSteps.{ListsParts}
 use Rattle.summary_read.specs.Steps.{AreCut}
 use Rattle.summary_read.proofs.Composing.{part_is, refused_inside, loaded, asked_for}
 use Rattle.summary_read.proofs.loading.load.Goals as goal

@@ -1,10 +1,10 @@
 use Rattle.std.proofs.Common.{rules, ◌≡◌, List, [], ◌∷◌, length, map, refl, sym, ap, subst, ◌∙◌, append_assoc, append-nil, length-append, arith}
 use Rattle.std.specs.Prelude.{Result}
 use Rattle.std.specs.Vec.Iter.{into_iter_items}
-use Rattle.live_directory.specs.Writing.{at_most_one}
+use Rattle.live_directory.specs.Published.{at_most_one}
 use Rattle.watching.specs.Watching.{WatcherState}
 use Rattle.watched_recording.specs.declared.seats.Unviewed.{Unviewed}
-use Rattle.watched_recording.specs.Watched.{SeatsEnd}
+use Rattle.watched_recording.specs.WatchedSteps.{SeatsEnd}
 use Rattle.watched_recording.proofs.Seating.{ends_none, ends_more, one_at_most, nothing_left}
 use Rattle.watched_recording.proofs.seats.finish_seats.Goals as goal
 

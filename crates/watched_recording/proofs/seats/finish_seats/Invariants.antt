@@ -1,6 +1,6 @@
 use Rattle.std.proofs.Common.{◌≡◌, ◌+◌, ◌≤◌, ◌++◌, vec_len, length, map, vec_capacity}
 use Rattle.std.specs.Vec.Iter.{into_iter_items, into_iter_len}
-use Rattle.watched_recording.specs.Watched.{SeatsEnd}
+use Rattle.watched_recording.specs.WatchedSteps.{SeatsEnd}
 use Rattle.watched_recording.proofs.seats.finish_seats.Given as goal
 
 abbrev pub invariant-seats : goal.invariant-seats

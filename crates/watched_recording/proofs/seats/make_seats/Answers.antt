@@ -3,7 +3,7 @@ use Rattle.std.specs.Prelude.{Result}
 use Rattle.live_directory.specs.Reading.{unread}
 use Rattle.watching.specs.Watching.{WatcherState}
 use Rattle.watched_recording.specs.declared.seats.Unviewed.{Unviewed}
-use Rattle.watched_recording.specs.Watched.{SeatsMade}
+use Rattle.watched_recording.specs.WatchedSteps.{SeatsMade}
 use Rattle.watched_recording.proofs.Seating.{all_but_last, seats_more}
 use Rattle.watched_recording.proofs.seats.make_seats.Goals as goal
 

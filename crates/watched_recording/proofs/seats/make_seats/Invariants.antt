@@ -2,7 +2,7 @@ use Rattle.std.proofs.Common.{◌≡◌, ◌+◌, ◌++◌, vec_len, length, vec
 use Rattle.std.specs.List.{All}
 use Rattle.std.specs.Vec.Iter.{into_iter_items, into_iter_len}
 use Rattle.live_directory.specs.Reading.{unread}
-use Rattle.watched_recording.specs.Watched.{SeatsMade}
+use Rattle.watched_recording.specs.WatchedSteps.{SeatsMade}
 use Rattle.watched_recording.proofs.seats.make_seats.Given as goal
 
 abbrev pub invariant-sinks : goal.invariant-sinks

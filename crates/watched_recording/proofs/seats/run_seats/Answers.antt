@@ -4,7 +4,7 @@ use Rattle.mcap_model.proofs.Places.{at_within, at_read, at_one}
 use Rattle.feed_lane.specs.Lanes.{InStep}
 use Rattle.watching.specs.Watching.{WatcherState}
 use Rattle.watched_recording.specs.declared.seats.Unviewed.{Unviewed}
-use Rattle.watched_recording.specs.Watched.{SeatRuns}
+use Rattle.watched_recording.specs.WatchedSteps.{SeatRuns}
 use Rattle.watched_recording.proofs.Seating.{lent}
 use Rattle.watched_recording.proofs.seats.run_seats.Goals as goal
 

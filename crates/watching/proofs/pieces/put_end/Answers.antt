@@ -1,5 +1,6 @@
 use Rattle.std.proofs.Common.{List, ℕ, ◌++◌, ap}
-use Rattle.watching.specs.Text.{sealed_by, IsEndTextOf}
+use Rattle.watching.specs.Text.{sealed_by}
+use Rattle.watching.specs.WatcherSteps.{IsEndTextOf}
 use Rattle.watching.specs.Putting.{sink_and_view}
 use Rattle.watching.proofs.Replays.{all_replayed}
 use Rattle.watching.proofs.Steps.{piece_written, piece_refused}

@@ -1,5 +1,5 @@
 use Rattle.std.proofs.Common.{List, ℕ, length, subst, Ok, Err}
-use Rattle.watching.specs.Text.{IsFrontLineOf}
+use Rattle.watching.specs.WatcherSteps.{IsFrontLineOf}
 use Rattle.watching.specs.Putting.{sink_and_view, PutsBytes}
 use Rattle.watching.proofs.Replays.{front_piece}
 use Rattle.watching.proofs.Steps.{piece_written, piece_refused}

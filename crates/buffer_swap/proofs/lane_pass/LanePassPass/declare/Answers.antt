@@ -1,5 +1,6 @@
 use Rattle.std.proofs.Common.{sym, subst, refl, ◌∙◌, true≢false}
-use Rattle.feed_lane.specs.Pass.{PassState, DeclaredInto}
+use Rattle.feed_lane.specs.Pass.{PassState}
+use Rattle.feed_lane.specs.PassCalls.{DeclaredInto}
 use Rattle.buffer_swap.specs.Calls.{reasoned}
 use Rattle.buffer_swap.proofs.Fulls.{declared_unfull}
 use Rattle.buffer_swap.proofs.Naming.{names_if}

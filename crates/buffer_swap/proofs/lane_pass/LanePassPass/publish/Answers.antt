@@ -1,5 +1,6 @@
 use Rattle.std.proofs.Common.{sym, subst, refl, ◌∙◌, true≢false}
-use Rattle.feed_lane.specs.Pass.{PassState, PublishedBy}
+use Rattle.feed_lane.specs.Pass.{PassState}
+use Rattle.feed_lane.specs.PassCalls.{PublishedBy}
 use Rattle.buffer_swap.specs.Calls.{reasoned}
 use Rattle.buffer_swap.proofs.Fulls.{published_unfull}
 use Rattle.buffer_swap.proofs.Naming.{names_behind_message}

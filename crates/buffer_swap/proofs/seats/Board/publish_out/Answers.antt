@@ -1,7 +1,7 @@
 use Rattle.std.proofs.Common.{ap, sym, ◌∙◌, subst, ◌∷◌, []}
 use Rattle.std.specs.Prelude.{OnOk}
 use Rattle.record_core.specs.Desk.{DeskView, fields_of_message}
-use Rattle.feed_lane.specs.Pass.{message_record}
+use Rattle.feed_lane.specs.PassCalls.{message_record}
 use Rattle.buffer_swap.specs.Plays.{desk_out, MayCount}
 use Rattle.buffer_swap.proofs.Desks.{message_counts_if}
 use Rattle.buffer_swap.proofs.seats.Board.publish_out.Goals as goal

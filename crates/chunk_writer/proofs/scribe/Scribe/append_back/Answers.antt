@@ -1,7 +1,7 @@
 -- The back was appended, or refused.
 use Rattle.std.proofs.Common.{List, ℕ, subst, Err}
 use Rattle.mcap_io.specs.Outside.{Adds}
-use Rattle.chunk_writer.specs.Stops.{Added}
+use Rattle.chunk_writer.specs.StopSteps.{Added}
 use Rattle.chunk_writer.proofs.Stopping.{added_err}
 use Rattle.chunk_writer.proofs.Writing.{back_ends, back_not_appended, back_stopped}
 use Rattle.chunk_writer.proofs.scribe.Scribe.append_back.Goals as goal

@@ -1,7 +1,7 @@
 use Rattle.std.proofs.Common.{◌≡◌, ◌-◌, length}
 use Rattle.std.specs.Prelude.{All}
 use Rattle.mcap_model.specs.History.{history_bytes}
-use Rattle.record_cache.specs.Buffers.{IsKept}
+use Rattle.record_cache.specs.KeptRecords.{IsKept}
 use Rattle.live_entry.specs.Entries.{seen_before}
 use Rattle.chunk_writer.proofs.Taking.{Partway}
 use Rattle.chunk_writer.proofs.scribe.Scribe.put_each.Given as goal

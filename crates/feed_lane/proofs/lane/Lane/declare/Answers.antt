@@ -3,7 +3,8 @@ use Rattle.mcap_model.proofs.Places.{at_within}
 use Rattle.mcap_model.specs.Places.{At}
 use Rattle.record_core.specs.declared.answers.DeclareRefused.TheVariants as declaring
 use Rattle.feed_lane.specs.declared.report.Cause.TheVariants as causes
-use Rattle.feed_lane.specs.Pass.{for_size, with_reason}
+use Rattle.feed_lane.specs.Pass.{for_size}
+use Rattle.feed_lane.specs.PassCalls.{with_reason}
 use Rattle.feed_lane.specs.Lanes.{messages, IsChannelOf}
 use Rattle.feed_lane.specs.Kept.{LaneIds, KeptStands, no_schema}
 use Rattle.feed_lane.specs.Steps.{lists_of, LaneStands, ListsStand, ChannelFound}

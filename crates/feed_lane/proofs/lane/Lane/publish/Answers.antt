@@ -3,7 +3,7 @@ use Rattle.mcap_model.proofs.Places.{at_within}
 use Rattle.record_core.specs.declared.answers.Found.{Found}
 use Rattle.record_core.specs.declared.answers.NewMessage.{NewMessage}
 use Rattle.feed_lane.specs.declared.report.Accepted.{Accepted}
-use Rattle.feed_lane.specs.Pass.{Finds}
+use Rattle.feed_lane.specs.PassCalls.{Finds}
 use Rattle.feed_lane.specs.Lanes.{messages}
 use Rattle.feed_lane.specs.Steps.{lists_of, ListsStand, RefusalLeaves, publish_cause, fields_of}
 use Rattle.feed_lane.proofs.Accepting.{accepted_at, accepted_stands}

@@ -1,6 +1,6 @@
 use Rattle.std.proofs.Common.{◌∷◌, ◌++◌, [], sym, subst}
 use Rattle.std.proofs.lemmas.Bool.{both_ways, not-false}
-use Rattle.file_check.specs.LastChunk.{IndexFails}
+use Rattle.file_check.specs.CutFiles.{IndexFails}
 use Rattle.file_check.proofs.Answering.{not_true}
 use Rattle.file_check.proofs.Followed.{keeps_apart, keeps_closed, fails_closed}
 use Rattle.file_check.proofs.last_chunk.LastChunk.lacks_index.Goals as goal

@@ -2,7 +2,7 @@ use Rattle.std.proofs.Common.{◌∷◌, ◌++◌, refl, sym, ap, subst, ◌∙�
 use Rattle.std.proofs.lemmas.Bool.{both_ways}
 use Rattle.mcap_model.specs.Tops.{offset_behind}
 use Rattle.mcap_model.specs.Made.{top}
-use Rattle.file_check.specs.LastChunk.{IndexFails}
+use Rattle.file_check.specs.CutFiles.{IndexFails}
 use Rattle.file_check.proofs.Followed.{keeps_index, fails_index, ends_behind, open_index}
 use Rattle.file_check.proofs.last_chunk.LastChunk.take_index.Goals as goal
 

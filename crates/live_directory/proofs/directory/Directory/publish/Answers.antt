@@ -1,5 +1,5 @@
 use Rattle.std.proofs.Common.{rules, ◌++◌, ◌∙◌, sym, ap, subst, List, true}
-use Rattle.live_entry.specs.Following.{EntriesFollow}
+use Rattle.live_entry.specs.Entries.{EntriesFollow}
 use Rattle.live_directory.specs.declared.front.Added.{Added}
 use Rattle.live_directory.specs.Published.{entries_of, end_of}
 use Rattle.live_directory.specs.Writing.{DirectoryState, Publishes, Defers, seen_of}

@@ -1,8 +1,9 @@
 use Rattle.std.proofs.Common.{rules, ◌≡◌, ◌+◌, ◌==◌, None, List, [], ◌∷◌, ◌++◌, length, sym, ◌∙◌, ap, arith, length-append, subst}
 use Rattle.std.proofs.lemmas.Bool.Decides.{nat_tests}
 use Rattle.live_directory.specs.declared.front.Added.{Added}
-use Rattle.live_directory.specs.Published.{added_batch, end_of, entries_of, published_front}
-use Rattle.live_entry.specs.Following.{EntriesFollow}
+use Rattle.live_directory.specs.Published.{end_of, entries_of}
+use Rattle.live_directory.specs.Histories.{added_batch, published_front}
+use Rattle.live_entry.specs.Entries.{EntriesFollow}
 use Rattle.live_directory.proofs.Histories.{front_after, when_true}
 use Rattle.live_directory.proofs.Adding.{adds_moves}
 use Rattle.live_directory.proofs.note.Note.add.Goals as goal

@@ -1,5 +1,5 @@
 use Rattle.std.proofs.Common.{ap, sym, subst, length}
-use Rattle.live_directory.specs.Published.{IsHistory, published_front}
+use Rattle.live_directory.specs.Histories.{IsHistory, published_front}
 use Rattle.live_directory.proofs.Empty.{no_history}
 use Rattle.live_directory.proofs.note.Note.none.Goals as goal
 

@@ -1,6 +1,6 @@
 use Rattle.std.proofs.Common.{rules, ◌≡◌, ◌++◌, ◌∙◌, sym, ap, subst, List, append-nil, None}
 use Rattle.live_entry.specs.declared.entry.Entry.{Entry}
-use Rattle.live_entry.specs.Following.{EntriesFollow}
+use Rattle.live_entry.specs.Entries.{EntriesFollow}
 use Rattle.live_directory.specs.Published.{entries_of, end_of}
 use Rattle.live_directory.specs.Writing.{outbox_history}
 use Rattle.live_directory.proofs.Histories.{follow_whole, both_ways}

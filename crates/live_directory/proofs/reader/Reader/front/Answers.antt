@@ -1,5 +1,5 @@
 use Rattle.std.proofs.Common.{ap, sym, subst}
-use Rattle.live_directory.specs.Published.{AtLeast, published_front}
+use Rattle.live_directory.specs.Histories.{AtLeast, published_front}
 use Rattle.live_directory.proofs.Reading.{learns}
 use Rattle.live_directory.proofs.reader.Reader.front.Goals as goal
 

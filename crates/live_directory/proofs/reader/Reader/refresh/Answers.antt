@@ -1,6 +1,7 @@
 use Rattle.std.proofs.Common.{◌≡◌, Some, Ok, ◌∙◌, ap, sym, subst}
-use Rattle.live_directory.specs.Published.{AtLeast, published_front, IsHistory}
-use Rattle.live_directory.specs.Reading.{ReaderState, Tries}
+use Rattle.live_directory.specs.Histories.{AtLeast, published_front, IsHistory}
+use Rattle.live_directory.specs.Reading.{ReaderState}
+use Rattle.live_directory.specs.ReaderSteps.{Tries}
 use Rattle.live_directory.proofs.Histories.{front_grows}
 use Rattle.live_directory.proofs.reader.Reader.refresh.Goals as goal
 

@@ -2,7 +2,8 @@
 use Rattle.std.proofs.Common.{◌≡◌, map, Some, None, ap, ap₂, sym, subst}
 use Rattle.std.specs.Prelude.{is_ok}
 use Rattle.mcap_io.specs.declared.outside.ObjectKind.TheVariants as kinds
-use Rattle.mcap_io.specs.Outside.{Keeping, KeepsName, Notes}
+use Rattle.mcap_io.specs.Outside.{Keeping}
+use Rattle.mcap_io.specs.OutsideCalls.{KeepsName, Notes}
 use Rattle.mcap_io.specs.Standing.{standing, shown, shown_keeping}
 use Rattle.mcap_io.proofs.Noting.{keeps-written}
 use Rattle.mcap_io.proofs.memory_world.MemoryWorldWorld.keep_live.Goals as goal

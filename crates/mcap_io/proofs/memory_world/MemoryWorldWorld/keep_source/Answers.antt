@@ -2,7 +2,8 @@
 use Rattle.std.proofs.Common.{◌≡◌, ◌∙◌, map, Some, ap, ap₂, subst}
 use Rattle.std.specs.Prelude.{is_ok}
 use Rattle.mcap_io.specs.declared.outside.ObjectKind.TheVariants as kinds
-use Rattle.mcap_io.specs.Outside.{Keeping, Notes}
+use Rattle.mcap_io.specs.Outside.{Keeping}
+use Rattle.mcap_io.specs.OutsideCalls.{Notes}
 use Rattle.mcap_io.specs.Planned.{left_of}
 use Rattle.mcap_io.specs.Standing.{standing, shown, shown_keeping}
 use Rattle.mcap_io.proofs.Noting.{keeps-source}

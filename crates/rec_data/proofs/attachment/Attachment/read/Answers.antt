@@ -1,5 +1,6 @@
 use Rattle.std.proofs.Common.{rules, ◌≡◌, subst, inl, inr, Err}
-use Rattle.mcap_wire.specs.Reading.{NumberAt, NumberFails, ReadsNumber, TextAt, TextFails, ReadsText, BytesAt, BytesFail, ReadsBytes}
+use Rattle.mcap_wire.specs.Reading.{NumberFails, ReadsNumber, TextAt, TextFails, ReadsText, BytesAt, BytesFail, ReadsBytes}
+use Rattle.mcap_wire.specs.Layout.{NumberAt}
 use Rattle.rec_data.proofs.Contents.{attachment_none, attachment_read}
 use Rattle.rec_data.proofs.attachment.Attachment.read.Goals as goal
 

@@ -1,6 +1,7 @@
 use Rattle.std.proofs.Common.{rules, ◌≡◌, subst, inl, inr, Err, drop}
-use Rattle.mcap_wire.specs.Reading.{NumberAt, ReadsNumber, TextAt, TextFails, ReadsText}
-use Rattle.mcap_wire.specs.Maps.{PairsAt, PairsFail, ReadsPairs}
+use Rattle.mcap_wire.specs.Reading.{ReadsNumber, TextAt, TextFails, ReadsText}
+use Rattle.mcap_wire.specs.Layout.{NumberAt}
+use Rattle.mcap_wire.specs.MapReading.{PairsAt, PairsFail, ReadsPairs}
 use Rattle.mcap_wire.specs.Contents.{a_number, a_text, a_text_map}
 use Rattle.mcap_wire.proofs.Contents.{begins, begins_end}
 use Rattle.rec_data.proofs.MapContents.{channel_none}

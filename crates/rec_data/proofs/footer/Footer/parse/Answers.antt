@@ -1,5 +1,6 @@
 use Rattle.std.proofs.Common.{rules, subst}
-use Rattle.mcap_wire.specs.Reading.{NumberAt, ReadsNumber}
+use Rattle.mcap_wire.specs.Reading.{ReadsNumber}
+use Rattle.mcap_wire.specs.Layout.{NumberAt}
 use Rattle.mcap_wire.specs.declared.faults.Why.TheVariants.{BadLength}
 use Rattle.rec_data.proofs.Contents.{footer_none, footer_not_refused, footer_read}
 use Rattle.rec_data.proofs.footer.Footer.parse.Goals as goal

@@ -1,6 +1,7 @@
 use Rattle.std.proofs.Common.{rules, ◌≡◌, ◌-◌, length, take, drop, sym, subst, inl, inr, Err, arith}
 use Rattle.std.proofs.lemmas.List.{take_all, length-drop}
-use Rattle.mcap_wire.specs.Reading.{NumberAt, NumberFails, ReadsNumber}
+use Rattle.mcap_wire.specs.Reading.{NumberFails, ReadsNumber}
+use Rattle.mcap_wire.specs.Layout.{NumberAt}
 use Rattle.rec_data.proofs.Contents.{message_none, message_read}
 use Rattle.rec_data.proofs.message.Message.parse.Goals as goal
 

@@ -1,6 +1,6 @@
 use Rattle.std.proofs.Common.{rules, ◌≡◌, subst, inl, inr, Err, drop}
 use Rattle.mcap_wire.specs.Reading.{TextAt, ReadsText}
-use Rattle.mcap_wire.specs.Maps.{PairsAt, PairsFail, ReadsPairs}
+use Rattle.mcap_wire.specs.MapReading.{PairsAt, PairsFail, ReadsPairs}
 use Rattle.mcap_wire.specs.Contents.{a_text, a_text_map}
 use Rattle.mcap_wire.proofs.Contents.{begins, begins_end}
 use Rattle.rec_data.proofs.MapContents.{metadata_none}

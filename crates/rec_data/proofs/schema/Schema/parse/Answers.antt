@@ -1,5 +1,6 @@
 use Rattle.std.proofs.Common.{rules, ◌≡◌, subst, inl, inr, Err, drop}
-use Rattle.mcap_wire.specs.Reading.{NumberAt, ReadsNumber, TextAt, ReadsText, BytesAt, BytesFail, ReadsBytes}
+use Rattle.mcap_wire.specs.Reading.{ReadsNumber, TextAt, ReadsText, BytesAt, BytesFail, ReadsBytes}
+use Rattle.mcap_wire.specs.Layout.{NumberAt}
 use Rattle.mcap_wire.specs.Contents.{a_number, a_text, some_bytes}
 use Rattle.mcap_wire.proofs.Contents.{begins, begins_end}
 use Rattle.rec_data.proofs.Contents.{schema_none}

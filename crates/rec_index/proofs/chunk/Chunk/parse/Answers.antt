@@ -1,5 +1,6 @@
 use Rattle.std.proofs.Common.{rules, ◌≡◌, subst, inl, inr, Err, drop}
-use Rattle.mcap_wire.specs.Reading.{NumberAt, NumberFails, ReadsNumber, TextAt, TextFails, ReadsText, BytesAt, BytesFail, ReadsBytes}
+use Rattle.mcap_wire.specs.Reading.{NumberFails, ReadsNumber, TextAt, TextFails, ReadsText, BytesAt, BytesFail, ReadsBytes}
+use Rattle.mcap_wire.specs.Layout.{NumberAt}
 use Rattle.mcap_wire.specs.Contents.{a_number, a_text, some_bytes}
 use Rattle.mcap_wire.proofs.Contents.{begins, begins_end}
 use Rattle.rec_index.proofs.Contents.{chunk_none}

@@ -1,6 +1,7 @@
 use Rattle.std.proofs.Common.{rules, ◌≡◌, drop, subst, inl, inr, Err}
-use Rattle.mcap_wire.specs.Reading.{NumberAt, NumberFails, ReadsNumber, TextAt, TextFails, ReadsText}
-use Rattle.mcap_wire.specs.Arrays.{CountsAt, CountsFail, ReadsCounts}
+use Rattle.mcap_wire.specs.Reading.{NumberFails, ReadsNumber, TextAt, TextFails, ReadsText}
+use Rattle.mcap_wire.specs.Layout.{NumberAt}
+use Rattle.mcap_wire.specs.ArrayReading.{CountsAt, CountsFail, ReadsCounts}
 use Rattle.mcap_wire.specs.Contents.{a_number, a_text, a_count_map}
 use Rattle.mcap_wire.proofs.Contents.{begins, begins_end}
 use Rattle.rec_index.proofs.MapContents.{chunk_index_none}

@@ -1,6 +1,7 @@
 use Rattle.std.proofs.Common.{rules, ◌≡◌, subst, inl, inr, Err}
-use Rattle.mcap_wire.specs.Reading.{NumberAt, ReadsNumber}
-use Rattle.mcap_wire.specs.Arrays.{EntriesFail, ReadsEntries}
+use Rattle.mcap_wire.specs.Reading.{ReadsNumber}
+use Rattle.mcap_wire.specs.Layout.{NumberAt}
+use Rattle.mcap_wire.specs.ArrayReading.{EntriesFail, ReadsEntries}
 use Rattle.rec_index.proofs.MapContents.{message_index_none}
 use Rattle.rec_index.proofs.message_index.MessageIndex.parse.Goals as goal
 

@@ -1,5 +1,6 @@
 use Rattle.std.proofs.Common.{rules, subst, drop}
-use Rattle.mcap_wire.specs.Reading.{NumberAt, ReadsNumber, TextAt, ReadsText}
+use Rattle.mcap_wire.specs.Reading.{ReadsNumber, TextAt, ReadsText}
+use Rattle.mcap_wire.specs.Layout.{NumberAt}
 use Rattle.mcap_wire.specs.Contents.{a_number, a_text}
 use Rattle.mcap_wire.proofs.Contents.{begins, begins_end}
 use Rattle.rec_index.proofs.Contents.{metadata_index_none}

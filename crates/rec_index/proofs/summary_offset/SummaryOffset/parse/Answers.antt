@@ -1,5 +1,6 @@
 use Rattle.std.proofs.Common.{rules, subst, drop}
-use Rattle.mcap_wire.specs.Reading.{NumberAt, ReadsNumber}
+use Rattle.mcap_wire.specs.Reading.{ReadsNumber}
+use Rattle.mcap_wire.specs.Layout.{NumberAt}
 use Rattle.mcap_wire.specs.Contents.{a_number}
 use Rattle.mcap_wire.proofs.Contents.{begins, begins_end}
 use Rattle.rec_index.proofs.Contents.{summary_offset_none}

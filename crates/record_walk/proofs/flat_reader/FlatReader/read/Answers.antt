@@ -1,5 +1,6 @@
 use Rattle.std.proofs.Common.{◌≡◌, ◌++◌, List, ℕ, length, refl, sym, ap, subst, ◌∙◌, append-nil}
-use Rattle.mcap_model.specs.Tops.{Placed, walked}
+use Rattle.mcap_model.specs.Tops.{Placed}
+use Rattle.mcap_model.specs.WalkedRecords.{walked}
 use Rattle.mcap_model.specs.Made.{top}
 use Rattle.mcap_scan.specs.declared.reader.Reader.{Reader}
 use Rattle.mcap_scan.specs.Scanning.{Stands, StageStands, content_of}

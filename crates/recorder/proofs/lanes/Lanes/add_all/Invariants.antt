@@ -1,7 +1,7 @@
 use Rattle.std.proofs.Common.{◌≡◌, ◌++◌, length, map, vec_capacity}
 use Rattle.std.specs.Vec.Iter.{into_iter_items, into_iter_len}
 use Rattle.mcap_model.specs.Places.{Each}
-use Rattle.feed_lane.specs.Pass.{no_calls}
+use Rattle.feed_lane.specs.PassCalls.{no_calls}
 use Rattle.recorder.proofs.lanes.Lanes.add_all.Given as goal
 
 abbrev pub invariant-sources : goal.invariant-sources

@@ -5,7 +5,7 @@ use Rattle.mcap_model.specs.Places.{At}
 use Rattle.mcap_model.proofs.Flat.{at_mapped}
 use Rattle.mcap_model.proofs.Places.{at_read}
 use Rattle.mcap_model.specs.Plain.{cut_top}
-use Rattle.summary_read.specs.Parts.{IsSummaryCut, cut_tops}
+use Rattle.summary_read.specs.PartSteps.{IsSummaryCut, cut_tops}
 use Rattle.summary_read.proofs.loaded.Loaded.chunk_index_offset.Goals as goal
 
 held_within : (summary : List ℕ) (cuts : List Cut) (i : ℕ) → i < length (cut_tops summary cuts) → i < length cuts

@@ -1,5 +1,5 @@
 use Rattle.std.proofs.Common.{refl, ap, sym, subst, Some, ◌∙◌}
-use Rattle.summary_read.specs.Parts.{GivesStatistics}
+use Rattle.summary_read.specs.PartSteps.{GivesStatistics}
 use Rattle.summary_read.proofs.Holding.{slices_inside, found}
 use Rattle.summary_read.proofs.loaded.Loaded.statistics.Goals as goal
 

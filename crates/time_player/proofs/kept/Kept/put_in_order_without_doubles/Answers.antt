@@ -1,5 +1,6 @@
 use Rattle.std.proofs.Common.{◌≤◌, sym, subst, arith}
-use Rattle.time_player.specs.Keeping.{data_in, kept_in}
+use Rattle.time_player.specs.Keeping.{kept_in}
+use Rattle.time_player.specs.DataOfMessages.{data_in}
 use Rattle.time_player.proofs.Ordering.{ordered}
 use Rattle.time_player.proofs.Fewer.{ordered_data}
 use Rattle.time_player.proofs.kept.Kept.put_in_order_without_doubles.Goals as goal

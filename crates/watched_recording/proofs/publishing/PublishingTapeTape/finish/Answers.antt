@@ -1,7 +1,7 @@
 use Rattle.std.proofs.Common.{◌≡◌, ◌++◌, List, [], ◌∷◌, Option, Some, refl, sym, ap, subst, ◌∙◌, arith}
 use Rattle.std.proofs.lemmas.Option.{none-some}
 use Rattle.live_entry.specs.declared.entry.Entry.{Entry}
-use Rattle.live_entry.specs.Following.{EntriesFollow}
+use Rattle.live_entry.specs.Entries.{EntriesFollow}
 use Rattle.chunk_writer.specs.declared.scribe.Scribe.{Scribe}
 use Rattle.chunk_writer.specs.Tapes.{EndsFor, seen_store, EndsOn, MeetsLimit}
 use Rattle.chunk_writer.proofs.Taped.{meets, ends_for}

@@ -1,5 +1,5 @@
 use Rattle.std.proofs.Common.{ap, subst}
-use Rattle.live_directory.specs.Reading.{Learns}
+use Rattle.live_directory.specs.ReaderSteps.{Learns}
 use Rattle.watching.specs.Watching.{WatcherState}
 use Rattle.watching.proofs.Steps.{learnt}
 use Rattle.watching.proofs.watcher.Watcher.learn.Goals as goal

@@ -1,6 +1,7 @@
 use Rattle.std.proofs.Common.{◌≡◌, Some}
 use Rattle.watching.specs.declared.report.WatchEnd.{WatchEnd}
-use Rattle.watching.specs.Watching.{WatcherState, WatchedSince}
+use Rattle.watching.specs.Watching.{WatcherState}
+use Rattle.watching.specs.WatcherSteps.{WatchedSince}
 use Rattle.watching.proofs.watcher.Watcher.run.Given as goal
 
 abbrev pub invariant-looks : goal.invariant-looks

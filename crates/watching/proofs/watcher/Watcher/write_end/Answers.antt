@@ -1,5 +1,6 @@
 use Rattle.std.proofs.Common.{ap, subst, ◌∙◌, refl, Err}
-use Rattle.watching.specs.Text.{sealed_by, IsEndTextOf}
+use Rattle.watching.specs.Text.{sealed_by}
+use Rattle.watching.specs.WatcherSteps.{IsEndTextOf}
 use Rattle.watching.specs.Watching.{WatcherState}
 use Rattle.watching.specs.Putting.{sink_and_view, PutsAll, PutsPiece}
 use Rattle.watching.proofs.Steps.{end_written, end_refused}

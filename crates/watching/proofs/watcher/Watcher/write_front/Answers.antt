@@ -1,5 +1,5 @@
 use Rattle.std.proofs.Common.{ap, sym, subst, ◌∙◌, refl, length, ◌++◌, ◌∷◌, [], List, ℕ, Err}
-use Rattle.watching.specs.Text.{IsFrontLineOf}
+use Rattle.watching.specs.WatcherSteps.{IsFrontLineOf}
 use Rattle.watching.specs.Watching.{WatcherState}
 use Rattle.watching.specs.Putting.{sink_and_view, PutsAll, PutsPiece}
 use Rattle.watching.proofs.Steps.{front_written, front_refused}

@@ -1,0 +1,40 @@
+-- Histories as their writers and the laws of files speak of them.
+use Rattle.std.specs.Prelude.{◌≡◌, ℕ, suc, ◌+◌, List, [], ◌∷◌, ◌++◌, fold, Bool, true, false, filter, map}
+use Rattle.std.specs.List.{flat_map}
+use Rattle.rec_data.specs.declared.owned.Rec.{Rec}
+use Rattle.mcap_model.specs.Places.{At, Each, EachBehind}
+use Rattle.mcap_model.specs.Blocks.{Piece, block, no_cuts, cut_behind, last_piece, cuts, pieces_bytes}
+use Rattle.mcap_model.specs.declared.options.FileOptions.{FileOptions}
+use Rattle.mcap_model.specs.File.{front}
+use Rattle.mcap_model.specs.Tops.{Top, is_flat_kind}
+use Rattle.mcap_model.specs.History.{rec_top}
+use Rattle.mcap_model.specs.Rules.{Agrees}
+
+-- what is ripe stays ripe with further records, and no records aren't ripe
+pub record Ripens (ripe : List Rec → Bool) : Type 0 where
+  pub grows : (xs ys : List Rec) → ripe xs ≡ true → ripe (xs ++ ys) ≡ true
+  pub unripe : ripe [] ≡ false
+
+-- A history is cut behind the record that makes a block ripe, and at its end: each block but the last is ripe, and none
+-- is without its last record.
+pub record AreBlocks (ripe : List Rec → Bool) (history : List Rec) (blocks : List (List Rec)) : Type 0 where
+  pub joined : flat_map (λ block. block) blocks ≡ history
+  pub some : Each (λ block. block ≡ [] → ⊥) blocks
+  pub ripe_before : (n : ℕ) (block next : List Rec) → At blocks n block → At blocks (suc n) next → ripe block ≡ true
+  pub no_sooner : (n : ℕ) (start : List Rec) (r : Rec) → At blocks n (start ++ r ∷ []) → ripe start ≡ false
+
+-- the pieces where blocks end as soon as they are ripe
+abbrev pub pieces_by : (List Rec → Bool) → List Rec → List Piece
+pieces_by ripe history = let c = fold (cut_behind ripe) no_cuts history in c.pieces ++ last_piece c.waiting
+
+-- what stands in the file of each history that begins with this one
+abbrev pub written_of : FileOptions → List Rec → List ℕ
+written_of options history = front options.profile ++ pieces_bytes (cuts options.chunk history).pieces
+
+-- its Schemas, Channels and Messages, as they stand in a file
+abbrev pub flat_history : List Rec → List Top
+flat_history history = filter is_flat_kind (map rec_top history)
+
+-- the ids of a history's records agree as those of a file's do
+abbrev pub IdsAgree : List Rec → Type 0
+IdsAgree history = EachBehind Agrees (flat_history history)
