@@ -4,12 +4,10 @@ use Rattle.std.specs.Option.{option_map}
 use Rattle.mcap_io.specs.declared.outside.Failed.{Failed}
 use Rattle.mcap_io.specs.declared.outside.ObjectKind.{ObjectKind}
 use Rattle.mcap_io.specs.declared.outside.ObjectKind.TheVariants as kinds
-use Rattle.mcap_io.specs.declared.outside.OpenRefused.{OpenRefused}
-use Rattle.mcap_io.specs.declared.outside.OpenRefused.TheVariants as open_refusals
+use Rattle.mcap_io.specs.declared.outside.OutsideRefused.{OutsideRefused}
+use Rattle.mcap_io.specs.declared.outside.OutsideRefused.TheVariants as outside_refusals
 use Rattle.mcap_io.specs.declared.outside.AppendRefused.{AppendRefused}
 use Rattle.mcap_io.specs.declared.outside.AppendRefused.TheVariants as append_refusals
-use Rattle.mcap_io.specs.declared.outside.ReadRefused.{ReadRefused}
-use Rattle.mcap_io.specs.declared.outside.ReadRefused.TheVariants as read_refusals
 use Rattle.mcap_io.specs.declared.outside.Short.{Short}
 use Rattle.mcap_io.specs.Outside.{SourceState, SinkState, LiveState, Names, Keeping, Opening, Told, WorldState, added, RisesOnce, Adds, AddsPart, opened, taken_back}
 
@@ -22,20 +20,20 @@ pub record HasCause {T : Type 0} (before now : ℕ) (result : Result T Failed) :
   pub failed : OnErr result (RisesOnce before now)
 
 -- the same of an opening, of an append and of the reading of a stretch: want of memory leaves the count as it was
-abbrev pub OpenCause : {T : Type 0} → ℕ → ℕ → Result T OpenRefused → Type 0
+abbrev pub OpenCause : {T : Type 0} → ℕ → ℕ → Result T OutsideRefused → Type 0
 OpenCause before now (Ok it) = now ≡ before
-OpenCause before now (Err open_refusals.Failed) = RisesOnce before now
-OpenCause before now (Err open_refusals.Memory) = now ≡ before
+OpenCause before now (Err outside_refusals.Failed) = RisesOnce before now
+OpenCause before now (Err outside_refusals.Memory) = now ≡ before
 
 abbrev pub AppendCause : {T : Type 0} → ℕ → ℕ → Result T AppendRefused → Type 0
 AppendCause before now (Ok it) = now ≡ before
 AppendCause before now (Err (append_refusals.Failed taken)) = RisesOnce before now
 AppendCause before now (Err append_refusals.Memory) = now ≡ before
 
-abbrev pub ReadCause : {T : Type 0} → ℕ → ℕ → Result T ReadRefused → Type 0
+abbrev pub ReadCause : {T : Type 0} → ℕ → ℕ → Result T OutsideRefused → Type 0
 ReadCause before now (Ok it) = now ≡ before
-ReadCause before now (Err read_refusals.Failed) = RisesOnce before now
-ReadCause before now (Err read_refusals.Memory) = now ≡ before
+ReadCause before now (Err outside_refusals.Failed) = RisesOnce before now
+ReadCause before now (Err outside_refusals.Memory) = now ≡ before
 
 -- ---- sources
 
@@ -56,7 +54,7 @@ pub record TakesFront (rest : List ℕ) (left : Option (List ℕ)) (len : ℕ) (
   pub after : left ≡ Some (drop len rest)
 
 -- or a first part of it was lost, in a failure or where memory lacked for the rest
-abbrev pub StretchTaken : Option (List ℕ) → Option (List ℕ) → ℕ → List ℕ → Result Unit ReadRefused → Type 0
+abbrev pub StretchTaken : Option (List ℕ) → Option (List ℕ) → ℕ → List ℕ → Result Unit OutsideRefused → Type 0
 StretchTaken old new len got (Ok it) = (rest : List ℕ) → old ≡ Some rest → TakesFront rest new len got
 StretchTaken old new len got (Err why) = (rest : List ℕ) → old ≡ Some rest → (n : ℕ) × (n < len) × (new ≡ Some (drop n rest))
 
@@ -84,10 +82,10 @@ abbrev pub with_opening : Told → Opening → Told
 with_opening told entry = record { names = told.names; log = told.log ++ entry ∷ [] }
 
 -- an opening is listed, unless memory lacked for it; the names hold what they held
-abbrev pub Opens : {T : Type 0} → WorldState → WorldState → ObjectKind → List ℕ → Result T OpenRefused → Type 0
+abbrev pub Opens : {T : Type 0} → WorldState → WorldState → ObjectKind → List ℕ → Result T OutsideRefused → Type 0
 Opens old new kind name (Ok it) = new.told ≡ option_map (λ told. with_opening told (opened kind name true)) old.told
-Opens old new kind name (Err open_refusals.Failed) = new.told ≡ option_map (λ told. with_opening told (opened kind name false)) old.told
-Opens old new kind name (Err open_refusals.Memory) = new.told ≡ old.told
+Opens old new kind name (Err outside_refusals.Failed) = new.told ≡ option_map (λ told. with_opening told (opened kind name false)) old.told
+Opens old new kind name (Err outside_refusals.Memory) = new.told ≡ old.told
 
 -- an opening leaves the counts of what was taken back
 pub record CountsStand (old new : WorldState) : Type 0 where

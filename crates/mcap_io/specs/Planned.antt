@@ -6,8 +6,8 @@ use Rattle.mcap_io.specs.declared.outside.AppendRefused.{AppendRefused}
 use Rattle.mcap_io.specs.declared.outside.AppendRefused.TheVariants as append_refusals
 use Rattle.mcap_io.specs.declared.outside.EachRefused.{EachRefused}
 use Rattle.mcap_io.specs.declared.outside.Failed.{Failed}
-use Rattle.mcap_io.specs.declared.outside.OpenRefused.{OpenRefused}
-use Rattle.mcap_io.specs.declared.outside.OpenRefused.TheVariants as open_refusals
+use Rattle.mcap_io.specs.declared.outside.OutsideRefused.{OutsideRefused}
+use Rattle.mcap_io.specs.declared.outside.OutsideRefused.TheVariants as outside_refusals
 use Rattle.mcap_io.specs.Appending.{BeginsAt}
 
 -- what is left of the bytes behind the first so many
@@ -59,7 +59,7 @@ EachAsPlanned failing call next pieces (Err refused) = FailsAsPlanned failing ca
 
 -- an opening that is to fail doesn't go well, and one fails only where it is to or where the name isn't there; memory
 -- may lack at any
-abbrev pub OpensAsPlanned : {T : Type 0} → Type 0 → Type 0 → Result T OpenRefused → Type 0
+abbrev pub OpensAsPlanned : {T : Type 0} → Type 0 → Type 0 → Result T OutsideRefused → Type 0
 OpensAsPlanned planned absent (Ok it) = planned → ⊥
-OpensAsPlanned planned absent (Err open_refusals.Failed) = planned ⊎ absent
-OpensAsPlanned planned absent (Err open_refusals.Memory) = Unit {0}
+OpensAsPlanned planned absent (Err outside_refusals.Failed) = planned ⊎ absent
+OpensAsPlanned planned absent (Err outside_refusals.Memory) = Unit {0}

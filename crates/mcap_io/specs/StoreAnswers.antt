@@ -1,8 +1,8 @@
 -- What the calls on a store do to what is seen of it.
 use Rattle.std.specs.Prelude.{◌≡◌, ℕ, ◌+◌, ◌-◌, ◌^◌, ◌≤◌, min, max, List, length, take, drop, Option, Some, None, Result, Ok, Err, IsErrOf, Vec, vec_len}
 use Rattle.mcap_io.specs.declared.outside.Failed.{Failed}
-use Rattle.mcap_io.specs.declared.outside.ReadRefused.{ReadRefused}
-use Rattle.mcap_io.specs.declared.outside.ReadRefused.TheVariants as read_refusals
+use Rattle.mcap_io.specs.declared.outside.OutsideRefused.{OutsideRefused}
+use Rattle.mcap_io.specs.declared.outside.OutsideRefused.TheVariants as outside_refusals
 use Rattle.mcap_io.specs.declared.outside.ObjectKind.TheVariants as kinds
 use Rattle.mcap_io.specs.OutsideCalls.{HasCause, ReadCause, Notes, went_well}
 use Rattle.mcap_io.specs.Outside.{Told, WorldState}
@@ -54,17 +54,17 @@ pub record ReadsPart (old new : StoreState) (at : ℕ) (out : List ℕ) (result 
   pub cause : HasCause old.faults new.faults result
 
 -- where the store tells, so many bytes are those that stand there
-abbrev pub IsPart : {Y : Type 0} → Option (List ℕ) → ℕ → ℕ → Result (Vec ℕ Y) ReadRefused → Type 0
+abbrev pub IsPart : {Y : Type 0} → Option (List ℕ) → ℕ → ℕ → Result (Vec ℕ Y) OutsideRefused → Type 0
 IsPart told at len (Ok part) = (vec_len part ≡ len) × ((bytes : List ℕ) → told ≡ Some bytes → part.items ≡ take len (drop at bytes))
 IsPart told at len (Err why) = Unit {0}
 
 -- so many bytes are read to a vector of their own; where memory lacks, none is asked for
-pub record TakesPart {Y : Type 0} (old new : StoreState) (at len : ℕ) (result : Result (Vec ℕ Y) ReadRefused) : Type 0 where
+pub record TakesPart {Y : Type 0} (old new : StoreState) (at len : ℕ) (result : Result (Vec ℕ Y) OutsideRefused) : Type 0 where
   pub gives : IsPart old.bytes at len result
   pub bytes : new.bytes ≡ old.bytes
   pub known : new.known ≡ old.known
   pub asked : new.asked ≤ old.asked + len
-  pub none : IsErrOf result read_refusals.Memory → new.asked ≡ old.asked
+  pub none : IsErrOf result outside_refusals.Memory → new.asked ≡ old.asked
   pub cause : ReadCause old.faults new.faults result
 
 -- where the world tells, it goes on telling: a store that is taken back is noted, and the names hold what they held

@@ -16,7 +16,7 @@ use crate::ahead::{ROOM, ReadAhead};
 use crate::gather::Gather;
 use crate::inputs::{FileId, holds, let_go};
 use crate::outside::{
-    AppendRefused, EachRefused, Extent, Failed, LiveStore, LiveView, OpenRefused, Short, Sink,
+    AppendRefused, EachRefused, Extent, Failed, LiveStore, LiveView, OutsideRefused, Short, Sink,
     Source, World,
 };
 use crate::pieces::{Pieces, refused_in};
@@ -445,7 +445,7 @@ where
 
     ghost state = { λ w. record { told = None; faults = w.faults; input_faults = w.input_faults; output_faults = w.output_faults; watch_faults = w.watch_faults } };
 
-    fn source(&mut self, name: &str) -> Result<FileSource<R::File>, OpenRefused>
+    fn source(&mut self, name: &str) -> Result<FileSource<R::File>, OutsideRefused>
         ensures unused { IfOk result (λ it. it.faults ≡ 0) }
         ensures input_faults { self.new.input_faults ≡ self.old.input_faults }
         ensures output_faults { self.new.output_faults ≡ self.old.output_faults }
@@ -455,22 +455,22 @@ where
         ensures rest { OnErr result (self.new.inputs.items ≡ self.old.inputs.items) }
     {
         let Ok(()) = self.inputs.reserve(1) else {
-            return Err(OpenRefused::Memory);
+            return Err(OutsideRefused::Memory);
         };
         let Ok((file, id)) = open_input(&self.runtime, name) else {
             self.faults = self.faults.saturating_add(1);
-            return Err(OpenRefused::Failed);
+            return Err(OutsideRefused::Failed);
         };
         match FileSource::new(self.runtime.alloc(), file, id) {
             Ok(source) => {
                 self.inputs.push(id).unwrap();
                 return Ok(source);
             }
-            Err(AllocError) => return Err(OpenRefused::Memory),
+            Err(AllocError) => return Err(OutsideRefused::Memory),
         }
     }
 
-    fn store(&mut self, name: &str) -> Result<FileStore<R::File>, OpenRefused>
+    fn store(&mut self, name: &str) -> Result<FileStore<R::File>, OutsideRefused>
         ensures unused { IfOk result (λ it. IsUnused (⟦<FileStore<R::File> as Store>⟧.state it)) }
         ensures input_faults { self.new.input_faults ≡ self.old.input_faults }
         ensures output_faults { self.new.output_faults ≡ self.old.output_faults }
@@ -480,29 +480,29 @@ where
         ensures rest { OnErr result (self.new.inputs.items ≡ self.old.inputs.items) }
     {
         let Ok(()) = self.inputs.reserve(1) else {
-            return Err(OpenRefused::Memory);
+            return Err(OutsideRefused::Memory);
         };
         let Ok((file, id)) = open_store(&self.runtime, name) else {
             self.faults = self.faults.saturating_add(1);
-            return Err(OpenRefused::Failed);
+            return Err(OutsideRefused::Failed);
         };
         self.inputs.push(id).unwrap();
         Ok(FileStore::new(self.runtime.alloc(), file, id))
     }
 
-    fn sink(&mut self, name: &str) -> Result<WriterSink<R::File>, OpenRefused> {
+    fn sink(&mut self, name: &str) -> Result<WriterSink<R::File>, OutsideRefused> {
         match open_output(&self.runtime, &self.inputs, name) {
             Ok(file) => return Ok(WriterSink::new(file)),
             Err(Failed) => {
                 self.faults = self.faults.saturating_add(1);
-                return Err(OpenRefused::Failed);
+                return Err(OutsideRefused::Failed);
             }
         }
     }
 
-    fn live(&mut self, name: &str) -> Result<FileLive<R::File>, OpenRefused> {
+    fn live(&mut self, name: &str) -> Result<FileLive<R::File>, OutsideRefused> {
         let Ok(room) = Vec::with_capacity(self.runtime.alloc(), ROOM) else {
-            return Err(OpenRefused::Memory);
+            return Err(OutsideRefused::Memory);
         };
         match open_output(&self.runtime, &self.inputs, name) {
             Ok(file) => {
@@ -511,7 +511,7 @@ where
             }
             Err(Failed) => {
                 self.faults = self.faults.saturating_add(1);
-                return Err(OpenRefused::Failed);
+                return Err(OutsideRefused::Failed);
             }
         }
     }

@@ -28,8 +28,8 @@ pub use memory::{
 pub use memory_world::{MemoryWorld, Plan};
 pub use openings::{Kept, Opened};
 pub use outside::{
-    AppendRefused, EachRefused, Extent, Failed, LiveStore, LiveView, ObjectKind, OpenRefused,
-    ReadRefused, Short, Sink, Source, World,
+    AppendRefused, EachRefused, Extent, Failed, LiveStore, LiveView, ObjectKind, OutsideRefused,
+    Short, Sink, Source, World,
 };
 pub use pieces::Pieces;
 pub use room::Room;

@@ -10,7 +10,9 @@ ghost use Rattle.mcap_io.specs.Standing.{standing, shown, seen};
 
 use crate::memory::{Calls, FailingWrite, MemoryLive, MemorySink, MemorySource, MemoryView};
 use crate::openings::{Kept, Opened, list, make_room, note};
-use crate::outside::{Failed, LiveStore, LiveView, ObjectKind, OpenRefused, Sink, Source, World};
+use crate::outside::{
+    Failed, LiveStore, LiveView, ObjectKind, OutsideRefused, Sink, Source, World,
+};
 use crate::store::Store;
 use crate::store_memory::MemoryStore;
 use std::alloc::{AllocError, Global};
@@ -104,7 +106,7 @@ impl MemoryWorld {
     }
 
     // A copy of what stands under the name, and one of the plan of reads.
-    fn copy_under(&mut self, name: &str, fails: bool) -> Result<(Vec<u8>, Vec<u64>), OpenRefused>
+    fn copy_under(&mut self, name: &str, fails: bool) -> Result<(Vec<u8>, Vec<u64>), OutsideRefused>
         ensures bytes { IfOk result (λ copies. standing self.old.entries name.now ≡ Some copies.0.items) }
         ensures reads { IfOk result (λ copies. copies.1.items ≡ self.old.reads.items) }
         ensures cause { OpenCause self.old.faults self.new.faults result }
@@ -113,23 +115,23 @@ impl MemoryWorld {
     {
         let Some(bytes) = self.entries.get(name) else {
             self.faults = self.faults.saturating_add(1);
-            return Err(OpenRefused::Failed);
+            return Err(OutsideRefused::Failed);
         };
         if fails {
             self.faults = self.faults.saturating_add(1);
-            return Err(OpenRefused::Failed);
+            return Err(OutsideRefused::Failed);
         }
         let Ok(copy) = Vec::from_slice(self.alloc, bytes) else {
-            return Err(OpenRefused::Memory);
+            return Err(OutsideRefused::Memory);
         };
         let Ok(reads) = Vec::from_slice(self.alloc, &self.reads) else {
-            return Err(OpenRefused::Memory);
+            return Err(OutsideRefused::Memory);
         };
         Ok((copy, reads))
     }
 
     // A source of a copy of what stands under the name, with a plan of its own.
-    fn open_source(&mut self, name: &str, fails: bool) -> Result<MemorySource, OpenRefused>
+    fn open_source(&mut self, name: &str, fails: bool) -> Result<MemorySource, OutsideRefused>
         ensures tells { IfOk result (λ it. Some (⟦<MemorySource as Source>⟧.state it).left ≡ option_map Some (standing self.old.entries name.now)) }
         ensures unused { IfOk result (λ it. ((⟦<MemorySource as Source>⟧.state it).faults ≡ 0) × (it.reads.failing.items ≡ self.old.reads.items) × (it.reads.made ≡ 0)) }
         ensures cause { OpenCause self.old.faults self.new.faults result }
@@ -143,7 +145,7 @@ impl MemoryWorld {
     }
 
     // A store of a copy of what stands under the name, with a plan of its own.
-    fn open_store(&mut self, name: &str, fails: bool) -> Result<MemoryStore, OpenRefused>
+    fn open_store(&mut self, name: &str, fails: bool) -> Result<MemoryStore, OutsideRefused>
         ensures tells { IfOk result (λ it. Some (⟦<MemoryStore as Store>⟧.state it).bytes ≡ option_map Some (standing self.old.entries name.now)) }
         ensures unused { IfOk result (λ it. IsUnused (⟦<MemoryStore as Store>⟧.state it) × (it.calls.failing.items ≡ self.old.reads.items) × (it.calls.made ≡ 0)) }
         ensures cause { OpenCause self.old.faults self.new.faults result }
@@ -157,7 +159,7 @@ impl MemoryWorld {
     }
 
     // An empty sink, with a plan of its own.
-    fn open_sink(&mut self, fails: bool) -> Result<MemorySink, OpenRefused>
+    fn open_sink(&mut self, fails: bool) -> Result<MemorySink, OutsideRefused>
         ensures tells { IfOk result (λ it. ⟦<MemorySink as Sink>⟧.state it ≡ record { took = Some []; faults = 0 }) }
         ensures unused { IfOk result (λ it. (it.writes.failing.items ≡ self.old.writes.items) × (it.writes.made ≡ 0)) }
         ensures cause { OpenCause self.old.faults self.new.faults result }
@@ -166,16 +168,16 @@ impl MemoryWorld {
     {
         if fails {
             self.faults = self.faults.saturating_add(1);
-            return Err(OpenRefused::Failed);
+            return Err(OutsideRefused::Failed);
         }
         let Ok(writes) = Vec::from_slice(self.alloc, &self.writes) else {
-            return Err(OpenRefused::Memory);
+            return Err(OutsideRefused::Memory);
         };
         Ok(MemorySink::new(self.alloc, writes))
     }
 
     // An empty live store, with a plan of its own.
-    fn open_live(&mut self, fails: bool) -> Result<MemoryLive, OpenRefused>
+    fn open_live(&mut self, fails: bool) -> Result<MemoryLive, OutsideRefused>
         ensures tells { IfOk result (λ it. ⟦<MemoryLive as LiveStore>⟧.state it ≡ record { held = Some []; faults = 0; waiting = 0 }) }
         ensures unused { IfOk result (λ it. (it.appends.failing.items ≡ self.old.appends.items) × (it.appends.made ≡ 0)) }
         ensures cause { OpenCause self.old.faults self.new.faults result }
@@ -184,10 +186,10 @@ impl MemoryWorld {
     {
         if fails {
             self.faults = self.faults.saturating_add(1);
-            return Err(OpenRefused::Failed);
+            return Err(OutsideRefused::Failed);
         }
         let Ok(appends) = Vec::from_slice(self.alloc, &self.appends) else {
-            return Err(OpenRefused::Memory);
+            return Err(OutsideRefused::Memory);
         };
         Ok(MemoryLive::new(self.alloc, appends))
     }
@@ -275,7 +277,7 @@ impl World for MemoryWorld {
 
     ghost state = { λ w. seen w };
 
-    fn source(&mut self, name: &str) -> Result<MemorySource, OpenRefused>
+    fn source(&mut self, name: &str) -> Result<MemorySource, OutsideRefused>
         ensures opens { Opens (seen self.old) (seen self.new) ObjectKind.Source name.now result }
         ensures tells { IfOk result (λ it. TellsName (seen self.old) name.now (⟦<MemorySource as Source>⟧.state it)) }
         ensures unused { IfOk result (λ it. (⟦<MemorySource as Source>⟧.state it).faults ≡ 0) }
@@ -287,22 +289,22 @@ impl World for MemoryWorld {
     {
         let fails = self.openings.next_fails();
         let Ok(copy) = make_room(self.alloc, &mut self.log, name) else {
-            return Err(OpenRefused::Memory);
+            return Err(OutsideRefused::Memory);
         };
         match self.open_source(name, fails) {
             Ok(source) => {
                 list(&mut self.log, ObjectKind::Source, copy, true);
                 return Ok(source);
             }
-            Err(OpenRefused::Failed) => {
+            Err(OutsideRefused::Failed) => {
                 list(&mut self.log, ObjectKind::Source, copy, false);
-                return Err(OpenRefused::Failed);
+                return Err(OutsideRefused::Failed);
             }
-            Err(OpenRefused::Memory) => return Err(OpenRefused::Memory),
+            Err(OutsideRefused::Memory) => return Err(OutsideRefused::Memory),
         }
     }
 
-    fn store(&mut self, name: &str) -> Result<MemoryStore, OpenRefused>
+    fn store(&mut self, name: &str) -> Result<MemoryStore, OutsideRefused>
         ensures opens { Opens (seen self.old) (seen self.new) ObjectKind.Store name.now result }
         ensures tells { IfOk result (λ it. TellsStore (seen self.old) name.now (⟦<MemoryStore as Store>⟧.state it)) }
         ensures unused { IfOk result (λ it. IsUnused (⟦<MemoryStore as Store>⟧.state it)) }
@@ -314,22 +316,22 @@ impl World for MemoryWorld {
     {
         let fails = self.openings.next_fails();
         let Ok(copy) = make_room(self.alloc, &mut self.log, name) else {
-            return Err(OpenRefused::Memory);
+            return Err(OutsideRefused::Memory);
         };
         match self.open_store(name, fails) {
             Ok(store) => {
                 list(&mut self.log, ObjectKind::Store, copy, true);
                 return Ok(store);
             }
-            Err(OpenRefused::Failed) => {
+            Err(OutsideRefused::Failed) => {
                 list(&mut self.log, ObjectKind::Store, copy, false);
-                return Err(OpenRefused::Failed);
+                return Err(OutsideRefused::Failed);
             }
-            Err(OpenRefused::Memory) => return Err(OpenRefused::Memory),
+            Err(OutsideRefused::Memory) => return Err(OutsideRefused::Memory),
         }
     }
 
-    fn sink(&mut self, name: &str) -> Result<MemorySink, OpenRefused>
+    fn sink(&mut self, name: &str) -> Result<MemorySink, OutsideRefused>
         ensures opens { Opens (seen self.old) (seen self.new) ObjectKind.Sink name.now result }
         ensures tells { IfOk result (λ it. TookNothingYet (seen self.old) (⟦<MemorySink as Sink>⟧.state it)) }
         ensures unused { IfOk result (λ it. (⟦<MemorySink as Sink>⟧.state it).faults ≡ 0) }
@@ -341,22 +343,22 @@ impl World for MemoryWorld {
     {
         let fails = self.openings.next_fails();
         let Ok(copy) = make_room(self.alloc, &mut self.log, name) else {
-            return Err(OpenRefused::Memory);
+            return Err(OutsideRefused::Memory);
         };
         match self.open_sink(fails) {
             Ok(sink) => {
                 list(&mut self.log, ObjectKind::Sink, copy, true);
                 return Ok(sink);
             }
-            Err(OpenRefused::Failed) => {
+            Err(OutsideRefused::Failed) => {
                 list(&mut self.log, ObjectKind::Sink, copy, false);
-                return Err(OpenRefused::Failed);
+                return Err(OutsideRefused::Failed);
             }
-            Err(OpenRefused::Memory) => return Err(OpenRefused::Memory),
+            Err(OutsideRefused::Memory) => return Err(OutsideRefused::Memory),
         }
     }
 
-    fn live(&mut self, name: &str) -> Result<MemoryLive, OpenRefused>
+    fn live(&mut self, name: &str) -> Result<MemoryLive, OutsideRefused>
         ensures opens { Opens (seen self.old) (seen self.new) ObjectKind.Live name.now result }
         ensures tells { IfOk result (λ it. TellsNothingYet (seen self.old) (⟦<MemoryLive as LiveStore>⟧.state it)) }
         ensures unused { IfOk result (λ it. (⟦<MemoryLive as LiveStore>⟧.state it).faults ≡ 0) }
@@ -368,18 +370,18 @@ impl World for MemoryWorld {
     {
         let fails = self.openings.next_fails();
         let Ok(copy) = make_room(self.alloc, &mut self.log, name) else {
-            return Err(OpenRefused::Memory);
+            return Err(OutsideRefused::Memory);
         };
         match self.open_live(fails) {
             Ok(live) => {
                 list(&mut self.log, ObjectKind::Live, copy, true);
                 return Ok(live);
             }
-            Err(OpenRefused::Failed) => {
+            Err(OutsideRefused::Failed) => {
                 list(&mut self.log, ObjectKind::Live, copy, false);
-                return Err(OpenRefused::Failed);
+                return Err(OutsideRefused::Failed);
             }
-            Err(OpenRefused::Memory) => return Err(OpenRefused::Memory),
+            Err(OutsideRefused::Memory) => return Err(OutsideRefused::Memory),
         }
     }
 

@@ -23,9 +23,9 @@ pub enum ObjectKind {
     Live,
 }
 
-/// Why an opening was refused.
+/// Why nothing was opened, or a stretch not read: the outside failed, or memory lacked.
 #[derive(Clone, Copy, PartialEq, Eq)]
-pub enum OpenRefused {
+pub enum OutsideRefused {
     Failed,
     Memory,
 }
@@ -43,13 +43,6 @@ pub enum AppendRefused {
 pub struct EachRefused {
     pub whole: u64,
     pub why: AppendRefused,
-}
-
-/// Why a stretch could not be read.
-#[derive(Clone, Copy, PartialEq, Eq)]
-pub enum ReadRefused {
-    Failed,
-    Memory,
 }
 
 /// A sink failed before it took all of a piece. At least the first `taken` bytes were taken.
@@ -213,7 +206,7 @@ pub trait World {
     ghost state: { Self → WorldState };
 
     /// Opens what stands under the name. A name that isn't there is a fault.
-    fn source(&mut self, name: &str) -> Result<Self::Source, OpenRefused>
+    fn source(&mut self, name: &str) -> Result<Self::Source, OutsideRefused>
         ensures opens { Opens (state self.old) (state self.new) ObjectKind.Source name.now result }
         ensures tells { IfOk result (λ it. TellsName (state self.old) name.now (Self.Source.state it)) }
         ensures unused { IfOk result (λ it. (Self.Source.state it).faults ≡ 0) }
@@ -221,7 +214,7 @@ pub trait World {
         ensures cause { OpenCause (state self.old).faults (state self.new).faults result };
 
     /// Opens what stands under the name, to be read at any place. A name that isn't there is a fault.
-    fn store(&mut self, name: &str) -> Result<Self::Store, OpenRefused>
+    fn store(&mut self, name: &str) -> Result<Self::Store, OutsideRefused>
         ensures opens { Opens (state self.old) (state self.new) ObjectKind.Store name.now result }
         ensures tells { IfOk result (λ it. TellsStore (state self.old) name.now (Self.Store.state it)) }
         ensures unused { IfOk result (λ it. IsUnused (Self.Store.state it)) }
@@ -229,7 +222,7 @@ pub trait World {
         ensures cause { OpenCause (state self.old).faults (state self.new).faults result };
 
     /// Makes an empty sink, whose bytes are to stand under the name.
-    fn sink(&mut self, name: &str) -> Result<Self::Sink, OpenRefused>
+    fn sink(&mut self, name: &str) -> Result<Self::Sink, OutsideRefused>
         ensures opens { Opens (state self.old) (state self.new) ObjectKind.Sink name.now result }
         ensures tells { IfOk result (λ it. TookNothingYet (state self.old) (Self.Sink.state it)) }
         ensures unused { IfOk result (λ it. (Self.Sink.state it).faults ≡ 0) }
@@ -237,7 +230,7 @@ pub trait World {
         ensures cause { OpenCause (state self.old).faults (state self.new).faults result };
 
     /// Makes an empty live store that is to stand under the name.
-    fn live(&mut self, name: &str) -> Result<Self::Live, OpenRefused>
+    fn live(&mut self, name: &str) -> Result<Self::Live, OutsideRefused>
         ensures opens { Opens (state self.old) (state self.new) ObjectKind.Live name.now result }
         ensures tells { IfOk result (λ it. TellsNothingYet (state self.old) (Self.Live.state it)) }
         ensures unused { IfOk result (λ it. (Self.Live.state it).faults ≡ 0) }

@@ -1,7 +1,7 @@
 //! A room that stretches are read into, one after the other.
 ghost use Rattle.std.specs.Prelude.{◌≡◌, ◌≤◌, vec_len};
 
-use crate::outside::{Failed, ReadRefused, Source};
+use crate::outside::{Failed, OutsideRefused, Source};
 use crate::stretch::{fill_front, read_up_to};
 use std::alloc::Global;
 
@@ -47,13 +47,13 @@ impl Room {
 
     // Reads until it holds `len` bytes or the input ends, where it has so many already.
     #[inline(always)]
-    fn read_over<S: Source>(&mut self, source: &mut S, len: usize) -> Result<(), ReadRefused>
+    fn read_over<S: Source>(&mut self, source: &mut S, len: usize) -> Result<(), OutsideRefused>
         requires { len ≤ vec_len self.old.bytes }
         ensures bound { length (held_in self.new) ≤ len }
         ensures taken { StretchTaken (S.state source.old).left (S.state source.new).left len (held_in self.new) result }
         ensures cause { ReadCause (S.state source.old).faults (S.state source.new).faults result }
         ensures refused { OnErr result (held_in self.new ≡ []) }
-        ensures failed { IfErr result (λ why. why ≡ ReadRefused.Failed) }
+        ensures failed { IfErr result (λ why. why ≡ OutsideRefused.Failed) }
         ensures stays { S.stays source.old source.new }
     {
         match fill_front(source, self.bytes.as_mut_slice(), len) {
@@ -63,19 +63,19 @@ impl Room {
             }
             Err(Failed) => {
                 self.held = 0;
-                return Err(ReadRefused::Failed);
+                return Err(OutsideRefused::Failed);
             }
         }
     }
 
     // Reads until it holds `len` bytes or the input ends, and makes room for them in steps.
     #[inline(never)]
-    fn read_on<S: Source>(&mut self, source: &mut S, len: u64) -> Result<(), ReadRefused>
+    fn read_on<S: Source>(&mut self, source: &mut S, len: u64) -> Result<(), OutsideRefused>
         ensures bound { length (held_in self.new) ≤ len }
         ensures taken { StretchTaken (S.state source.old).left (S.state source.new).left len (held_in self.new) result }
         ensures cause { ReadCause (S.state source.old).faults (S.state source.new).faults result }
         ensures refused { OnErr result (held_in self.new ≡ []) }
-        ensures unread { IsErrOf result ReadRefused.Memory → len ≤ 65536 → S.state source.new ≡ S.state source.old }
+        ensures unread { IsErrOf result OutsideRefused.Memory → len ≤ 65536 → S.state source.new ≡ S.state source.old }
         ensures stays { S.stays source.old source.new }
     {
         self.held = 0;
@@ -86,12 +86,12 @@ impl Room {
 
     /// Reads as the function `read_up_to` does, and holds what that leaves in its buffer.
     #[inline(always)]
-    pub fn read_up_to<S: Source>(&mut self, source: &mut S, len: u64) -> Result<(), ReadRefused>
+    pub fn read_up_to<S: Source>(&mut self, source: &mut S, len: u64) -> Result<(), OutsideRefused>
         ensures bound { length (held_in self.new) ≤ len }
         ensures taken { StretchTaken (S.state source.old).left (S.state source.new).left len (held_in self.new) result }
         ensures cause { ReadCause (S.state source.old).faults (S.state source.new).faults result }
         ensures refused { OnErr result (held_in self.new ≡ []) }
-        ensures unread { IsErrOf result ReadRefused.Memory → len ≤ 65536 → S.state source.new ≡ S.state source.old }
+        ensures unread { IsErrOf result OutsideRefused.Memory → len ≤ 65536 → S.state source.new ≡ S.state source.old }
         ensures stays { S.stays source.old source.new }
     {
         if len as usize <= self.bytes.len() {

@@ -3,7 +3,7 @@ ghost use Rattle.std.specs.Prelude.{◌≡◌, ◌≤◌, ◌<◌, ◌+◌, ◌-
 ghost use Rattle.mcap_io.specs.OutsideCalls.{HasCause, ReadCause, StretchTaken, WritesAll};
 ghost use Rattle.mcap_io.specs.Stretch.{Fills, FillsFront, FillsBehind};
 
-use crate::outside::{Failed, ReadRefused, Short, Sink, Source};
+use crate::outside::{Failed, OutsideRefused, Short, Sink, Source};
 
 /// How much room a stretch takes first, where its buffer has none.
 const FIRST_ROOM: usize = 65_536;
@@ -50,7 +50,7 @@ fn read_on<S: Source>(
     buffer: &mut Vec<u8>,
     filled: usize,
     room: usize,
-) -> Result<usize, ReadRefused>
+) -> Result<usize, OutsideRefused>
     requires within { filled ≤ vec_len buffer.old }
     requires some { filled < room }
     ensures bound { IfOk result (λ n. filled + n ≤ room) }
@@ -58,28 +58,32 @@ fn read_on<S: Source>(
     ensures front { IfOk result (λ n. take filled buffer.new.items ≡ take filled buffer.old.items) }
     ensures fills { FillsBehind (S.state source.old).left (S.state source.new).left (drop filled buffer.new.items) (room - filled) result }
     ensures cause { ReadCause (S.state source.old).faults (S.state source.new).faults result }
-    ensures unread { IsErrOf result ReadRefused.Memory → source.new ≡ source.old }
+    ensures unread { IsErrOf result OutsideRefused.Memory → source.new ≡ source.old }
     ensures stays { S.stays source.old source.new }
 {
     let more = room.saturating_sub(buffer.len());
     if buffer.reserve_exact(more).is_err() || buffer.resize(room, 0).is_err() {
-        return Err(ReadRefused::Memory);
+        return Err(OutsideRefused::Memory);
     }
     match fill(source, &mut buffer[filled..]) {
         Ok(n) => return Ok(n),
-        Err(Failed) => return Err(ReadRefused::Failed),
+        Err(Failed) => return Err(OutsideRefused::Failed),
     }
 }
 
 // Reads until the buffer holds `len` bytes or the input ends, where it is that long already.
 #[inline(always)]
-fn read_over<S: Source>(source: &mut S, buffer: &mut Vec<u8>, len: usize) -> Result<(), ReadRefused>
+fn read_over<S: Source>(
+    source: &mut S,
+    buffer: &mut Vec<u8>,
+    len: usize,
+) -> Result<(), OutsideRefused>
     requires { len ≤ vec_len buffer.old }
     ensures bound { vec_len buffer.new ≤ len }
     ensures taken { StretchTaken (S.state source.old).left (S.state source.new).left len buffer.new.items result }
     ensures cause { ReadCause (S.state source.old).faults (S.state source.new).faults result }
     ensures refused { OnErr result (buffer.new.items ≡ []) }
-    ensures failed { IfErr result (λ why. why ≡ ReadRefused.Failed) }
+    ensures failed { IfErr result (λ why. why ≡ OutsideRefused.Failed) }
     ensures stays { S.stays source.old source.new }
 {
     buffer.truncate(len);
@@ -90,7 +94,7 @@ fn read_over<S: Source>(source: &mut S, buffer: &mut Vec<u8>, len: usize) -> Res
         }
         Err(Failed) => {
             buffer.clear();
-            return Err(ReadRefused::Failed);
+            return Err(OutsideRefused::Failed);
         }
     }
 }
@@ -101,12 +105,12 @@ fn read_in_steps<S: Source>(
     source: &mut S,
     buffer: &mut Vec<u8>,
     len: usize,
-) -> Result<(), ReadRefused>
+) -> Result<(), OutsideRefused>
     ensures bound { vec_len buffer.new ≤ len }
     ensures taken { StretchTaken (S.state source.old).left (S.state source.new).left len buffer.new.items result }
     ensures cause { ReadCause (S.state source.old).faults (S.state source.new).faults result }
     ensures refused { OnErr result (buffer.new.items ≡ []) }
-    ensures unread { IsErrOf result ReadRefused.Memory → len ≤ 65536 → S.state source.new ≡ S.state source.old }
+    ensures unread { IsErrOf result OutsideRefused.Memory → len ≤ 65536 → S.state source.new ≡ S.state source.old }
     ensures stays { S.stays source.old source.new }
 {
     let mut filled = 0;
@@ -138,12 +142,12 @@ pub fn read_up_to<S: Source>(
     source: &mut S,
     buffer: &mut Vec<u8>,
     len: u64,
-) -> Result<(), ReadRefused>
+) -> Result<(), OutsideRefused>
     ensures bound { vec_len buffer.new ≤ len }
     ensures taken { StretchTaken (S.state source.old).left (S.state source.new).left len buffer.new.items result }
     ensures cause { ReadCause (S.state source.old).faults (S.state source.new).faults result }
     ensures refused { OnErr result (buffer.new.items ≡ []) }
-    ensures unread { IsErrOf result ReadRefused.Memory → len ≤ 65536 → S.state source.new ≡ S.state source.old }
+    ensures unread { IsErrOf result OutsideRefused.Memory → len ≤ 65536 → S.state source.new ≡ S.state source.old }
     ensures stays { S.stays source.old source.new }
 {
     let len = len as usize;

@@ -12,6 +12,9 @@ pub const CONTENT_LIMIT: u64 = 256 * 1024 * 1024;
 /// The longest file, in bytes: 1 TiB.
 pub const FILE_LIMIT: u64 = 1_099_511_627_776;
 
+/// The length of a record's head, in bytes: the opcode and the length of the content (MCAP specification, "Records").
+pub const HEAD_LENGTH: u64 = 9;
+
 /// Memory ran out.
 #[derive(Clone, Copy, Debug, PartialEq, Eq)]
 pub struct Memory;

@@ -2,11 +2,8 @@
 ghost use Rattle.std.specs.Prelude.{◌≤◌, length};
 ghost use Rattle.mcap_wire.specs.Reading.{ReadsHead, CutsAt};
 
-use crate::faults::{CONTENT_LIMIT, Cut, CutFault, Head, HeadFault};
+use crate::faults::{CONTENT_LIMIT, Cut, CutFault, HEAD_LENGTH, Head, HeadFault};
 use crate::reading::take_u64;
-
-/// The bytes of a record before its content: the opcode and the length.
-const HEAD_LENGTH: usize = 9;
 
 /// Reads the head of the record that stands at an offset. A fault is the first that holds of: the head of nine bytes isn't
 /// whole, the opcode is 0.
@@ -42,7 +39,7 @@ pub fn cut(bytes: &[u8], at: usize) -> Result<Cut, CutFault>
     if len > CONTENT_LIMIT {
         return Err(CutFault::TooLong { len });
     }
-    let from = (at + HEAD_LENGTH) as u64;
+    let from = at as u64 + HEAD_LENGTH;
     let to = from + len;
     if to > bytes.len() as u64 {
         return Err(CutFault::Short);

@@ -23,7 +23,8 @@ pub use arrays::{EntriesRef, add_entries, put_entries, take_entries};
 pub use blobs::Bytes;
 pub use counts::{CountsRef, add_counts, put_counts, take_counts};
 pub use faults::{
-    Bad, CONTENT_LIMIT, Cut, CutFault, FILE_LIMIT, Head, HeadFault, MAGIC, Memory, Why, at_field,
+    Bad, CONTENT_LIMIT, Cut, CutFault, FILE_LIMIT, HEAD_LENGTH, Head, HeadFault, MAGIC, Memory,
+    Why, at_field,
 };
 pub use heads::{cut, take_head};
 pub use maps::{add_pairs, put_pairs, take_pairs};

@@ -7,17 +7,6 @@ use Rattle.mcap_wire.specs.ContentReading.{Fails}
 use Rattle.rec_data.specs.Fields.{AttachmentFields, MetadataFields}
 use Rattle.rec_data.specs.Records.{header_kinds, footer_kinds, data_end_kinds, schema_kinds, channel_kinds, metadata_kinds, metadata_values, message_kinds, attachment_kinds, attachment_values, CrcStandsAt}
 
--- ---- the opcodes
-
-abbrev pub footer_opcode : ℕ
-footer_opcode = 2
-
-abbrev pub attachment_opcode : ℕ
-attachment_opcode = 9
-
-abbrev pub metadata_opcode : ℕ
-metadata_opcode = 12
-
 -- ---- Header
 
 -- the first of its fields that can't be read

@@ -9,6 +9,9 @@ use Rattle.rec_data.specs.Fields.{HeaderFields, FooterFields, SchemaFields, Chan
 abbrev pub header_opcode : ℕ
 header_opcode = 1
 
+abbrev pub footer_opcode : ℕ
+footer_opcode = 2
+
 abbrev pub schema_opcode : ℕ
 schema_opcode = 3
 
@@ -17,6 +20,12 @@ channel_opcode = 4
 
 abbrev pub message_opcode : ℕ
 message_opcode = 5
+
+abbrev pub attachment_opcode : ℕ
+attachment_opcode = 9
+
+abbrev pub metadata_opcode : ℕ
+metadata_opcode = 12
 
 abbrev pub data_end_opcode : ℕ
 data_end_opcode = 15

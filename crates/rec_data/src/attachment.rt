@@ -4,8 +4,8 @@ ghost use Rattle.mcap_wire.specs.Layout.{framed};
 ghost use Rattle.mcap_wire.specs.Writing.{LacksRoom};
 ghost use Rattle.rec_data.specs.Fields.{AttachmentFields};
 ghost use Rattle.rec_data.specs.Parsed.{attachment_fields};
-ghost use Rattle.rec_data.specs.Records.{ShowsAttachment, CrcStandsAt};
-ghost use Rattle.rec_data.specs.RecordReading.{attachment_opcode, attachment_text, AttachmentFails, HasCrcAt};
+ghost use Rattle.rec_data.specs.Records.{attachment_opcode, ShowsAttachment, CrcStandsAt};
+ghost use Rattle.rec_data.specs.RecordReading.{attachment_text, AttachmentFails, HasCrcAt};
 
 use crate::opcodes::ATTACHMENT;
 use mcap_wire::{

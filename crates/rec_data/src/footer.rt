@@ -4,8 +4,8 @@ ghost use Rattle.mcap_wire.specs.Layout.{framed};
 ghost use Rattle.mcap_wire.specs.Writing.{LacksRoom};
 ghost use Rattle.rec_data.specs.Fields.{FooterFields};
 ghost use Rattle.rec_data.specs.Parsed.{footer_fields};
-ghost use Rattle.rec_data.specs.Records.{footer_text, ShowsFooter};
-ghost use Rattle.rec_data.specs.RecordReading.{footer_opcode, FooterFails};
+ghost use Rattle.rec_data.specs.Records.{footer_opcode, footer_text, ShowsFooter};
+ghost use Rattle.rec_data.specs.RecordReading.{FooterFails};
 
 use crate::opcodes::FOOTER;
 use mcap_wire::{

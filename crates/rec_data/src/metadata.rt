@@ -5,8 +5,8 @@ ghost use Rattle.mcap_wire.specs.Maps.{pair_texts};
 ghost use Rattle.mcap_wire.specs.Writing.{LacksRoom};
 ghost use Rattle.rec_data.specs.Fields.{MetadataFields};
 ghost use Rattle.rec_data.specs.Parsed.{metadata_fields};
-ghost use Rattle.rec_data.specs.Records.{ShowsMetadata};
-ghost use Rattle.rec_data.specs.RecordReading.{metadata_opcode, metadata_text, MetadataFails};
+ghost use Rattle.rec_data.specs.Records.{metadata_opcode, ShowsMetadata};
+ghost use Rattle.rec_data.specs.RecordReading.{metadata_text, MetadataFails};
 
 use crate::opcodes::METADATA;
 use mcap_wire::{

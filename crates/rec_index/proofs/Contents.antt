@@ -8,8 +8,8 @@ use Rattle.mcap_wire.proofs.Framing.{head_and_content}
 use Rattle.mcap_wire.proofs.Contents.{not_refused, refused}
 use Rattle.mcap_wire.specs.declared.faults.Bad.{Bad}
 use Rattle.rec_index.specs.Fields.{SummaryOffsetFields, MetadataIndexFields, AttachmentIndexFields, ChunkFields}
-use Rattle.rec_index.specs.Records.{summary_offset_kinds, summary_offset_values, ShowsSummaryOffset, metadata_index_kinds, metadata_index_values, ShowsMetadataIndex, attachment_index_kinds, attachment_index_values, attachment_index_text, ShowsAttachmentIndex, chunk_kinds, chunk_values, chunk_text, ShowsChunk}
-use Rattle.rec_index.specs.RecordReading.{SummaryOffsetFails, MetadataIndexFails, AttachmentIndexFails, ChunkFails, attachment_index_opcode, chunk_opcode}
+use Rattle.rec_index.specs.Records.{summary_offset_kinds, summary_offset_values, ShowsSummaryOffset, metadata_index_kinds, metadata_index_values, ShowsMetadataIndex, attachment_index_kinds, attachment_index_values, attachment_index_text, ShowsAttachmentIndex, chunk_kinds, chunk_values, chunk_text, ShowsChunk, attachment_index_opcode, chunk_opcode}
+use Rattle.rec_index.specs.RecordReading.{SummaryOffsetFails, MetadataIndexFails, AttachmentIndexFails, ChunkFails}
 
 -- ---- Summary Offset
 

@@ -9,8 +9,8 @@ use Rattle.mcap_wire.proofs.Framing.{head_and_content}
 use Rattle.mcap_wire.proofs.Contents.{not_refused}
 use Rattle.mcap_wire.specs.declared.faults.Bad.{Bad}
 use Rattle.rec_index.specs.Fields.{ChunkIndexFields, StatisticsFields}
-use Rattle.rec_index.specs.Records.{message_index_kinds, message_index_values, ShowsMessageIndex, chunk_index_kinds, chunk_index_values, chunk_index_text, ShowsChunkIndex, statistics_kinds, statistics_values, statistics_text, ShowsStatistics}
-use Rattle.rec_index.specs.RecordReading.{MessageIndexFails, chunk_index_opcode, ChunkIndexFails, statistics_opcode, StatisticsFails}
+use Rattle.rec_index.specs.Records.{message_index_kinds, message_index_values, ShowsMessageIndex, chunk_index_opcode, chunk_index_kinds, chunk_index_values, chunk_index_text, ShowsChunkIndex, statistics_opcode, statistics_kinds, statistics_values, statistics_text, ShowsStatistics}
+use Rattle.rec_index.specs.RecordReading.{MessageIndexFails, ChunkIndexFails, StatisticsFails}
 use Rattle.mcap_wire.proofs.Contents.{refused}
 
 -- nine parts that are appended one by one

@@ -4,66 +4,29 @@ use Rattle.mcap_wire.specs.declared.faults.Why.{Why}
 use Rattle.mcap_wire.specs.ContentReading.{Fails}
 use Rattle.rec_index.specs.Records.{summary_offset_kinds, metadata_index_kinds, attachment_index_kinds, chunk_kinds, message_index_kinds, chunk_index_kinds, statistics_kinds}
 
--- ---- the opcodes
-
-abbrev pub chunk_opcode : ℕ
-chunk_opcode = 6
-
-abbrev pub message_index_opcode : ℕ
-message_index_opcode = 7
-
-abbrev pub chunk_index_opcode : ℕ
-chunk_index_opcode = 8
-
-abbrev pub attachment_index_opcode : ℕ
-attachment_index_opcode = 10
-
-abbrev pub statistics_opcode : ℕ
-statistics_opcode = 11
-
-abbrev pub metadata_index_opcode : ℕ
-metadata_index_opcode = 13
-
-abbrev pub summary_offset_opcode : ℕ
-summary_offset_opcode = 14
-
--- ---- Summary Offset
-
 -- the first of its fields that can't be read
 abbrev pub SummaryOffsetFails : List ℕ → ℕ → Why → Type 0
 SummaryOffsetFails content field why = Fails summary_offset_kinds content field why
-
--- ---- Metadata Index
 
 -- the first of its fields that can't be read
 abbrev pub MetadataIndexFails : List ℕ → ℕ → Why → Type 0
 MetadataIndexFails content field why = Fails metadata_index_kinds content field why
 
--- ---- Attachment Index
-
 -- the first of its fields that can't be read
 abbrev pub AttachmentIndexFails : List ℕ → ℕ → Why → Type 0
 AttachmentIndexFails content field why = Fails attachment_index_kinds content field why
-
--- ---- Chunk
 
 -- the first of its fields that can't be read
 abbrev pub ChunkFails : List ℕ → ℕ → Why → Type 0
 ChunkFails content field why = Fails chunk_kinds content field why
 
--- ---- Message Index
-
 -- the first of its fields that can't be read
 abbrev pub MessageIndexFails : List ℕ → ℕ → Why → Type 0
 MessageIndexFails content field why = Fails message_index_kinds content field why
 
--- ---- Chunk Index
-
 -- the first of its fields that can't be read
 abbrev pub ChunkIndexFails : List ℕ → ℕ → Why → Type 0
 ChunkIndexFails content field why = Fails chunk_index_kinds content field why
-
--- ---- Statistics
 
 -- the first of its fields that can't be read
 abbrev pub StatisticsFails : List ℕ → ℕ → Why → Type 0

@@ -3,6 +3,29 @@ use Rattle.std.specs.Prelude.{ℕ, List, [], ◌∷◌}
 use Rattle.mcap_wire.specs.Contents.{Kind, a_number, a_text, some_bytes, an_array, a_count_map, Values, row, ShowsRow}
 use Rattle.rec_index.specs.Fields.{ChunkFields, ChunkIndexFields, AttachmentIndexFields, MetadataIndexFields, StatisticsFields, SummaryOffsetFields}
 
+-- ---- the opcodes
+
+abbrev pub chunk_opcode : ℕ
+chunk_opcode = 6
+
+abbrev pub message_index_opcode : ℕ
+message_index_opcode = 7
+
+abbrev pub chunk_index_opcode : ℕ
+chunk_index_opcode = 8
+
+abbrev pub attachment_index_opcode : ℕ
+attachment_index_opcode = 10
+
+abbrev pub statistics_opcode : ℕ
+statistics_opcode = 11
+
+abbrev pub metadata_index_opcode : ℕ
+metadata_index_opcode = 13
+
+abbrev pub summary_offset_opcode : ℕ
+summary_offset_opcode = 14
+
 -- ---- Summary Offset
 
 abbrev pub summary_offset_kinds : List Kind

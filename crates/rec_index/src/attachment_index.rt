@@ -4,8 +4,8 @@ ghost use Rattle.mcap_wire.specs.Layout.{framed};
 ghost use Rattle.mcap_wire.specs.Writing.{LacksRoom};
 ghost use Rattle.rec_index.specs.Fields.{AttachmentIndexFields};
 ghost use Rattle.rec_index.specs.Parsed.{attachment_index_fields};
-ghost use Rattle.rec_index.specs.Records.{attachment_index_text, ShowsAttachmentIndex};
-ghost use Rattle.rec_index.specs.RecordReading.{attachment_index_opcode, AttachmentIndexFails};
+ghost use Rattle.rec_index.specs.Records.{attachment_index_opcode, attachment_index_text, ShowsAttachmentIndex};
+ghost use Rattle.rec_index.specs.RecordReading.{AttachmentIndexFails};
 
 use crate::opcodes::ATTACHMENT_INDEX;
 use mcap_wire::{

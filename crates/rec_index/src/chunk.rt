@@ -4,8 +4,8 @@ ghost use Rattle.mcap_wire.specs.Layout.{framed};
 ghost use Rattle.mcap_wire.specs.Writing.{LacksRoom};
 ghost use Rattle.rec_index.specs.Fields.{ChunkFields};
 ghost use Rattle.rec_index.specs.Parsed.{chunk_fields};
-ghost use Rattle.rec_index.specs.Records.{chunk_text, ShowsChunk};
-ghost use Rattle.rec_index.specs.RecordReading.{chunk_opcode, ChunkFails};
+ghost use Rattle.rec_index.specs.Records.{chunk_opcode, chunk_text, ShowsChunk};
+ghost use Rattle.rec_index.specs.RecordReading.{ChunkFails};
 
 use crate::opcodes::CHUNK;
 use mcap_wire::{

@@ -5,8 +5,8 @@ ghost use Rattle.mcap_wire.specs.Layout.{framed};
 ghost use Rattle.mcap_wire.specs.Writing.{LacksRoom};
 ghost use Rattle.rec_index.specs.Fields.{ChunkIndexFields};
 ghost use Rattle.rec_index.specs.Parsed.{chunk_index_fields};
-ghost use Rattle.rec_index.specs.Records.{chunk_index_text, ShowsChunkIndex};
-ghost use Rattle.rec_index.specs.RecordReading.{chunk_index_opcode, ChunkIndexFails};
+ghost use Rattle.rec_index.specs.Records.{chunk_index_opcode, chunk_index_text, ShowsChunkIndex};
+ghost use Rattle.rec_index.specs.RecordReading.{ChunkIndexFails};
 
 use crate::opcodes::CHUNK_INDEX;
 use mcap_wire::{

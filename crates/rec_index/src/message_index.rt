@@ -3,8 +3,8 @@ ghost use Rattle.std.specs.Prelude.{◌≡◌, ◌+◌, ◌^◌, ◌<◌, ◌≤
 ghost use Rattle.mcap_wire.specs.Arrays.{entry_texts};
 ghost use Rattle.mcap_wire.specs.Layout.{framed};
 ghost use Rattle.mcap_wire.specs.Writing.{LacksRoom};
-ghost use Rattle.rec_index.specs.Records.{message_index_text, ShowsMessageIndex};
-ghost use Rattle.rec_index.specs.RecordReading.{message_index_opcode, MessageIndexFails};
+ghost use Rattle.rec_index.specs.Records.{message_index_opcode, message_index_text, ShowsMessageIndex};
+ghost use Rattle.rec_index.specs.RecordReading.{MessageIndexFails};
 
 use crate::opcodes::MESSAGE_INDEX;
 use mcap_wire::{

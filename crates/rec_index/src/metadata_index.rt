@@ -4,8 +4,8 @@ ghost use Rattle.mcap_wire.specs.Layout.{framed};
 ghost use Rattle.mcap_wire.specs.Writing.{LacksRoom};
 ghost use Rattle.rec_index.specs.Fields.{MetadataIndexFields};
 ghost use Rattle.rec_index.specs.Parsed.{metadata_index_fields};
-ghost use Rattle.rec_index.specs.Records.{metadata_index_text, ShowsMetadataIndex};
-ghost use Rattle.rec_index.specs.RecordReading.{metadata_index_opcode, MetadataIndexFails};
+ghost use Rattle.rec_index.specs.Records.{metadata_index_opcode, metadata_index_text, ShowsMetadataIndex};
+ghost use Rattle.rec_index.specs.RecordReading.{MetadataIndexFails};
 
 use crate::opcodes::METADATA_INDEX;
 use mcap_wire::{

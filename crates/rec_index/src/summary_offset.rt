@@ -4,8 +4,8 @@ ghost use Rattle.mcap_wire.specs.Layout.{framed};
 ghost use Rattle.mcap_wire.specs.Writing.{LacksRoom};
 ghost use Rattle.rec_index.specs.Fields.{SummaryOffsetFields};
 ghost use Rattle.rec_index.specs.Parsed.{summary_offset_fields};
-ghost use Rattle.rec_index.specs.Records.{summary_offset_text, ShowsSummaryOffset};
-ghost use Rattle.rec_index.specs.RecordReading.{summary_offset_opcode, SummaryOffsetFails};
+ghost use Rattle.rec_index.specs.Records.{summary_offset_opcode, summary_offset_text, ShowsSummaryOffset};
+ghost use Rattle.rec_index.specs.RecordReading.{SummaryOffsetFails};
 
 use crate::opcodes::SUMMARY_OFFSET;
 use mcap_wire::{Bad, Memory, add_head, add_u8, add_u64, at_field, make_room, take_u8, take_u64};

@@ -5,8 +5,8 @@ ghost use Rattle.mcap_wire.specs.Layout.{framed};
 ghost use Rattle.mcap_wire.specs.Writing.{LacksRoom};
 ghost use Rattle.rec_index.specs.Fields.{StatisticsFields};
 ghost use Rattle.rec_index.specs.Parsed.{statistics_fields};
-ghost use Rattle.rec_index.specs.Records.{statistics_text, ShowsStatistics};
-ghost use Rattle.rec_index.specs.RecordReading.{statistics_opcode, StatisticsFails};
+ghost use Rattle.rec_index.specs.Records.{statistics_opcode, statistics_text, ShowsStatistics};
+ghost use Rattle.rec_index.specs.RecordReading.{StatisticsFails};
 
 use crate::opcodes::STATISTICS;
 use mcap_wire::{
