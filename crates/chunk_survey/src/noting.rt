@@ -6,13 +6,11 @@ ghost use Rattle.chunk_survey.specs.Spans.{spans_timed, spans_one};
 
 use crate::spans::Span;
 use crate::times::{extent_among, head_alone};
-use mcap_wire::Memory;
+use mcap_wire::{HEAD_LENGTH, Memory};
 use rec_data::MESSAGE;
 use rec_index::{CHUNK, Chunk};
 use record_walk::{MessageHead, list_heads};
 
-// The bytes in front of a record's content: its opcode and its length.
-const HEAD_LENGTH: u64 = 9;
 // Those in front of the records of a chunk that isn't compressed.
 const CHUNK_HEAD_LENGTH: u64 = 49;
 

@@ -1,5 +1,6 @@
 -- A chunk, and the Message Indexes behind it.
 use Rattle.std.specs.Prelude.{◌≡◌, ℕ, List, ◌∷◌, ◌++◌}
+use Rattle.rec_index.specs.Records.{chunk_opcode, message_index_opcode}
 use Rattle.mcap_model.specs.Places.{Has, Each}
 use Rattle.mcap_model.specs.Tops.{Top, inner_tops}
 use Rattle.mcap_model.specs.Fields.{IsMessageIndex}
@@ -13,8 +14,8 @@ pub record IsChunkOpen (before : List Top) (messages : List MessageHead) (channe
   pub chunk : Top
   pub earlier : List Top
   pub joined : before ≡ others ++ chunk ∷ earlier
-  pub kind : chunk.op ≡ 6
-  pub indexes : Each (λ u. u.op ≡ 7) earlier
+  pub kind : chunk.op ≡ chunk_opcode
+  pub indexes : Each (λ u. u.op ≡ message_index_opcode) earlier
   pub holds : HoldsMessages (inner_tops chunk) messages
   pub shown : Each (λ u. (channel : ℕ) × (entries : List (ℕ × ℕ)) × IsMessageIndex u channel entries × Has channels channel) earlier
   pub named : (channel : ℕ) → Has channels channel → (u : Top) × (entries : List (ℕ × ℕ)) × Has earlier u × IsMessageIndex u channel entries

@@ -1,5 +1,7 @@
 -- What is kept of chunks and of the Message Indexes behind them, for their indexes.
 use Rattle.std.specs.Prelude.{◌≡◌, ◌≢◌, ◌⊎◌, ◌↔◌, ℕ, suc, ◌+◌, ◌-◌, ◌^◌, min, List, [], ◌∷◌, ◌++◌, length, true}
+use Rattle.rec_data.specs.Records.{message_opcode}
+use Rattle.rec_index.specs.Records.{chunk_opcode, message_index_opcode}
 use Rattle.mcap_model.specs.Places.{At, Has, Each}
 use Rattle.mcap_model.specs.Tops.{Top, top_bytes, spelled, inner_tops}
 use Rattle.mcap_model.specs.Fields.{ChunkFields, IsChunk, IsMessageIndex, ChunkIndexFields, IsChunkIndex}
@@ -41,7 +43,7 @@ IsOfChunk note f = IndexMatchesNote note f × NamesNoted note f
 
 -- one of the records is a Message
 abbrev pub HasMessage : List Top → Type 0
-HasMessage records = (n : ℕ) × (t : Top) × At records n t × (t.op ≡ 5)
+HasMessage records = (n : ℕ) × (t : Top) × At records n t × (t.op ≡ message_opcode)
 
 -- this was noted of the Message Index that stands so far behind the chunk at that place
 pub record NotesIndex (tops : List Top) (k p : ℕ) (t : Top) (note : IndexNote) : Type 0 where
@@ -70,7 +72,7 @@ pub record NotesChunk (tops : List Top) (k : ℕ) (t : Top) (note : ChunkNote) :
 
 -- all chunks of these records are kept
 pub record ChunksOf (tops : List Top) (kept : Chunks) : Type 0 where
-  pub spots : SpotsOf (λ t. t.op ≡ 6) tops kept.spots
+  pub spots : SpotsOf (λ t. t.op ≡ chunk_opcode) tops kept.spots
   pub notes : NotesOf (NotesChunk tops) tops kept.spots kept.notes.items
 
 abbrev pub IndexesChunk : Top → ℕ → Type 0
@@ -88,8 +90,8 @@ pub record EndsWithChunk (tops : List Top) : Type 0 where
   pub chunk : Top
   pub earlier : List Top
   pub joined : tops ≡ others ++ chunk ∷ earlier
-  pub kind : chunk.op ≡ 6
-  pub indexes : Each (λ u. u.op ≡ 7) earlier
+  pub kind : chunk.op ≡ chunk_opcode
+  pub indexes : Each (λ u. u.op ≡ message_index_opcode) earlier
 
 -- a Message Index of that length is added to what was noted
 pub record AddsIndex (old new : ChunkNote) (note : IndexNote) (size : ℕ) : Type 0 where

@@ -1,5 +1,6 @@
 -- What is kept of Attachments and of Metadata for their indexes.
 use Rattle.std.specs.Prelude.{◌≡◌, ℕ, List, length}
+use Rattle.rec_data.specs.Records.{attachment_opcode, metadata_opcode}
 use Rattle.rec_index.specs.Fields.{MetadataIndexFields}
 use Rattle.mcap_model.specs.Tops.{Top, top_bytes}
 use Rattle.mcap_model.specs.Fields.{AttachmentFields, IsAttachment, IsMetadata, AttachmentIndexFields, IsAttachmentIndex, IsMetadataIndex}
@@ -37,11 +38,11 @@ pub record NotesMetadata (t : Top) (note : MetadataNote) : Type 0 where
 
 -- all Attachments of these records are kept
 pub record AttachmentsOf (tops : List Top) (kept : Attachments) : Type 0 where
-  pub spots : SpotsOf (λ t. t.op ≡ 9) tops kept.spots
+  pub spots : SpotsOf (λ t. t.op ≡ attachment_opcode) tops kept.spots
   pub notes : NotesOf (λ n. NotesAttachment) tops kept.spots kept.notes.items
 
 pub record MetadataOf (tops : List Top) (kept : MetadataList) : Type 0 where
-  pub spots : SpotsOf (λ t. t.op ≡ 12) tops kept.spots
+  pub spots : SpotsOf (λ t. t.op ≡ metadata_opcode) tops kept.spots
   pub notes : NotesOf (λ n. NotesMetadata) tops kept.spots kept.notes.items
 
 -- an index that names an offset

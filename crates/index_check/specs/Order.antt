@@ -1,5 +1,6 @@
 -- The opcodes of the known records of a summary.
 use Rattle.std.specs.Prelude.{◌≡◌, ◌≢◌, ℕ, List, ◌++◌, ◌∷◌, []}
+use Rattle.rec_index.specs.Records.{summary_offset_opcode}
 use Rattle.mcap_model.specs.Places.{Has, Each}
 use Rattle.mcap_model.specs.Tops.{Top}
 use Rattle.index_check.specs.declared.order.Order.{Order}
@@ -12,4 +13,4 @@ pub record OrderOf (before : List Top) (kept : Order) : Type 0 where
 
 -- behind a Summary Offset stand such alone
 abbrev pub OffsetsLast : List ℕ → ℕ → Type 0
-OffsetsLast ops op = op ≢ 14 → Has ops 14 → ⊥
+OffsetsLast ops op = op ≢ summary_offset_opcode → Has ops summary_offset_opcode → ⊥

@@ -1,5 +1,7 @@
 -- Where the parts of a file behind its Data End start.
 use Rattle.std.specs.Prelude.{◌≡◌, ◌≢◌, ◌⊎◌, ◌<◌, ℕ, suc, List, take, Option, Some, None}
+use Rattle.rec_data.specs.Records.{data_end_opcode}
+use Rattle.rec_index.specs.Records.{summary_offset_opcode}
 use Rattle.mcap_model.specs.Places.{At, Each}
 use Rattle.mcap_model.specs.Tops.{Top}
 use Rattle.mcap_model.specs.Rules.{HasDataEnd}
@@ -12,7 +14,7 @@ IsStart places start = (start ≡ places.behind) ⊎ ((start ≡ 0) × (places.f
 
 -- the first Summary Offset of the summary
 abbrev pub IsFirstOffset : List Top → ℕ → Top → Type 0
-IsFirstOffset tops k t = At tops k t × InSummary tops k × (t.op ≡ 14) × Each (λ u. u.op ≢ 14) (behind_end (take k tops))
+IsFirstOffset tops k t = At tops k t × InSummary tops k × (t.op ≡ summary_offset_opcode) × Each (λ u. u.op ≢ summary_offset_opcode) (behind_end (take k tops))
 
 abbrev pub FirstStands : List Top → Option ℕ → Type 0
 FirstStands tops (Some offset) = (k : ℕ) × (t : Top) × IsFirstOffset tops k t × (offset ≡ offset_of tops k)
@@ -23,7 +25,7 @@ pub record PlacesOf (tops : List Top) (n : ℕ) (places : SummaryPlaces) : Type 
   pub end : ℕ
   pub top : Top
   pub at : At tops end top
-  pub kind : top.op ≡ 15
+  pub kind : top.op ≡ data_end_opcode
   pub first : HasDataEnd (take end tops) → ⊥
   pub foot : Top
   pub at_foot : At tops n foot

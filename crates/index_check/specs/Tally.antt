@@ -1,5 +1,7 @@
 -- What was counted of a data section.
 use Rattle.std.specs.Prelude.{◌≡◌, ◌⊎◌, ◌≤◌, ℕ, List, [], length}
+use Rattle.rec_data.specs.Records.{message_opcode, attachment_opcode, metadata_opcode}
+use Rattle.rec_index.specs.Records.{chunk_opcode}
 use Rattle.mcap_model.specs.Places.{At, Has, Each}
 use Rattle.mcap_model.specs.Tops.{Top, flat}
 use Rattle.mcap_model.specs.Fields.{StatisticsFields}
@@ -52,10 +54,10 @@ pub record ChannelsCounted (channels : List ℕ) (counts : List (ℕ × ℕ)) : 
 -- this was counted of the data section
 pub record TallyOf (tops section : List Top) (t : Tally) : Type 0 where
   pub is : IsDataSection tops section
-  pub messages : t.messages ≡ count_of 5 (flat section)
-  pub attachments : t.attachments ≡ count_of 9 section
-  pub metadata : t.metadata ≡ count_of 12 section
-  pub chunks : t.chunks ≡ count_of 6 section
+  pub messages : t.messages ≡ count_of message_opcode (flat section)
+  pub attachments : t.attachments ≡ count_of attachment_opcode section
+  pub metadata : t.metadata ≡ count_of metadata_opcode section
+  pub chunks : t.chunks ≡ count_of chunk_opcode section
   pub times : TimesOf (flat section) (record { any = t.any; least = t.least; greatest = t.greatest })
   pub channels_of : List ℕ
   pub are_channels : AreChannels (flat section) channels_of

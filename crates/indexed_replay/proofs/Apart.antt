@@ -19,6 +19,8 @@ use Rattle.mcap_model.specs.declared.refusals.ReadingRefused.{ReadingRefused}
 use Rattle.mcap_model.specs.declared.refusals.ReadingRefused.TheVariants as refusals
 use Rattle.mcap_model.specs.declared.refusals.IndexedRefused.{IndexedRefused}
 use Rattle.mcap_model.specs.declared.refusals.IndexedRefused.TheVariants as by_index
+use Rattle.mcap_model.specs.declared.rules.Rule.TheVariants as rules
+use Rattle.mcap_model.specs.declared.rules.Rule.{Rule}
 use Rattle.indexed_replay.specs.Reaching.{HasChunkIndex, BreaksByIndex, second_index}
 use Rattle.indexed_replay.specs.Replaying.{IsReason, RefusedReplayCause}
 use Rattle.indexed_replay.specs.ReplayingSteps.{HaveOneIndex, HasOneIndex}
@@ -212,8 +214,8 @@ module _ (file : List ℕ) (p : Parts) (loaded : IsLoaded file p) where
       let two = refused.1 in
       let a = two.first in
       let b = two.second in
-      let broken : BreaksByIndex file range 12 (two.other).at = second_index (two.one).at (two.other).at two.later (record { one = a.shown; other = b.shown; first_there = indexed two.j two.one a; second_there = indexed two.k two.other b; same = sym a.chunk ∙ two.same ∙ b.chunk }) in
-      subst (λ (r : ℕ). BreaksByIndex file range r offset) (sym refused.0) (subst (λ (o : ℕ). BreaksByIndex file range 12 o) two.is broken)
+      let broken : BreaksByIndex file range rules.V12 (two.other).at = second_index (two.one).at (two.other).at two.later (record { one = a.shown; other = b.shown; first_there = indexed two.j two.one a; second_there = indexed two.k two.other b; same = sym a.chunk ∙ two.same ∙ b.chunk }) in
+      subst (λ (r : Rule). BreaksByIndex file range r offset) (sym refused.0) (subst (λ (o : ℕ). BreaksByIndex file range rules.V12 o) two.is broken)
   apart_reason range (refusals.Compressed offset name) refused = absurd refused
   apart_reason range (refusals.Limit offset) refused = absurd refused
   apart_reason range refusals.Memory refused = tt

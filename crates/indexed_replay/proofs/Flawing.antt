@@ -18,6 +18,8 @@ use Rattle.mcap_model.proofs.Lists.{has_taken}
 use Rattle.mcap_model.proofs.Flat.{named_or}
 use Rattle.mcap_model.proofs.OpenedChunks.{stands_inside}
 use Rattle.mcap_model.proofs.Readings.{all_short, one_follows, length-top}
+use Rattle.mcap_model.specs.declared.rules.Rule.{Rule}
+use Rattle.mcap_model.specs.declared.rules.Rule.TheVariants as rules
 use Rattle.mcap_laws.proofs.Leading.{Ends, summary_of, summary_there, in_before, at_dropped, from_there, there_same, is_there}
 use Rattle.summary_read.specs.Reached.{HasNoSummary, EndsIn}
 use Rattle.indexed_replay.specs.Reaching.{HasChunkIndex, IndexesStand, IsOwn, LeadsNowhere, AreOfOne, BreaksByIndex, at_loading, second_index, no_chunk, no_index, index_elsewhere, index_apart, no_message}
@@ -81,7 +83,7 @@ module _ (file : List ℕ) (tops : List Top) (range : Range) (readable : IsReada
       record { place = found.place; top = h.index; stands = found.at; is = h.is; there = omega (arith, h.there, start, among, found.there) }
 
   -- it breaks its rule
-  twelve : (at : ℕ) (f : ChunkIndexFields) (own : OwnIndex at f) → (ChunkIndexIsRight tops own.place f → ⊥) → Flaw file 12 at
+  twelve : (at : ℕ) (f : ChunkIndexFields) (own : OwnIndex at f) → (ChunkIndexIsRight tops own.place f → ⊥) → Flaw file rules.V12 at
   twelve at f own bad =
       let plain = readable.plain in
       flaw_12 at (record {
@@ -95,7 +97,7 @@ module _ (file : List ℕ) (tops : List Top) (range : Range) (readable : IsReada
       })
 
   -- an earlier one leads to its chunk
-  second : (first at : ℕ) → first < at → AreOfOne file first at → Flaw file 12 at
+  second : (first at : ℕ) → first < at → AreOfOne file first at → Flaw file rules.V12 at
   second first at less two =
       let before = own_index first two.one two.first_there in
       let own = own_index at two.other two.second_there in
@@ -178,7 +180,7 @@ module _ (file : List ℕ) (tops : List Top) (range : Range) (readable : IsReada
             before = front ∙ ap (λ (l : List Top). l ++ xs) (take_next tops k chunk at (suc k) refl) ∙ append_assoc (take k tops) (chunk ∷ []) xs;
           }
 
-  nine : (at : ℕ) (f : ChunkIndexFields) (channel offset : ℕ) → OwnIndex at f → LeadsNowhere file range at f channel offset → IsOwn file f offset → Flaw file 9 offset
+  nine : (at : ℕ) (f : ChunkIndexFields) (channel offset : ℕ) → OwnIndex at f → LeadsNowhere file range at f channel offset → IsOwn file f offset → Flaw file rules.V9 offset
   nine at f channel offset own nowhere belongs =
       let lead = readable.lead in
       let (chunk, (k, stands, place)) = lead own.place own.top f own.stands own.is in
@@ -220,7 +222,7 @@ module _ (file : List ℕ) (tops : List Top) (range : Range) (readable : IsReada
 
   -- ---- all refusals
 
-  pub breaks_tell : length file < 2 ^ 64 → (rule offset : ℕ) → BreaksByIndex file range rule offset → Flaw file rule offset
+  pub breaks_tell : length file < 2 ^ 64 → (rule : Rule) (offset : ℕ) → BreaksByIndex file range rule offset → Flaw file rule offset
   breaks_tell few rule offset (at_loading number place fails) = tells file tops whole e few number place fails
   breaks_tell few rule offset (second_index first at less two) = second first at less two
   breaks_tell few rule offset (no_chunk at f reached lacks) = let own = own_index at f reached.indexed in twelve at f own (λ right. right_index.some_chunk file tops whole own.place f right lacks)

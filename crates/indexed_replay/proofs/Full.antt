@@ -31,6 +31,8 @@ use Rattle.indexed_replay.proofs.Summed.{summary_once}
 use Rattle.indexed_replay.proofs.Right as right_index
 use Rattle.indexed_replay.proofs.Counted.{statistics_count}
 use Rattle.mcap_model.proofs.Flaws.{flaws_exclude_validity}
+use Rattle.mcap_model.specs.declared.rules.Rule.{Rule}
+use Rattle.mcap_model.specs.declared.rules.Rule.TheVariants as rules
 use Rattle.indexed_replay.specs.Laws.{IsReadable}
 use Rattle.indexed_replay.proofs.Flawing.{breaks_tell}
 use Rattle.indexed_replay.proofs.Sound.{some_summary, none_fails}
@@ -222,9 +224,9 @@ module _ (file : List ℕ) (tops : List Top) (full : FullyIndexed file tops) (se
         lead = λ n t f at is. let right = rule n t at f is in let of = right.is in (right.chunk, (right.k, of.at, of.offset));
       }
 
-  none_breaks : length file < 2 ^ 64 → (rule offset : ℕ) → BreaksByIndex file range rule offset → ⊥
+  none_breaks : length file < 2 ^ 64 → (rule : Rule) (offset : ℕ) → BreaksByIndex file range rule offset → ⊥
   none_breaks few rule offset (at_loading number place fails) = none_fails file tops full few number place fails
-  none_breaks few rule offset (second_index first spot less two) = flaws_exclude_validity file 12 spot (breaks_tell file tops range readable (some_summary file tops full) few 12 spot (second_index first spot less two)) (tops, valid)
+  none_breaks few rule offset (second_index first spot less two) = flaws_exclude_validity file rules.V12 spot (breaks_tell file tops range readable (some_summary file tops full) few rules.V12 spot (second_index first spot less two)) (tops, valid)
   none_breaks few rule offset (no_chunk spot f reached none) = some_chunk spot f reached none
   none_breaks few rule offset (no_index spot f channel place names none) = some_index spot f channel place names none
   none_breaks few rule offset (index_elsewhere spot f channel place names elsewhere) = none_elsewhere spot f channel place names elsewhere

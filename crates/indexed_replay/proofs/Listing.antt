@@ -28,6 +28,7 @@ use Rattle.indexed_replay.proofs.Headed.{there_begun}
 use Rattle.indexed_replay.proofs.Filling.{over_same}
 use Rattle.indexed_replay.proofs.Adding.{adds_none, adds_same, same_there}
 use Rattle.mcap_model.proofs.Once.{message_index_once}
+use Rattle.mcap_model.specs.declared.rules.Rule.TheVariants as rules
 
 -- ---- a content
 
@@ -127,7 +128,7 @@ module _ (file : List ℕ) (request : Request) (at : ℕ) (spot : Spot) (content
   list_shown shown (Ok false) knows (entry, has, in_range, lacking) = λ f place names. record { entry = entry; leads = leads f entry names has in_range; lacks = subst (λ (o : ℕ). LacksMessage file o spot.channel entry) (sym place) lacking }
   list_shown shown (Err why) knows refused = content_reason shown.0 why knows refused
 
-pub lacks_reason : (file : List ℕ) (request : Request) (at : ℕ) (spot : Spot) → LacksIndex file spot.channel spot.list → ListRefused file request at spot (by_index.Refused (refusals.Grammar at 12))
+pub lacks_reason : (file : List ℕ) (request : Request) (at : ℕ) (spot : Spot) → LacksIndex file spot.channel spot.list → ListRefused file request at spot (by_index.Refused (refusals.Grammar at rules.V12))
 lacks_reason file request at spot none = λ f place names. no_index at f spot.channel spot.list names none
 
 pub limit_reason : (file : List ℕ) (request : Request) (at : ℕ) (spot : Spot) (offset : ℕ) → (offset ≡ spot.list) × IsTooLong file offset → ListRefused file request at spot (by_index.Refused (refusals.Limit offset))

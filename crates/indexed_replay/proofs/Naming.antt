@@ -18,6 +18,8 @@ use Rattle.mcap_model.specs.declared.refusals.ReadingRefused.{ReadingRefused}
 use Rattle.mcap_model.specs.declared.refusals.ReadingRefused.TheVariants as refusals
 use Rattle.mcap_model.specs.declared.refusals.IndexedRefused.{IndexedRefused}
 use Rattle.mcap_model.specs.declared.refusals.IndexedRefused.TheVariants as by_index
+use Rattle.mcap_model.specs.declared.rules.Rule.{Rule}
+use Rattle.mcap_model.specs.declared.rules.Rule.TheVariants as rules
 use Rattle.indexed_replay.specs.declared.spots.Request.{Request}
 use Rattle.indexed_replay.specs.declared.spots.Spot.{Spot}
 use Rattle.indexed_replay.specs.Reaching.{IsReached, ChunkEndsAt, LacksIndex, BreaksByIndex, no_chunk, at_chunk, NamesNone, AskedBeside}
@@ -126,7 +128,7 @@ names_none file request at f none timed reached = record { at = at; index = f; r
 pub chunk_reason : (file : List ℕ) (request : Request) (at : ℕ) (f : ChunkIndexFields) (why : ReadingRefused) → ChunkRefused file at f.offset why → IsReached file request.range at f → IsReason file request.range (by_index.Refused why)
 chunk_reason file request at f (refusals.Fault faults) refused reached = tt
 chunk_reason file request at f (refusals.Grammar offset rule) (twelve, here, lacks) reached =
-    subst (λ (r : ℕ). BreaksByIndex file request.range r offset) (sym twelve) (subst (λ (o : ℕ). BreaksByIndex file request.range 12 o) (sym here) (no_chunk at f reached lacks))
+    subst (λ (r : Rule). BreaksByIndex file request.range r offset) (sym twelve) (subst (λ (o : ℕ). BreaksByIndex file request.range rules.V12 o) (sym here) (no_chunk at f reached lacks))
 chunk_reason file request at f (refusals.Compressed offset name) (here, packed) reached = record { at = at; index = f; reached = reached; place = sym here; chunk = packed.chunk; there = subst (λ (o : ℕ). Rattle.mcap_model.specs.Led.IsThere file o packed.chunk) (sym here) packed.there; packed = packed.packed }
 chunk_reason file request at f (refusals.Limit offset) (here, past) reached = at_chunk at f offset reached (sym here) past
 chunk_reason file request at f refusals.Memory refused reached = tt

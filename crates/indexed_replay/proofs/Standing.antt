@@ -14,6 +14,8 @@ use Rattle.mcap_model.proofs.OneMore.{each_last}
 use Rattle.mcap_model.specs.declared.refusals.ReadingRefused.{ReadingRefused}
 use Rattle.mcap_model.specs.declared.refusals.ReadingRefused.TheVariants as refusals
 use Rattle.mcap_model.specs.declared.refusals.IndexedRefused.TheVariants as by_index
+use Rattle.mcap_model.specs.declared.rules.Rule.TheVariants as rules
+use Rattle.mcap_model.specs.declared.rules.Rule.{Rule}
 use Rattle.indexed_replay.specs.declared.spots.Request.{Request}
 use Rattle.indexed_replay.specs.Reaching.{ChunkEndsAt, IndexesStand, LeadsNowhere, IsReached, BreaksByIndex, index_apart, no_message, behind_chunk, head_length, heads}
 use Rattle.indexed_replay.specs.Replaying.{IsReason}
@@ -79,10 +81,10 @@ walk_behind file at to stand = omega (arith, stand.there)
 pub astray_reason : (file : List ℕ) (range : Range) (at : ℕ) (f : ChunkIndexFields) (channel list end : ℕ) (why : ReadingRefused) → LeadsNowhere file range at f channel list → ChunkEndsAt file f.offset end → AstrayRefused file at end list why → IsReason file range (by_index.Refused why)
 astray_reason file range at f channel list end (refusals.Fault faults) nowhere ends refused = tt
 astray_reason file range at f channel list end (refusals.Grammar offset rule) nowhere ends (inl (nine, here, stand)) =
-    subst (λ (r : ℕ). BreaksByIndex file range r offset) (sym nine) (subst (λ (o : ℕ). BreaksByIndex file range 9 o) (sym here) (no_message at f channel list nowhere (record { end = end; ends = ends; stand = stand })))
+    subst (λ (r : Rule). BreaksByIndex file range r offset) (sym nine) (subst (λ (o : ℕ). BreaksByIndex file range rules.V9 o) (sym here) (no_message at f channel list nowhere (record { end = end; ends = ends; stand = stand })))
 astray_reason file range at f channel list end (refusals.Grammar offset rule) nowhere ends (inr (twelve, here, apart)) =
     let leads = nowhere.leads in
-    subst (λ (r : ℕ). BreaksByIndex file range r offset) (sym twelve) (subst (λ (o : ℕ). BreaksByIndex file range 12 o) (sym here) (index_apart at f channel list leads.names (record { end = end; ends = ends; apart = apart })))
+    subst (λ (r : Rule). BreaksByIndex file range r offset) (sym twelve) (subst (λ (o : ℕ). BreaksByIndex file range rules.V12 o) (sym here) (index_apart at f channel list leads.names (record { end = end; ends = ends; apart = apart })))
 astray_reason file range at f channel list end (refusals.Compressed offset name) nowhere ends refused = absurd refused
 astray_reason file range at f channel list end (refusals.Limit offset) nowhere ends (stand, before, long) = let leads = nowhere.leads in behind_chunk at f channel list end offset leads.names ends stand before long
 astray_reason file range at f channel list end refusals.Memory nowhere ends refused = absurd refused

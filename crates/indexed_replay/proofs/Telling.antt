@@ -19,6 +19,7 @@ use Rattle.mcap_model.proofs.Readings.{Begun, top_of, all_short, one_follows, be
 use Rattle.mcap_laws.proofs.Leading.{Ends, summary_of, front_of, whole_bytes, start_is, summary_there, at_dropped}
 use Rattle.mcap_model.specs.declared.refusals.ReadingRefused.TheVariants as refusals
 use Rattle.mcap_model.specs.declared.refusals.IndexedRefused.TheVariants as by_index
+use Rattle.mcap_model.specs.declared.rules.Rule.{Rule}
 use Rattle.summary_read.specs.Reached.{RecordShowsFooter, HasNoSummary, EndsIn, SummaryStartsAt, summary_part, BreaksFirst, breaks_4, breaks_5, breaks_6, FailsInside, FailsLoading, at_ends, by_start, inside}
 use Rattle.summary_read.proofs.Flawed.{flawed}
 use Rattle.summary_read.proofs.FileEnds.{no_other}
@@ -145,10 +146,10 @@ module _ (file : List ℕ) (tops : List Top) (whole : IsWhole file tops) (e : En
       }
 
   -- a record of the file that breaks a rule of those that are looked at
-  breaks_there : (n : ℕ) (t : Top) (behind rest : List ℕ) → At tops n t → InSummary tops n → length t.content < 2 ^ 64 → length rest < 2 ^ 64 → rest ≡ top_bytes t ++ behind → (rule : ℕ) → BreaksFirst rest rule → Flaw file rule (offset_of tops n)
+  breaks_there : (n : ℕ) (t : Top) (behind rest : List ℕ) → At tops n t → InSummary tops n → length t.content < 2 ^ 64 → length rest < 2 ^ 64 → rest ≡ top_bytes t ++ behind → (rule : Rule) → BreaksFirst rest rule → Flaw file rule (offset_of tops n)
   breaks_there n t behind rest at within short few left rule breaks = by (begun rest t behind left short) rule breaks
     where
-      by : Begun rest t → (rule : ℕ) → BreaksFirst rest rule → Flaw file rule (offset_of tops n)
+      by : Begun rest t → (rule : Rule) → BreaksFirst rest rule → Flaw file rule (offset_of tops n)
       by b rule (breaks_4 (inl headless)) = absurd (both_ways (has_head rest) headless b.head)
       by b rule (breaks_4 (inr cut)) = absurd (both_ways (is_whole rest) cut b.whole)
       by b rule (breaks_5 head none) =
@@ -169,7 +170,7 @@ module _ (file : List ℕ) (tops : List Top) (whole : IsWhole file tops) (e : En
             breaks = λ keeps. bad (subst V6 (ap (λ (o : ℕ). top_of o t.content) parts.0 ∙ ap (top_of u.op) parts.1) keeps);
           })
 
-  inside_tells : length file < 2 ^ 64 → (start rule offset : ℕ) → SummaryStartsAt file start → FailsInside (summary_part file start) start rule offset → Flaw file rule offset
+  inside_tells : length file < 2 ^ 64 → (start : ℕ) (rule : Rule) (offset : ℕ) → SummaryStartsAt file start → FailsInside (summary_part file start) start rule offset → Flaw file rule offset
   inside_tells few start rule offset starts (xs, rest, cut, some, breaks) =
       let has = summary_there file tops whole e in
       let same : start ≡ e.start = sym starts.named ∙ starts_there starts.footer starts.ends in
@@ -191,7 +192,7 @@ module _ (file : List ℕ) (tops : List Top) (whole : IsWhole file tops) (e : En
           let place : offset ≡ offset_of tops stands.place = there ∙ ap (λ (l : List Top). e.start + length (spelled l)) (sym front) ∙ stands.there in
           subst (Flaw file rule) (sym place) (breaks_there stands.place t (spelled ts ++ []) rest stands.at stands.within stands.short small (left ∙ append_assoc (top_bytes t) (spelled ts) []) rule breaks)
 
-  pub tells : length file < 2 ^ 64 → (rule offset : ℕ) → FailsLoading file rule offset → Flaw file rule offset
+  pub tells : length file < 2 ^ 64 → (rule : Rule) (offset : ℕ) → FailsLoading file rule offset → Flaw file rule offset
   tells few rule offset (at_ends number place fails) = flawed file number place fails
   tells few rule offset (by_start v1 f ends some (inl early)) = absurd (omega (arith, early, starts_there f ends, inside_file.0))
   tells few rule offset (by_start v1 f ends some (inr late)) = absurd (omega (arith, late, starts_there f ends, inside_file.1))

@@ -7,6 +7,7 @@ use Rattle.mcap_model.specs.Fields.{ChunkIndexFields, IsChunkIndex}
 use Rattle.indexed_replay.specs.declared.repeats.Lead.{Lead}
 use Rattle.mcap_model.specs.declared.refusals.ReadingRefused.{ReadingRefused}
 use Rattle.mcap_model.specs.declared.refusals.ReadingRefused.TheVariants as refusals
+use Rattle.mcap_model.specs.declared.rules.Rule.TheVariants as rules
 
 -- one of these records is a Chunk Index that leads there, and stands at the offset beside it
 pub record Leads (tops : List Top) (offsets : List ℕ) (k : ℕ) (lead : Lead) : Type 0 where
@@ -61,7 +62,7 @@ FindsTwo leads None = (one other : Lead) → Has leads one → Has leads other �
 
 abbrev pub ApartRefused : List Top → List ℕ → ReadingRefused → Type 0
 ApartRefused tops offsets (refusals.Fault faults) = ⊥
-ApartRefused tops offsets (refusals.Grammar offset rule) = (rule ≡ 12) × HaveTwo tops offsets offset
+ApartRefused tops offsets (refusals.Grammar offset rule) = (rule ≡ rules.V12) × HaveTwo tops offsets offset
 ApartRefused tops offsets (refusals.Compressed offset name) = ⊥
 ApartRefused tops offsets (refusals.Limit offset) = ⊥
 ApartRefused tops offsets refusals.Memory = Unit {0}

@@ -3,6 +3,7 @@ use Rattle.std.specs.Prelude.{◌≡◌, ◌⊎◌, ℕ, ◌+◌, ◌*◌, ◌<�
 use Rattle.mcap_io.specs.Stores.{StoreState}
 use Rattle.mcap_model.specs.declared.refusals.ReadingRefused.{ReadingRefused}
 use Rattle.mcap_model.specs.declared.refusals.ReadingRefused.TheVariants as refusals
+use Rattle.mcap_model.specs.declared.rules.Rule.TheVariants as rules
 use Rattle.indexed_replay.specs.Reaching.{IndexesStand, IsTooLong, head_length}
 
 -- why it can't be seen whether Message Indexes alone stand from the first offset up to the other
@@ -34,7 +35,7 @@ AsksHeads len from old new = (file : List ℕ) → old.bytes ≡ Some file → l
 -- Message Index that doesn't; or that can't be seen
 abbrev pub AstrayRefused : List ℕ → ℕ → ℕ → ℕ → ReadingRefused → Type 0
 AstrayRefused file at end list (refusals.Fault faults) = Unit {0}
-AstrayRefused file at end list (refusals.Grammar offset rule) = ((rule ≡ 9) × (offset ≡ list) × IndexesStand file end list) ⊎ ((rule ≡ 12) × (offset ≡ at) × (IndexesStand file end list → ⊥))
+AstrayRefused file at end list (refusals.Grammar offset rule) = ((rule ≡ rules.V9) × (offset ≡ list) × IndexesStand file end list) ⊎ ((rule ≡ rules.V12) × (offset ≡ at) × (IndexesStand file end list → ⊥))
 AstrayRefused file at end list (refusals.Compressed offset name) = ⊥
 AstrayRefused file at end list (refusals.Limit offset) = IndexesStand file end offset × (offset < list) × IsTooLong file offset
 AstrayRefused file at end list refusals.Memory = ⊥

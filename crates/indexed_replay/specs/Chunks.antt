@@ -3,6 +3,7 @@ use Rattle.std.specs.Prelude.{◌≡◌, ◌≢◌, ◌⊎◌, ℕ, ◌+◌, ◌
 use Rattle.mcap_io.specs.Stores.{StoreState}
 use Rattle.mcap_wire.specs.Layout.{text_length}
 use Rattle.mcap_wire.specs.Contents.{Kind, a_number, a_text, ShowsRow}
+use Rattle.rec_index.specs.Records.{chunk_opcode}
 use Rattle.mcap_model.specs.declared.replay.Shown.{Shown}
 use Rattle.mcap_model.specs.Places.{Has}
 use Rattle.mcap_model.specs.Tops.{Top}
@@ -12,6 +13,7 @@ use Rattle.mcap_model.specs.Led.{IsThere}
 use Rattle.mcap_model.specs.declared.refusals.ReadingRefused.{ReadingRefused}
 use Rattle.mcap_model.specs.declared.refusals.ReadingRefused.TheVariants as refusals
 use Rattle.mcap_model.specs.declared.refusals.IndexedRefused.{IndexedRefused}
+use Rattle.mcap_model.specs.declared.rules.Rule.TheVariants as rules
 use Rattle.indexed_replay.specs.declared.spots.Request.{Request}
 use Rattle.indexed_replay.specs.Reaching.{IsReached, ChunkEndsAt, LacksChunk, IsTooLong, AskedBeside}
 use Rattle.indexed_replay.specs.Replaying.{IsReason}
@@ -39,7 +41,7 @@ pub record PackedAt (file : List ℕ) (offset : ℕ) (name : List ℕ) : Type 0 
 -- why a chunk that a Chunk Index at the first offset leads to, at the other, isn't looked into
 abbrev pub ChunkRefused : List ℕ → ℕ → ℕ → ReadingRefused → Type 0
 ChunkRefused file index at (refusals.Fault faults) = Unit {0}
-ChunkRefused file index at (refusals.Grammar offset rule) = (rule ≡ 12) × (offset ≡ index) × LacksChunk file at
+ChunkRefused file index at (refusals.Grammar offset rule) = (rule ≡ rules.V12) × (offset ≡ index) × LacksChunk file at
 ChunkRefused file index at (refusals.Compressed offset name) = (offset ≡ at) × PackedAt file at name
 ChunkRefused file index at (refusals.Limit offset) = (offset ≡ at) × IsTooLong file offset
 ChunkRefused file index at refusals.Memory = Unit {0}
@@ -53,7 +55,7 @@ ChecksChunk told len index at result = (file : List ℕ) → told ≡ Some file 
 
 -- where a record of a chunk's opcode stands there, of a content of the first length and with a compression of the other
 abbrev pub NamesPack : Option (List ℕ) → ℕ → ℕ → ℕ → ℕ → ReadingRefused → Type 0
-NamesPack told index at len size why = (file : List ℕ) (t : Top) → told ≡ Some file → IsThere file at t → t.op ≡ 6 → length t.content ≡ len → text_length t.content 28 ≡ size → size ≢ 0 → ChunkRefused file index at why
+NamesPack told index at len size why = (file : List ℕ) (t : Top) → told ≡ Some file → IsThere file at t → t.op ≡ chunk_opcode → length t.content ≡ len → text_length t.content 28 ≡ size → size ≢ 0 → ChunkRefused file index at why
 
 -- ---- what is asked for of it
 

@@ -1,6 +1,7 @@
 -- How many bytes a replay by the index asks for, of what its summary leads to.
 use Rattle.std.specs.Prelude.{◌≡◌, ◌≢◌, ℕ, ◌+◌, ◌≤◌, List, [], ◌∷◌, length, Bool, true, false, ◌-◌, drop, sum_by, if◌then◌else◌}
 use Rattle.mcap_wire.specs.Layout.{text_length}
+use Rattle.rec_index.specs.Records.{chunk_opcode, message_index_opcode}
 use Rattle.mcap_model.specs.declared.replay.Range.{Range}
 use Rattle.mcap_model.specs.Tops.{Top, top_bytes, declared_length, is_whole}
 use Rattle.mcap_model.specs.Fields.{ChunkIndexFields, IsChunkIndex, IsMessageIndex}
@@ -28,13 +29,13 @@ entries_cost file range chunk entries = sum_by (entry_cost file range chunk) ent
 
 -- no Message Index stands there, of whatever channel
 abbrev pub LacksList : List ℕ → ℕ → Type 0
-LacksList file at = (t : Top) → IsThere file at t → t.op ≡ 7 → ⊥
+LacksList file at = (t : Top) → IsThere file at t → t.op ≡ message_index_opcode → ⊥
 
 -- What its reading asks for: all of it and the messages in the range; or all of what stands there as a Message Index, which
 -- isn't one of that channel; or the head of what else stands there.
 pub data ListCost (file : List ℕ) (range : Range) (spot : Spot) : ℕ → Type 0 where
   own_list : (list : Top) (entries : List (ℕ × ℕ)) → IsThere file spot.list list → IsMessageIndex list spot.channel entries → ListCost file range spot (length (top_bytes list) + entries_cost file range spot.chunk entries)
-  other_list : (list : Top) → IsThere file spot.list list → list.op ≡ 7 → LacksIndex file spot.channel spot.list → ListCost file range spot (length (top_bytes list))
+  other_list : (list : Top) → IsThere file spot.list list → list.op ≡ message_index_opcode → LacksIndex file spot.channel spot.list → ListCost file range spot (length (top_bytes list))
   no_list : LacksList file spot.list → ListCost file range spot head_length
 
 -- ---- what is asked for of it
@@ -51,7 +52,7 @@ plain_length = head_length + front_length
 pub record IsPackedAs (file : List ℕ) (offset size : ℕ) : Type 0 where
   pub chunk : Top
   pub there : IsThere file offset chunk
-  pub kind : chunk.op ≡ 6
+  pub kind : chunk.op ≡ chunk_opcode
   pub named : text_length chunk.content 28 ≡ size
   pub some : size ≢ 0
   pub room : front_length + size ≤ length chunk.content

@@ -15,6 +15,7 @@ use Rattle.summary_read.specs.Loading.{IsLoadRefused}
 use Rattle.mcap_model.specs.declared.refusals.ReadingRefused.TheVariants as refusals
 use Rattle.mcap_model.specs.declared.refusals.IndexedRefused.{IndexedRefused}
 use Rattle.mcap_model.specs.declared.refusals.IndexedRefused.TheVariants as by_index
+use Rattle.mcap_model.specs.declared.rules.Rule.{Rule}
 use Rattle.indexed_replay.specs.Reaching.{IsTooMuch}
 use Rattle.indexed_replay.specs.Replaying.{IsReason}
 
@@ -27,12 +28,12 @@ pub record IsInOrder (file : List ℕ) (tops : List Top) : Type 0 where
 
 -- a rule for which the summary of such a file isn't loaded fails in the file
 abbrev pub LoadsTellFlaws : Type 0
-LoadsTellFlaws = (file : List ℕ) (tops : List Top) → IsInOrder file tops → length file < 2 ^ 64 → (rule offset : ℕ) → IsLoadRefused file (by_index.Refused (refusals.Grammar offset rule)) → Flaw file rule offset
+LoadsTellFlaws = (file : List ℕ) (tops : List Top) → IsInOrder file tops → length file < 2 ^ 64 → (rule : Rule) (offset : ℕ) → IsLoadRefused file (by_index.Refused (refusals.Grammar offset rule)) → Flaw file rule offset
 
 -- Besides no rule fails anywhere: the file is valid, but perhaps for chunks that name a compression.
 pub record IsFlawless (file : List ℕ) (tops : List Top) : Type 0 where
   pub ordered : IsInOrder file tops
-  pub none : (rule offset : ℕ) → Flaw file rule offset → ⊥
+  pub none : (rule : Rule) (offset : ℕ) → Flaw file rule offset → ⊥
 
 abbrev pub ValidFilesAreFlawless : Type 0
 ValidFilesAreFlawless = (file : List ℕ) (tops : List Top) → Valid file tops → IsFlawless file tops
@@ -62,7 +63,7 @@ pub record IsReadable (file : List ℕ) (tops : List Top) : Type 0 where
 
 -- a rule for which such a file isn't replayed by its index fails in the file, unless it has no summary
 abbrev pub ReplaysTellFlaws : Type 0
-ReplaysTellFlaws = (file : List ℕ) (tops : List Top) (range : Range) → IsReadable file tops → (HasNoSummary file → ⊥) → length file < 2 ^ 64 → (rule offset : ℕ) → IsReason file range (by_index.Refused (refusals.Grammar offset rule)) → Flaw file rule offset
+ReplaysTellFlaws = (file : List ℕ) (tops : List Top) (range : Range) → IsReadable file tops → (HasNoSummary file → ⊥) → length file < 2 ^ 64 → (rule : Rule) (offset : ℕ) → IsReason file range (by_index.Refused (refusals.Grammar offset rule)) → Flaw file rule offset
 
 -- the messages of a fully indexed file that is read to its Data End are never too much
 abbrev pub FullFilesHaveRoom : Type 0

@@ -1,5 +1,6 @@
 -- What the steps of a replay come to, from the summary on.
 use Rattle.std.specs.Prelude.{◌≡◌, ℕ, ◌+◌, ◌≤◌, List, length, Some}
+use Rattle.rec_index.specs.Records.{chunk_index_opcode}
 use Rattle.mcap_io.specs.Stores.{StoreState}
 use Rattle.mcap_model.specs.declared.replay.Range.{Range}
 use Rattle.mcap_model.specs.Tops.{Top, top_bytes, spelled}
@@ -28,7 +29,7 @@ pub record PartsAgree (parts : Parts) : Type 0 where
 -- range, up to the first at which a replay ends, no more is asked for than these, the magic and the Footer with the last magic,
 -- and what is asked for beside.
 abbrev pub AsksIndexed : Range → StoreState → StoreState → Type 0
-AsksIndexed range old new = (file : List ℕ) (start : ℕ) (summary : List Top) (header : Top) (cost : ℕ) → old.bytes ≡ Some file → HasSummary file start summary → IsThere file 8 header → IndexesCost file range (of_kind 8 summary) cost
+AsksIndexed range old new = (file : List ℕ) (start : ℕ) (summary : List Top) (header : Top) (cost : ℕ) → old.bytes ≡ Some file → HasSummary file start summary → IsThere file 8 header → IndexesCost file range (of_kind chunk_index_opcode summary) cost
     → AskedBeside file range old.asked new.asked (8 + length (top_bytes header) + 37 + length (spelled summary) + cost)
 
 -- Of a file whose summary can't be loaded, or doesn't state as many chunks as it has Chunk Indexes, no more is asked for than

@@ -2,6 +2,7 @@
 -- they name, and the messages to which these lead. Why such a file isn't indexed, and where a rule fails on what is reached.
 use Rattle.std.specs.Prelude.{◌≡◌, ◌≢◌, ◌⊎◌, ℕ, ◌+◌, ◌*◌, ◌<◌, ◌≤◌, List, [], ◌++◌, length, drop, sum_by, AllPairs, Some}
 use Rattle.mcap_wire.specs.Layout.{content_limit, text_length}
+use Rattle.rec_index.specs.Records.{chunk_opcode, message_index_opcode, chunk_index_opcode, statistics_opcode}
 use Rattle.mcap_model.specs.declared.replay.Range.{Range}
 use Rattle.mcap_model.specs.Places.{At, Has, Each}
 use Rattle.mcap_model.specs.Tops.{Top, top_bytes, spelled}
@@ -14,6 +15,8 @@ use Rattle.summary_read.specs.Reached.{HasNoSummary, SummaryStartsAt, FailsLoadi
 use Rattle.summary_read.specs.Parts.{of_kind, first_of_kind}
 use Rattle.mcap_model.specs.declared.refusals.NotIndexed.{NotIndexed}
 use Rattle.mcap_model.specs.declared.refusals.NotIndexed.TheVariants as lacks
+use Rattle.mcap_model.specs.declared.rules.Rule.{Rule}
+use Rattle.mcap_model.specs.declared.rules.Rule.TheVariants as rules
 
 -- ---- what is reached
 
@@ -66,7 +69,7 @@ LacksChunk file offset = (t : Top) (g : ChunkFields) → IsThere file offset t �
 pub record ChunkEndsAt (file : List ℕ) (offset end : ℕ) : Type 0 where
   pub chunk : Top
   pub there : IsThere file offset chunk
-  pub kind : chunk.op ≡ 6
+  pub kind : chunk.op ≡ chunk_opcode
   pub unpacked : text_length chunk.content 28 ≡ 0
   pub is : end ≡ offset + length (top_bytes chunk)
 
@@ -84,7 +87,7 @@ LacksIndex file channel offset = (t : Top) (entries : List (ℕ × ℕ)) → IsT
 -- Message Indexes alone stand from the first offset up to the other
 pub record IndexesStand (file : List ℕ) (from to : ℕ) : Type 0 where
   pub indexes : List Top
-  pub kinds : Each (λ u. u.op ≡ 7) indexes
+  pub kinds : Each (λ u. u.op ≡ message_index_opcode) indexes
   pub short : AreShort indexes
   pub rest : List ℕ
   pub split : drop from file ≡ spelled indexes ++ rest
@@ -114,17 +117,17 @@ pub record LeadsNowhere (file : List ℕ) (range : Range) (at : ℕ) (f : ChunkI
 
 -- ---- where a rule fails
 
--- The rule of that number fails at that offset: on the ends of the file or on its summary; at a Chunk Index that leads to
+-- That rule fails at that offset: on the ends of the file or on its summary; at a Chunk Index that leads to
 -- no Chunk, or to one to which an earlier one leads, or whose map leads to no Message Index of a channel, to another place than
 -- behind the chunk, or to one that isn't the chunk's (V12); or at a Message Index of the chunk with an entry in the range that leads to no message (V9).
-pub data BreaksByIndex (file : List ℕ) (range : Range) : ℕ → ℕ → Type 0 where
-  at_loading : (rule offset : ℕ) → FailsLoading file rule offset → BreaksByIndex file range rule offset
-  second_index : (first at : ℕ) → first < at → AreOfOne file first at → BreaksByIndex file range 12 at
-  no_chunk : (at : ℕ) (f : ChunkIndexFields) → IsReached file range at f → LacksChunk file f.offset → BreaksByIndex file range 12 at
-  no_index : (at : ℕ) (f : ChunkIndexFields) (channel offset : ℕ) → NamesOffset file range at f channel offset → LacksIndex file channel offset → BreaksByIndex file range 12 at
-  index_elsewhere : (at : ℕ) (f : ChunkIndexFields) (channel offset : ℕ) → NamesOffset file range at f channel offset → IsElsewhere file f offset → BreaksByIndex file range 12 at
-  index_apart : (at : ℕ) (f : ChunkIndexFields) (channel offset : ℕ) → NamesOffset file range at f channel offset → IsApart file f offset → BreaksByIndex file range 12 at
-  no_message : (at : ℕ) (f : ChunkIndexFields) (channel offset : ℕ) → LeadsNowhere file range at f channel offset → IsOwn file f offset → BreaksByIndex file range 9 offset
+pub data BreaksByIndex (file : List ℕ) (range : Range) : Rule → ℕ → Type 0 where
+  at_loading : (rule : Rule) (offset : ℕ) → FailsLoading file rule offset → BreaksByIndex file range rule offset
+  second_index : (first at : ℕ) → first < at → AreOfOne file first at → BreaksByIndex file range rules.V12 at
+  no_chunk : (at : ℕ) (f : ChunkIndexFields) → IsReached file range at f → LacksChunk file f.offset → BreaksByIndex file range rules.V12 at
+  no_index : (at : ℕ) (f : ChunkIndexFields) (channel offset : ℕ) → NamesOffset file range at f channel offset → LacksIndex file channel offset → BreaksByIndex file range rules.V12 at
+  index_elsewhere : (at : ℕ) (f : ChunkIndexFields) (channel offset : ℕ) → NamesOffset file range at f channel offset → IsElsewhere file f offset → BreaksByIndex file range rules.V12 at
+  index_apart : (at : ℕ) (f : ChunkIndexFields) (channel offset : ℕ) → NamesOffset file range at f channel offset → IsApart file f offset → BreaksByIndex file range rules.V12 at
+  no_message : (at : ℕ) (f : ChunkIndexFields) (channel offset : ℕ) → LeadsNowhere file range at f channel offset → IsOwn file f offset → BreaksByIndex file range rules.V9 offset
 
 -- the chunk of a Chunk Index that is reached stands at that offset, and names that compression
 pub record ReachesPacked (file : List ℕ) (range : Range) (offset : ℕ) (name : List ℕ) : Type 0 where
@@ -200,7 +203,7 @@ pub record CountsDiffer (file : List ℕ) (stated found : ℕ) : Type 0 where
   pub shown : StatisticsFields
   pub is : IsStatistics statistics shown
   pub stated_is : stated ≡ shown.chunks
-  pub found_is : found ≡ length (of_kind 8 summary)
+  pub found_is : found ≡ length (of_kind chunk_index_opcode summary)
   pub differ : stated ≢ found
 
 -- the map of a Chunk Index is empty, and one of its times isn't 0
@@ -226,7 +229,7 @@ pub record LacksChannel (file : List ℕ) (range : Range) (id : ℕ) : Type 0 wh
 
 abbrev pub IsNotIndexed : List ℕ → Range → NotIndexed → Type 0
 IsNotIndexed file range lacks.NoSummary = HasNoSummary file
-IsNotIndexed file range lacks.NoStatistics = (start : ℕ) × (summary : List Top) × SummaryStartsAt file start × HasSummary file start summary × Each (λ t. t.op ≢ 11) summary
+IsNotIndexed file range lacks.NoStatistics = (start : ℕ) × (summary : List Top) × SummaryStartsAt file start × HasSummary file start summary × Each (λ t. t.op ≢ statistics_opcode) summary
 IsNotIndexed file range (lacks.ChunkCount stated found) = CountsDiffer file stated found
 IsNotIndexed file range (lacks.NoMessageIndex chunk) = NamesNone file range chunk
 IsNotIndexed file range (lacks.NoChannel id) = LacksChannel file range id

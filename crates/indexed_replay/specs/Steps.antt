@@ -2,7 +2,7 @@
 use Rattle.std.specs.Prelude.{◌≡◌, ◌≢◌, ◌⊎◌, ℕ, ◌+◌, ◌<◌, ◌≤◌, List, ◌++◌, length, take, drop, AllPairs, Bool, true, false, Option, Some, None, Result, Ok, Err, Vec}
 use Rattle.mcap_io.specs.Stores.{StoreState}
 use Rattle.mcap_io.specs.declared.outside.Failed.{Failed}
-use Rattle.rec_index.specs.Records.{ShowsMessageIndex}
+use Rattle.rec_index.specs.Records.{ShowsMessageIndex, message_index_opcode}
 use Rattle.mcap_model.specs.declared.replay.Place.{Place}
 use Rattle.mcap_model.specs.declared.replay.Range.{Range}
 use Rattle.mcap_model.specs.declared.replay.Shown.{Shown}
@@ -142,7 +142,7 @@ AsksEntries len range chunk entries old new = (file : List ℕ) → old.bytes �
 
 -- the content of the Message Index that stands there, or none does
 abbrev pub ListIs : {Y : Type 0} → List ℕ → ℕ → Result (Option (Vec ℕ Y)) ReadingRefused → Type 0
-ListIs file at (Ok (Some content)) = IsThere file at (top 7 content.items)
+ListIs file at (Ok (Some content)) = IsThere file at (top message_index_opcode content.items)
 ListIs file at (Ok None) = LacksList file at
 ListIs file at (Err (refusals.Fault faults)) = Unit {0}
 ListIs file at (Err (refusals.Grammar offset rule)) = ⊥
@@ -155,7 +155,7 @@ TellsList told len at result = (file : List ℕ) → told ≡ Some file → leng
 
 -- the content of the Message Index of that channel that stands there, or none does
 abbrev pub IndexIs : {Y : Type 0} → List ℕ → Spot → Result (Option (Vec ℕ Y)) ReadingRefused → Type 0
-IndexIs file spot (Ok (Some content)) = IsThere file spot.list (top 7 content.items) × ((entries : List (ℕ × ℕ)) × ShowsMessageIndex content.items spot.channel entries)
+IndexIs file spot (Ok (Some content)) = IsThere file spot.list (top message_index_opcode content.items) × ((entries : List (ℕ × ℕ)) × ShowsMessageIndex content.items spot.channel entries)
 IndexIs file spot (Ok None) = LacksIndex file spot.channel spot.list
 IndexIs file spot (Err (refusals.Fault faults)) = Unit {0}
 IndexIs file spot (Err (refusals.Grammar offset rule)) = ⊥
@@ -168,7 +168,7 @@ TellsIndex told len spot result = (file : List ℕ) → told ≡ Some file → l
 
 -- from the one count on no more was asked for than the Message Index that stands there, or the head of what does
 pub record ListAsked (file : List ℕ) (at before now : ℕ) : Type 0 where
-  pub there : (t : Top) → IsThere file at t → t.op ≡ 7 → now ≤ before + length (top_bytes t)
+  pub there : (t : Top) → IsThere file at t → t.op ≡ message_index_opcode → now ≤ before + length (top_bytes t)
   pub none : LacksList file at → now ≤ before + head_length
 
 abbrev pub AsksListAt : ℕ → ℕ → StoreState → StoreState → Type 0

@@ -7,11 +7,9 @@ ghost use Rattle.indexed_replay.specs.ReplayingSteps.{ReadingCause};
 
 use crate::fronts::{Front, read_front};
 use mcap_io::{Failed, Store};
-use mcap_model::ReadingRefused;
+use mcap_model::{ReadingRefused, Rule};
+use mcap_wire::HEAD_LENGTH;
 use rec_index::MESSAGE_INDEX;
-
-/// The bytes of a record in front of its content.
-const HEAD_LENGTH: u64 = 9;
 
 // Whether Message Indexes alone stand from one offset of a store of that length up to another. Only their heads are read.
 fn indexes_stand<T: Store>(
@@ -68,11 +66,11 @@ pub(crate) fn refuse_astray<T: Store>(
     match indexes_stand(store, len, end, list) {
         Ok(true) => return ReadingRefused::Grammar {
             offset: list,
-            rule: 9,
+            rule: Rule::V9,
         },
         Ok(false) => return ReadingRefused::Grammar {
             offset: at,
-            rule: 12,
+            rule: Rule::V12,
         },
         Err(why) => return why,
     }

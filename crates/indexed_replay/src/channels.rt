@@ -3,13 +3,10 @@ ghost use Rattle.std.specs.Prelude.{◌<◌, length, IfOk, OnOk};
 ghost use Rattle.indexed_replay.specs.Gathering.{FirstChannels, TakesChannel};
 
 use mcap_model::Tables;
-use mcap_wire::Memory;
+use mcap_wire::{HEAD_LENGTH, Memory};
 use rec_data::Channel;
 use std::alloc::Global;
 use summary_read::Loaded;
-
-/// The bytes of a record in front of its content.
-const HEAD_LENGTH: usize = 9;
 
 // Takes the Channel at that place, if none of its id was taken.
 fn take_channel(alloc: Global, tables: &mut Tables, loaded: &Loaded, i: usize) -> Result<(), Memory>
@@ -26,7 +23,7 @@ fn take_channel(alloc: Global, tables: &mut Tables, loaded: &Loaded, i: usize) -
         Ok(()) => {}
         Err(memory) => return Err(memory),
     }
-    let (_head, content) = record.split_at(HEAD_LENGTH);
+    let (_head, content) = record.split_at(HEAD_LENGTH as usize);
     match tables.channels.add(alloc, channel.id, content) {
         Ok(()) => return Ok(()),
         Err(memory) => return Err(memory),

@@ -15,15 +15,12 @@ use crate::fronts::{Front, read_front};
 use crate::lists::show_list;
 use crate::packings::take_packing;
 use crate::spots::{Request, Spot};
-use mcap_io::{Failed, ReadRefused, Store, read_part};
-use mcap_model::{IndexedRefused, NotIndexed, ReadingRefused};
-use mcap_wire::{Memory, Text, take_u32};
+use mcap_io::{Failed, OutsideRefused, Store, read_part};
+use mcap_model::{IndexedRefused, NotIndexed, ReadingRefused, Rule};
+use mcap_wire::{HEAD_LENGTH, Memory, Text, take_u32};
 use rec_index::{CHUNK, ChunkIndex};
 use std::alloc::Global;
 use time_player::Kept;
-
-/// The bytes of a record in front of its content.
-const HEAD_LENGTH: u64 = 9;
 
 /// How much of a chunk's content stands in front of its records, beside the compression: two times, the size, the CRC, and
 /// the lengths of the compression and of the records.
@@ -49,17 +46,17 @@ fn refuse_packed<T: Store>(
 {
     let missing = ReadingRefused::Grammar {
         offset: index,
-        rule: 12,
+        rule: Rule::V12,
     };
     let front_length = FRONT_LENGTH + name_length;
     let front = match read_part(alloc, store, offset + HEAD_LENGTH, front_length) {
         Ok(front) => front,
-        Err(ReadRefused::Failed) => {
+        Err(OutsideRefused::Failed) => {
             return ReadingRefused::Fault {
                 faults: store.faults(),
             };
         }
-        Err(ReadRefused::Memory) => return ReadingRefused::Memory,
+        Err(OutsideRefused::Memory) => return ReadingRefused::Memory,
     };
     let (name, size) = match take_packing(&front) {
         Ok(taken) => taken,
@@ -91,7 +88,7 @@ fn check_chunk<T: Store>(
 {
     let missing = ReadingRefused::Grammar {
         offset: index,
-        rule: 12,
+        rule: Rule::V12,
     };
     let mut front = [0; 49];
     let found = match read_front(store, len, offset, &mut front) {
@@ -154,7 +151,7 @@ fn show_names<T: Store>(
             return Err(IndexedRefused::Refused {
                 why: ReadingRefused::Grammar {
                     offset: at,
-                    rule: 12,
+                    rule: Rule::V12,
                 },
             });
         }

@@ -13,8 +13,8 @@ ghost use Rattle.time_player.specs.Keeping.{kept_in};
 use crate::entries::show_entries;
 use crate::fronts::{Front, read_front};
 use crate::spots::{Request, Spot};
-use mcap_io::{Failed, ReadRefused, Store, read_part};
-use mcap_model::{IndexedRefused, NotIndexed, Range, ReadingRefused, Tables, is_within};
+use mcap_io::{Failed, OutsideRefused, Store, read_part};
+use mcap_model::{IndexedRefused, NotIndexed, Range, ReadingRefused, Rule, Tables, is_within};
 use mcap_wire::{EntriesRef, Text};
 use rec_data::Channel;
 use rec_index::{MESSAGE_INDEX, MessageIndex};
@@ -53,12 +53,12 @@ fn read_list<T: Store>(
     }
     match read_part(alloc, store, at + 9, head.len) {
         Ok(content) => return Ok(Some(content)),
-        Err(ReadRefused::Failed) => {
+        Err(OutsideRefused::Failed) => {
             return Err(ReadingRefused::Fault {
                 faults: store.faults(),
             });
         }
-        Err(ReadRefused::Memory) => return Err(ReadingRefused::Memory),
+        Err(OutsideRefused::Memory) => return Err(ReadingRefused::Memory),
     }
 }
 
@@ -221,7 +221,7 @@ pub(crate) fn show_list<T: Store>(
             return Err(IndexedRefused::Refused {
                 why: ReadingRefused::Grammar {
                     offset: at,
-                    rule: 12,
+                    rule: Rule::V12,
                 },
             });
         }

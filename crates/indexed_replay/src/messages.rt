@@ -8,7 +8,7 @@ ghost use Rattle.time_player.specs.Keeping.{kept_in};
 
 use crate::fronts::{Front, read_front};
 use crate::spots::Spot;
-use mcap_io::{Failed, ReadRefused, Store};
+use mcap_io::{Failed, OutsideRefused, Store};
 use mcap_model::{Place, ReadingRefused};
 use rec_data::{MESSAGE, Message};
 use time_player::Kept;
@@ -72,11 +72,11 @@ pub(crate) fn add_message<T: Store>(
     }
     match shown.add_part_of(store, place, &message, at + 31, size) {
         Ok(()) => return Ok(true),
-        Err(ReadRefused::Failed) => {
+        Err(OutsideRefused::Failed) => {
             return Err(ReadingRefused::Fault {
                 faults: store.faults(),
             });
         }
-        Err(ReadRefused::Memory) => return Err(ReadingRefused::Memory),
+        Err(OutsideRefused::Memory) => return Err(ReadingRefused::Memory),
     }
 }

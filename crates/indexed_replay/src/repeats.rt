@@ -2,7 +2,7 @@
 ghost use Rattle.std.specs.Prelude.{◌≡◌, ◌≢◌, ◌↔◌, ◌<◌, length, IsTrue, IfOk};
 ghost use Rattle.indexed_replay.specs.Apart.{Leads, AreLeads, HaveOne, Ascend, FindsTwo, ApartJudged};
 
-use mcap_model::ReadingRefused;
+use mcap_model::{ReadingRefused, Rule};
 use mcap_wire::Memory;
 use std::alloc::Global;
 use summary_read::Loaded;
@@ -91,7 +91,10 @@ pub(crate) fn check_apart(alloc: Global, loaded: &Loaded) -> Result<(), ReadingR
     };
     leads.sort_unstable_by_key(|lead| lead.chunk);
     match find_two(&leads) {
-        Some(offset) => return Err(ReadingRefused::Grammar { offset, rule: 12 }),
+        Some(offset) => return Err(ReadingRefused::Grammar {
+            offset,
+            rule: Rule::V12,
+        }),
         None => return Ok(()),
     }
 }

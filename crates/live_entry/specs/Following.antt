@@ -1,6 +1,7 @@
 -- When the blocks of a file that is being written follow one another, and which messages they hold.
 use Rattle.std.specs.Prelude.{◌≡◌, ◌<◌, ℕ, List, [], ◌∷◌, ◌++◌, AllPairs, Option, Some}
 use Rattle.std.specs.List.{AllZip, flat_map}
+use Rattle.rec_index.specs.Records.{chunk_opcode, message_index_opcode}
 use Rattle.mcap_model.specs.Places.{At, Each}
 use Rattle.mcap_model.specs.Tops.{Top, Placed, spelled, inner_tops, placed_from}
 use Rattle.mcap_model.specs.Fields.{MessageFields, IsMessage, IsMessageIndex, IsHeader}
@@ -44,8 +45,8 @@ pub record HasMessageIndex (records : List Top) (channel : ℕ) : Type 0 where
 -- the bytes are one Chunk and a Message Index for each channel with a message in it
 pub record IsStretch (bytes : List ℕ) (s : Stretch) : Type 0 where
   pub spelled_as : bytes ≡ spelled (stretch_tops s)
-  pub chunk : s.chunk.op ≡ 6
-  pub indexes : Each (λ t. t.op ≡ 7) s.indexes
+  pub chunk : s.chunk.op ≡ chunk_opcode
+  pub indexes : Each (λ t. t.op ≡ message_index_opcode) s.indexes
   pub each : (channel : ℕ) → HasMessageOn (inner_tops s.chunk) channel → HasMessageIndex s.indexes channel
   pub only : (channel : ℕ) → HasMessageIndex s.indexes channel → HasMessageOn (inner_tops s.chunk) channel
 

@@ -31,6 +31,7 @@ use Rattle.mcap_model.proofs.Files.{body_tops, section_tops}
 use Rattle.mcap_model.proofs.Body.{CanStand, header_is, pieces_back, pieces_numbered, pieces_sound, standing}
 use Rattle.mcap_model.proofs.Prefixes.{prefixes_are_kept, ends_there}
 use Rattle.mcap_model.proofs.Fronts.{fronts_keep_whole}
+use Rattle.mcap_model.specs.declared.rules.Rule.TheVariants as rules
 use Rattle.mcap_laws.proofs.Scanned.{read_so}
 use Rattle.mcap_laws.proofs.Repairing.{pieces_no_extra, all_extra}
 
@@ -335,7 +336,7 @@ record HaltsCut (some : List ℕ) (tops : List Top) (k : ℕ) : Type 0 where
   whole_to_there : AreWhole some tops k
   cut : (t : Top) (more : List Top) → drop k tops ≡ t ∷ more → length some < offset_behind (take k tops ++ t ∷ [])
   complete : drop k tops ≡ [] → Halts reading_limits some (take k tops) (at_end (offset_behind (take k tops)))
-  short : (drop k tops ≡ [] → ⊥) → Halts reading_limits some (take k tops) (grammar (offset_behind (take k tops)) 4)
+  short : (drop k tops ≡ [] → ⊥) → Halts reading_limits some (take k tops) (grammar (offset_behind (take k tops)) rules.V4)
 
 halts_cut : (file some : List ℕ) (tops : List Top) → Halts reading_limits file tops (at_end (offset_behind tops)) → IsPrefix some file → V1 some → (k : ℕ) × HaltsCut some tops k
 halts_cut file some tops halts (behind, is) magic_there =
@@ -363,7 +364,7 @@ halts_cut file some tops halts (behind, is) magic_there =
               absurd (more (none_left k all))
           | inr (less, halts_there) ↦
               let same : w.whole ≡ take k tops = kept_once some w.whole (take k tops) halts_there.kept kept in
-              subst (λ (l : List Top). Halts reading_limits some l (grammar (offset_behind l) 4)) same halts_there
+              subst (λ (l : List Top). Halts reading_limits some l (grammar (offset_behind l) rules.V4)) same halts_there
         ];
       },
     )

@@ -9,8 +9,7 @@ pub fn good_from_the_front()
     ensures { GoodFromTheFront }
 {}
 
-/// Bytes decide what a reading of them keeps, and where and why it halts, but for the number of the rule where several
-/// are broken at once.
+/// Bytes decide what a reading of them keeps, and where and why it halts, but for the rule where several are broken at once.
 pub fn readings_halt_once()
     ensures { ReadingsHaltOnce }
 {}

@@ -22,6 +22,8 @@ use Rattle.mcap_model.specs.Made.{top}
 use Rattle.mcap_model.specs.Chunked.{flat_of, AgreeBehind, IsInner, BreaksInner, InnerTaken, AreWhole, AllTaken}
 use Rattle.mcap_model.proofs.Meets.{unknown_meets}
 use Rattle.mcap_model.proofs.Lists.{each_joined}
+use Rattle.mcap_model.specs.declared.rules.Rule.{Rule}
+use Rattle.mcap_model.specs.declared.rules.Rule.TheVariants as rules
 
 -- ---- kinds
 
@@ -153,9 +155,9 @@ walk_cut before records rest tables times inner was none some whole =
     nothing (b ∷ bs) few = absurd (omega (arith, few))
 
 -- a record at which it halts
-pub walk_halts : (before : List Top) (records rest : List ℕ) (tables : Tables) (times : Times) (inner : List Top) (at at_new : ℕ) (rest_new : List ℕ) (x : Inner) (rule : ℕ)
+pub walk_halts : (before : List Top) (records rest : List ℕ) (tables : Tables) (times : Times) (inner : List Top) (at at_new : ℕ) (rest_new : List ℕ) (x : Inner) (rule : Rule)
     → Walked before records rest tables times inner → StepsOver at rest at_new rest_new x → BreaksInner before inner (inner_top x) rule
-    → ((rule ≡ 7) × (AgreeBehind before (flat_of (records_in records)) → ⊥)) ⊎ ((rule ≡ 7 → ⊥) × (AreWhole records → ⊥))
+    → ((rule ≡ rules.V7) × (AgreeBehind before (flat_of (records_in records)) → ⊥)) ⊎ ((rule ≡ rules.V7 → ⊥) × (AreWhole records → ⊥))
 walk_halts before records rest tables times inner at at_new rest_new x rule was step breaks =
     let t = inner_top x in
     let there : records_in records ≡ inner ++ t ∷ records_in rest_new = was.found ∙ ap (λ (l : List Top). inner ++ l) step.first in

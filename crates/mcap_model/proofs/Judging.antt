@@ -27,6 +27,8 @@ use Rattle.mcap_model.proofs.Meets.{chunk_meets, unknown_meets}
 use Rattle.mcap_model.proofs.Agreeing.{but_metadata}
 use Rattle.mcap_model.proofs.Inside.{unknown_not_flat}
 use Rattle.mcap_model.proofs.Flat.{named_or, flat_more}
+use Rattle.mcap_model.specs.declared.rules.Rule.{Rule}
+use Rattle.mcap_model.specs.declared.rules.Rule.TheVariants as rules
 
 -- ---- flat records
 
@@ -115,7 +117,7 @@ unknown_fits first more op content tables high are =
     silent_keeps first more t tables (unknown_in_section op high) (λ e. omega (arith, e, high)) (λ e. omega (arith, e, high)) (flat_unknown t high) (unknown_meets t high) (no_v10 t (λ e. omega (arith, e, high))) are
 
 -- a broken rule of a record that is no chunk
-pub breaks_plain : (tops : List Top) (op n : ℕ) (content : List ℕ) (rule : ℕ) → op ≡ n → (n ≡ 6 → ⊥) → Breaks tops (top n content) rule → ((tops ≡ [] → ⊥) → NamesNoCompression (top op content)) × Breaks tops (top op content) rule
+pub breaks_plain : (tops : List Top) (op n : ℕ) (content : List ℕ) (rule : Rule) → op ≡ n → (n ≡ 6 → ⊥) → Breaks tops (top n content) rule → ((tops ≡ [] → ⊥) → NamesNoCompression (top op content)) × Breaks tops (top op content) rule
 breaks_plain tops op n content rule is closed breaks =
     subst (λ (m : ℕ). ((tops ≡ [] → ⊥) → NamesNoCompression (top m content)) × Breaks tops (top m content) rule) (sym is) ((λ some. not_chunk (top n content) closed), breaks)
 
@@ -170,7 +172,7 @@ chunk_judged first more content f tables rulings.Memory is plain taken =
       agrees = λ other. absurd (other refl);
     }
 
-pub chunk_unshown : (tops : List Top) (content : List ℕ) → ((f : ChunkFields) → IsChunk (top 6 content) f → ⊥) → ((tops ≡ [] → ⊥) → NamesNoCompression (top 6 content)) × Breaks tops (top 6 content) 6
+pub chunk_unshown : (tops : List Top) (content : List ℕ) → ((f : ChunkFields) → IsChunk (top 6 content) f → ⊥) → ((tops ≡ [] → ⊥) → NamesNoCompression (top 6 content)) × Breaks tops (top 6 content) rules.V6
 chunk_unshown tops content none = ((λ some name names. none names.shown names.is), breaks_6 (λ v6. let s = v6.chunk refl in none s.0 s.1))
 
 -- ---- a record that fits
@@ -213,11 +215,11 @@ other_section op a b c d e f g h low = grind (arith, common_steps)
 
 -- ---- tests
 
-pub judged_by : (tops : List Top) (t : Top) (tables : Tables) (b : Bool) (rule : ℕ) → (b ≡ true → JudgedAs tops t tables judged.Fits) → (b ≡ false → JudgedAs tops t tables (judged.Breaks rule)) → JudgedAs tops t tables (kept_or_breaks b rule)
+pub judged_by : (tops : List Top) (t : Top) (tables : Tables) (b : Bool) (rule : Rule) → (b ≡ true → JudgedAs tops t tables judged.Fits) → (b ≡ false → JudgedAs tops t tables (judged.Breaks rule)) → JudgedAs tops t tables (kept_or_breaks b rule)
 judged_by tops t tables true rule fits breaks = fits refl
 judged_by tops t tables false rule fits breaks = breaks refl
 
-pub attachment_broken : (tops : List Top) (op : ℕ) (content : List ℕ) (rule : ℕ) → op ≡ 9 → AttachmentJudged content (Some rule) → ((tops ≡ [] → ⊥) → NamesNoCompression (top op content)) × Breaks tops (top op content) rule
+pub attachment_broken : (tops : List Top) (op : ℕ) (content : List ℕ) (rule : Rule) → op ≡ 9 → AttachmentJudged content (Some rule) → ((tops ≡ [] → ⊥) → NamesNoCompression (top op content)) × Breaks tops (top op content) rule
 attachment_broken tops op content rule is (inl layout) =
     breaks_plain tops op 9 content rule is (λ e. omega (arith, e)) (subst (Breaks tops (top 9 content)) (sym layout.0) (breaks_6 (λ v6. let s = v6.attachment refl in let none = layout.1 in none s.0 s.1)))
 attachment_broken tops op content rule is (inr crc) =

@@ -26,6 +26,8 @@ use Rattle.mcap_model.proofs.Places.{at_none, each_more}
 use Rattle.mcap_model.proofs.Readings.{Begun, begun, length-top, halts_are_last}
 use Rattle.mcap_model.proofs.Histories.{header_meets}
 use Rattle.mcap_model.proofs.Prefixes.{next_stands}
+use Rattle.mcap_model.specs.declared.rules.Rule.{Rule}
+use Rattle.mcap_model.specs.declared.rules.Rule.TheVariants as rules
 
 -- ---- where a reading halts
 
@@ -45,7 +47,7 @@ pub none_good : Good reading_limits []
 none_good n t at = absurd (at_none n t at)
 
 -- bytes without the magic keep nothing
-pub unread : (bytes : List ℕ) → (V1 bytes → ⊥) → Halts reading_limits bytes [] (grammar 0 1)
+pub unread : (bytes : List ℕ) → (V1 bytes → ⊥) → Halts reading_limits bytes [] (grammar 0 rules.V1)
 unread bytes none = record {
   kept = record {
     stands = inl refl;
@@ -135,7 +137,7 @@ past_there bytes at tables tops was past =
     (subst (λ (n : ℕ). HaltsThere reading_limits tops (drop at bytes) (beyond n)) (sym was.place)
     (past_limit past.0 (subst (λ (n : ℕ). is_beyond reading_limits n (declared_length (drop at bytes)) ≡ true) was.place past.1)))
 
-grammar_there : (bytes : List ℕ) (at : ℕ) (tables : Tables) (tops : List Top) (rule : ℕ) → ReadTo bytes at tables tops → HaltsThere reading_limits tops (drop at bytes) (grammar (offset_behind tops) rule)
+grammar_there : (bytes : List ℕ) (at : ℕ) (tables : Tables) (tops : List Top) (rule : Rule) → ReadTo bytes at tables tops → HaltsThere reading_limits tops (drop at bytes) (grammar (offset_behind tops) rule)
     → (others : List Top) × Halts reading_limits bytes others (grammar at rule)
 grammar_there bytes at tables tops rule was there = (
   tops,
@@ -146,14 +148,14 @@ grammar_there bytes at tables tops rule was there = (
 pub uncut : (bytes : List ℕ) (at : ℕ) (tables : Tables) (tops : List Top) (fault : CutFault) → ReadTo bytes at tables tops → (HasOpcode (drop at bytes) × (is_beyond reading_limits at (declared_length (drop at bytes)) ≡ true) → ⊥) → CutFails bytes at fault
     → (others : List Top) × Halts reading_limits bytes others (grammar at (uncut_rule fault))
 uncut bytes at tables tops cut_faults.Short was near (inl few) =
-    grammar_there bytes at tables tops 4 was (short_head (lt-leb 9 (length (drop at bytes)) (omega (arith, length-drop at bytes, few))))
+    grammar_there bytes at tables tops rules.V4 was (short_head (lt-leb 9 (length (drop at bytes)) (omega (arith, length-drop at bytes, few))))
 uncut bytes at tables tops cut_faults.Short was near (inr (head, short, few)) =
     let opcode : HasOpcode (drop at bytes) = (head_there bytes at head.0, λ e. head.1 (sym (opcode_there bytes at) ∙ e)) in
     let declares = length_there bytes at in
     let cut : is_whole (drop at bytes) ≡ false = lt-leb (9 + declared_length (drop at bytes)) (length (drop at bytes)) (omega (arith, length-drop at bytes, few, declares)) in
-    grammar_there bytes at tables tops 4 was (cut_short (due_there tops (drop at bytes) at was.place opcode near) cut)
+    grammar_there bytes at tables tops rules.V4 was (cut_short (due_there tops (drop at bytes) at was.place opcode near) cut)
 uncut bytes at tables tops cut_faults.ZeroOp was near (enough, is) =
-    grammar_there bytes at tables tops 5 was (zero_opcode (head_there bytes at enough) (opcode_there bytes at ∙ is))
+    grammar_there bytes at tables tops rules.V5 was (zero_opcode (head_there bytes at enough) (opcode_there bytes at ∙ is))
 uncut bytes at tables tops (cut_faults.TooLong len) was near (head, is, long) =
     let opcode : HasOpcode (drop at bytes) = (head_there bytes at head.0, λ e. head.1 (sym (opcode_there bytes at) ∙ e)) in
     let within = within_there (drop at bytes) at (is_beyond reading_limits at (declared_length (drop at bytes))) refl opcode near in
@@ -174,7 +176,7 @@ cut_due bytes at c tops is place near =
     let front = cut_begun bytes at c is in
     due_there tops (drop at bytes) at place (front.head, λ (e : opcode (drop at bytes) ≡ 0). is.valid (sym front.op_is ∙ e)) near
 
-pub cut_broken : (bytes : List ℕ) (at : ℕ) (c : Cut) (tables : Tables) (tops : List Top) (rule : ℕ) → ReadTo bytes at tables tops → IsCut bytes at c → (HasOpcode (drop at bytes) × (is_beyond reading_limits at (declared_length (drop at bytes)) ≡ true) → ⊥)
+pub cut_broken : (bytes : List ℕ) (at : ℕ) (c : Cut) (tables : Tables) (tops : List Top) (rule : Rule) → ReadTo bytes at tables tops → IsCut bytes at c → (HasOpcode (drop at bytes) × (is_beyond reading_limits at (declared_length (drop at bytes)) ≡ true) → ⊥)
     → ((tops ≡ [] → ⊥) → NamesNoCompression (cut_top bytes c)) × Breaks tops (cut_top bytes c) rule → (others : List Top) × Halts reading_limits bytes others (grammar at rule)
 cut_broken bytes at c tables tops rule was is near (plain, breaks) =
     let front = cut_begun bytes at c is in

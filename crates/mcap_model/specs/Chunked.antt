@@ -10,6 +10,8 @@ use Rattle.mcap_model.specs.declared.tables.Ruling.TheVariants as rulings
 use Rattle.mcap_model.specs.declared.times.Times.{Times}
 use Rattle.mcap_model.specs.Declarations.{TablesOf}
 use Rattle.mcap_model.specs.Times.{TimesOf}
+use Rattle.mcap_model.specs.declared.rules.Rule.{Rule}
+use Rattle.mcap_model.specs.declared.rules.Rule.TheVariants as rules
 
 -- the Schemas, Channels and Messages among records
 abbrev pub flat_of : List Top → List Top
@@ -26,9 +28,9 @@ pub record IsInner (before inner : List Top) (t : Top) : Type 0 where
   pub agrees : is_flat_kind t ≡ true → Agrees (before ++ flat_of inner) t
 
 -- it breaks the rule on ids, or one on chunks
-abbrev pub BreaksInner : List Top → List Top → Top → ℕ → Type 0
-BreaksInner before inner t rule = ((rule ≡ 7) × (is_flat_kind t ≡ true) × (Agrees (before ++ flat_of inner) t → ⊥))
-    ⊎ ((rule ≡ 7 → ⊥) × (stands_in_chunk t.op ≡ true → V6 t → ⊥))
+abbrev pub BreaksInner : List Top → List Top → Top → Rule → Type 0
+BreaksInner before inner t rule = ((rule ≡ rules.V7) × (is_flat_kind t ≡ true) × (Agrees (before ++ flat_of inner) t → ⊥))
+    ⊎ ((rule ≡ rules.V7 → ⊥) × (stands_in_chunk t.op ≡ true → V6 t → ⊥))
 
 abbrev pub InnerTaken : List Top → List Top → Top → Tables → Result Times Ruling → Type 0
 InnerTaken before inner t tables (Ok times) = IsInner before inner t × TablesOf (before ++ flat_of (inner ++ t ∷ [])) tables × TimesOf (inner ++ t ∷ []) times
@@ -45,10 +47,10 @@ pub record AreWhole (bytes : List ℕ) : Type 0 where
 abbrev pub AllTaken : List Top → List ℕ → Tables → Result Times Ruling → Type 0
 AllTaken before bytes tables (Ok times) = AreWhole bytes × AgreeBehind before (flat_of (records_in bytes)) × TablesOf (before ++ flat_of (records_in bytes)) tables × TimesOf (records_in bytes) times
 AllTaken before bytes tables (Err rulings.Fits) = ⊥
-AllTaken before bytes tables (Err (rulings.Breaks rule)) = ((rule ≡ 7) × (AgreeBehind before (flat_of (records_in bytes)) → ⊥)) ⊎ ((rule ≡ 7 → ⊥) × (AreWhole bytes → ⊥))
+AllTaken before bytes tables (Err (rulings.Breaks rule)) = ((rule ≡ rules.V7) × (AgreeBehind before (flat_of (records_in bytes)) → ⊥)) ⊎ ((rule ≡ rules.V7 → ⊥) × (AreWhole bytes → ⊥))
 AllTaken before bytes tables (Err rulings.Memory) = Unit {0}
 
 abbrev pub ChunkTaken : List Top → ChunkFields → Tables → Ruling → Type 0
 ChunkTaken before f tables rulings.Fits = ChunkIsRight f × AgreeBehind before (flat_of (records_in f.records)) × TablesOf (before ++ flat_of (records_in f.records)) tables
-ChunkTaken before f tables (rulings.Breaks rule) = ((rule ≡ 7) × (AgreeBehind before (flat_of (records_in f.records)) → ⊥)) ⊎ ((rule ≡ 8) × (ChunkIsRight f → ⊥))
+ChunkTaken before f tables (rulings.Breaks rule) = ((rule ≡ rules.V7) × (AgreeBehind before (flat_of (records_in f.records)) → ⊥)) ⊎ ((rule ≡ rules.V8) × (ChunkIsRight f → ⊥))
 ChunkTaken before f tables rulings.Memory = HasSizeAndCrc f

@@ -1,5 +1,6 @@
 -- What a scanner knows of the Schemas and Channels so far, and how it judges one more record.
 use Rattle.std.specs.Prelude.{◌≡◌, ◌⊎◌, ℕ, List, ◌∷◌, [], ◌++◌, Option, Some, None, Result, Ok, Err}
+use Rattle.rec_data.specs.Records.{attachment_opcode}
 use Rattle.mcap_model.specs.Places.{At, Has}
 use Rattle.mcap_model.specs.Tops.{Top}
 use Rattle.mcap_model.specs.Fields.{IsSchema, SameChannel, IsChannel, MessageFields, IsMessage, AttachmentFields, IsAttachment}
@@ -9,6 +10,8 @@ use Rattle.mcap_model.specs.declared.tables.Tables.{Tables}
 use Rattle.mcap_model.specs.declared.tables.Ruling.{Ruling}
 use Rattle.mcap_model.specs.declared.tables.Ruling.TheVariants as rulings
 use Rattle.mcap_model.specs.Made.{top}
+use Rattle.mcap_model.specs.declared.rules.Rule.{Rule}
+use Rattle.mcap_model.specs.declared.rules.Rule.TheVariants as rules
 use denote.Ref.{Bor}
 use Rattle.mcap_model.specs.WantsOfMemory.{AgreesButMetadata}
 
@@ -36,8 +39,8 @@ pub record TablesOf (records : List Top) (tables : Tables) : Type 0 where
 -- ---- a Schema, a Channel or a Message more
 
 -- the record breaks the rule on layouts, or the one on ids
-abbrev pub BreaksFlat : List Top → Top → ℕ → Type 0
-BreaksFlat records t rule = ((rule ≡ 6) × (V6 t → ⊥)) ⊎ ((rule ≡ 7) × V6 t × (Agrees records t → ⊥))
+abbrev pub BreaksFlat : List Top → Top → Rule → Type 0
+BreaksFlat records t rule = ((rule ≡ rules.V6) × (V6 t → ⊥)) ⊎ ((rule ≡ rules.V7) × V6 t × (Agrees records t → ⊥))
 
 -- Memory lacks only for a record that breaks no rule as far as that is told without memory.
 abbrev pub Judges : List Top → Top → Tables → Ruling → Type 0
@@ -57,12 +60,12 @@ pub record IsHeard (records : List Top) (t : Top) (time : ℕ) : Type 0 where
   pub then : message.log_time ≡ time
   pub agrees : Agrees records t
 
-abbrev pub Hears : List Top → Top → Result ℕ ℕ → Type 0
+abbrev pub Hears : List Top → Top → Result ℕ Rule → Type 0
 Hears records t (Ok time) = IsHeard records t time
 Hears records t (Err rule) = BreaksFlat records t rule
 
 -- ---- an Attachment
 
-abbrev pub AttachmentJudged : List ℕ → Option ℕ → Type 0
-AttachmentJudged content None = ((f : AttachmentFields) × IsAttachment (top 9 content) f) × V10 (top 9 content)
-AttachmentJudged content (Some rule) = ((rule ≡ 6) × ((f : AttachmentFields) → IsAttachment (top 9 content) f → ⊥)) ⊎ ((rule ≡ 10) × (V10 (top 9 content) → ⊥))
+abbrev pub AttachmentJudged : List ℕ → Option Rule → Type 0
+AttachmentJudged content None = ((f : AttachmentFields) × IsAttachment (top attachment_opcode content) f) × V10 (top attachment_opcode content)
+AttachmentJudged content (Some rule) = ((rule ≡ rules.V6) × ((f : AttachmentFields) → IsAttachment (top attachment_opcode content) f → ⊥)) ⊎ ((rule ≡ rules.V10) × (V10 (top attachment_opcode content) → ⊥))

@@ -1,5 +1,5 @@
 -- How a record of the top level is judged behind those before it.
-use Rattle.std.specs.Prelude.{◌≡◌, ℕ, List, ◌∷◌, [], ◌++◌, Bool, true, false}
+use Rattle.std.specs.Prelude.{◌≡◌, List, ◌∷◌, [], ◌++◌, Bool, true, false}
 use Rattle.mcap_model.specs.Tops.{Top, flat}
 use Rattle.mcap_model.specs.Fields.{IsHeader}
 use Rattle.mcap_model.specs.Rules.{V3, V5, V6, V7, V8, V10, Breaks}
@@ -10,6 +10,8 @@ use Rattle.mcap_model.specs.declared.tables.Ruling.TheVariants as rulings
 use Rattle.mcap_model.specs.declared.tops.Judged.{Judged}
 use Rattle.mcap_model.specs.declared.tops.Judged.TheVariants as judged
 use Rattle.mcap_model.specs.Declarations.{TablesOf}
+use Rattle.mcap_model.specs.declared.rules.Rule.{Rule}
+use Rattle.mcap_model.specs.declared.rules.Rule.TheVariants as rules
 use Rattle.mcap_model.specs.WantsOfMemory.{NamesNoCompression, MayWantMemory}
 
 -- a ruling is one on a record of the top level
@@ -19,7 +21,7 @@ as_judged (rulings.Breaks rule) = judged.Breaks rule
 as_judged rulings.Memory = judged.Memory
 
 -- it fits where the test says so, and else breaks that rule
-abbrev pub kept_or_breaks : Bool → ℕ → Judged
+abbrev pub kept_or_breaks : Bool → Rule → Judged
 kept_or_breaks true rule = judged.Fits
 kept_or_breaks false rule = judged.Breaks rule
 
@@ -44,6 +46,6 @@ JudgedAs tops t tables judged.Memory = MayWantMemory tops t
 -- the first record is a Header
 abbrev pub FirstJudged : Top → Judged → Type 0
 FirstJudged t judged.Fits = IsHeader t
-FirstJudged t (judged.Breaks rule) = (rule ≡ 3) × (IsHeader t → ⊥)
+FirstJudged t (judged.Breaks rule) = (rule ≡ rules.V3) × (IsHeader t → ⊥)
 FirstJudged t (judged.Compressed name) = ⊥
 FirstJudged t judged.Memory = ⊥

@@ -3,10 +3,10 @@ use Rattle.std.specs.Prelude.{◌≡◌, ◌⊎◌, ◌↔◌, ℕ, suc, ◌^◌
 use Rattle.std.specs.List.{AllZip}
 use Rattle.mcap_wire.specs.Layout.{content_limit}
 use Rattle.mcap_wire.specs.Limits.{chunk_size_limit, file_limit}
-use Rattle.rec_data.specs.Records.{header_text}
+use Rattle.rec_data.specs.Records.{header_text, header_opcode, attachment_opcode, metadata_opcode}
 use Rattle.rec_data.specs.declared.owned.Rec.{Rec}
 use Rattle.rec_data.specs.Owned.{rec_text}
-use Rattle.rec_index.specs.Records.{attachment_index_text, metadata_index_text}
+use Rattle.rec_index.specs.Records.{attachment_index_text, metadata_index_text, chunk_opcode, message_index_opcode}
 use Rattle.mcap_model.specs.declared.replay.Range.{Range}
 use Rattle.mcap_model.specs.declared.options.FileOptions.{FileOptions}
 use Rattle.mcap_model.specs.Places.{Has, Each, EachBehind}
@@ -28,6 +28,8 @@ use Rattle.mcap_model.specs.Whole.{count_of, IsWhole}
 use Rattle.mcap_model.specs.Valid.{IsFullyIndexed, Flaw, Valid}
 use Rattle.mcap_model.specs.Repaired.{Repaired}
 use Rattle.mcap_model.specs.Led.{Led, LedReplay}
+use Rattle.mcap_model.specs.declared.rules.Rule.{Rule}
+use Rattle.mcap_model.specs.declared.rules.Rule.TheVariants as rules
 use Rattle.mcap_model.specs.ReadBack.{IsReadBack, IsExtra}
 
 abbrev pub IsValid : List ℕ → Type 0
@@ -42,7 +44,7 @@ pub record IsFound (t : Top) : Type 0 where
 abbrev pub GoodFromTheFront : Type 0
 GoodFromTheFront = (limits : Limits) (tops more : List Top) → Good limits (tops ++ more) → Good limits tops
 
--- bytes have one longest good list, and a reading of them halts at one place, for one reason but for the rule's number
+-- bytes have one longest good list, and a reading of them halts at one place, for one reason but for the rule
 abbrev pub ReadingsHaltOnce : Type 0
 ReadingsHaltOnce = (bytes : List ℕ) (tops others : List Top) (a b : Halt)
     → Halts reading_limits bytes tops a → Halts reading_limits bytes others b → (tops ≡ others) × SameHalt a b
@@ -63,7 +65,7 @@ pub record KeepsWhole (front : List ℕ) (tops : List Top) : Type 0 where
   pub others : List Top
   pub joined : tops ≡ whole ++ others
   pub halts : ((others ≡ []) × Halts reading_limits front whole (at_end (offset_behind whole)))
-      ⊎ ((length front < offset_behind tops) × Halts reading_limits front whole (grammar (offset_behind whole) 4))
+      ⊎ ((length front < offset_behind tops) × Halts reading_limits front whole (grammar (offset_behind whole) rules.V4))
 
 -- a front of bytes with good records up to the Data End keeps those of them that are whole in it
 abbrev pub FrontsKeepWhole : Type 0
@@ -87,7 +89,7 @@ abbrev pub IsNumberedRec : Rec → Type 0
 IsNumberedRec r = (id : ℕ) (f : SchemaFields) → r ≡ schema_of id f → id ≡ 0 → ⊥
 
 abbrev pub chunk_top : List Rec → Top
-chunk_top history = record { op = 6; content = chunk_content history }
+chunk_top history = record { op = chunk_opcode; content = chunk_content history }
 
 -- the Chunk that is written of records is right, and its records are theirs
 abbrev pub ChunksAreWritten : Type 0
@@ -97,7 +99,7 @@ ChunksAreWritten = (history : List Rec) → Each IsReadBack history → Each (λ
 
 -- a Message Index of a block
 abbrev pub index_top : List Rec → ℕ → Top
-index_top records channel = record { op = 7; content = index_content records channel }
+index_top records channel = record { op = message_index_opcode; content = index_content records channel }
 
 -- the Message Indexes that are written of records are those of their channels, and have their entries
 abbrev pub IndexesAreWritten : Type 0
@@ -151,8 +153,8 @@ pub record CanBeWritten (options : FileOptions) (extras : List Top) (history : L
   pub extras_meet : Each IsExtra extras
   pub entries_fit : Each EntriesFit (blocks_in (pieces_of options.chunk history))
   pub few_blocks : length (blocks_in (pieces_of options.chunk history)) < 2 ^ 32
-  pub few_attachments : count_of 9 extras < 2 ^ 32
-  pub few_metadata : count_of 12 extras < 2 ^ 32
+  pub few_attachments : count_of attachment_opcode extras < 2 ^ 32
+  pub few_metadata : count_of metadata_opcode extras < 2 ^ 32
   pub size_fits : length (file_of options extras history) < 2 ^ 64
 
 -- the content that is written of a piece may be read; a Message Index is shorter than its chunk
@@ -184,7 +186,7 @@ RepairsAreOne = (bytes profile other_profile : List ℕ) (extras other_extras : 
 
 -- no rule fails in a valid file
 abbrev pub FlawsExcludeValidity : Type 0
-FlawsExcludeValidity = (file : List ℕ) (rule offset : ℕ) → Flaw file rule offset → IsValid file → ⊥
+FlawsExcludeValidity = (file : List ℕ) (rule : Rule) (offset : ℕ) → Flaw file rule offset → IsValid file → ⊥
 
 -- a file is read to its Data End, and its messages are those of the history, in order
 abbrev pub FilesAreScanned : Type 0
@@ -222,7 +224,7 @@ PrefixesAreKept = (bytes some : List ℕ) (tops : List Top) (end : ℕ) → Halt
 
 -- the ids of a history agree where its records are a good list behind a Header
 abbrev pub GoodHistoriesAgree : Type 0
-GoodHistoriesAgree = (header : Top) (history : List Rec) → Each IsReadBack history → header.op ≡ 1 → Good reading_limits (header ∷ map rec_top history)
+GoodHistoriesAgree = (header : Top) (history : List Rec) → Each IsReadBack history → header.op ≡ header_opcode → Good reading_limits (header ∷ map rec_top history)
     → IdsAgree history × Each IsNumberedRec history
 
 -- ---- the pieces of a file

@@ -3,6 +3,7 @@
 use Rattle.std.specs.Prelude.{◌≡◌, ◌≢◌, ℕ, ◌+◌, ◌-◌, ◌^◌, ◌<◌, ◌≤◌, List, ◌++◌, length, take, drop, filter, sum, Bool, ◌&&◌, ◌==◌, nat_lt, nat_le, true, Option, Some, None, AllPairs}
 use Rattle.std.specs.List.{AllZip}
 use Rattle.mcap_wire.specs.Layout.{number, magic, part}
+use Rattle.rec_index.specs.Records.{chunk_index_opcode}
 use Rattle.mcap_model.specs.declared.replay.Range.{Range}
 use Rattle.mcap_model.specs.Places.{At, Has, Each}
 use Rattle.mcap_model.specs.Tops.{Top, top_bytes, spelled, StandsIn, inner_tops}
@@ -120,7 +121,7 @@ pub record AskedBound (file : List ℕ) (range : Range) (bound : ℕ) : Type 0 w
   pub summary : List Top
   pub has : HasSummary file start summary
   pub indexes : List ChunkIndexFields
-  pub are_indexes : AllZip IsChunkIndex (filter (λ t. t.op == 8) summary) indexes
+  pub are_indexes : AllZip IsChunkIndex (filter (λ t. t.op == chunk_index_opcode) summary) indexes
   pub costs : List ℕ
   pub are_costs : AllZip (ChunkCosts file range) indexes costs
   pub sum_is : bound ≡ 8 + length (top_bytes header) + 37 + length (spelled summary) + sum costs

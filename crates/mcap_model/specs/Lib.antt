@@ -17,6 +17,7 @@ pub mod Repaired
 pub mod Merged
 pub mod Pieces
 pub mod ReadBack
+pub mod RuleNumbers
 pub mod Showing
 pub mod Valid
 pub mod WantsOfMemory

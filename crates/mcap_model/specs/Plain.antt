@@ -6,6 +6,7 @@ use Rattle.mcap_wire.specs.declared.faults.Cut.{Cut}
 use Rattle.mcap_wire.specs.declared.faults.CutFault.{CutFault}
 use Rattle.mcap_wire.specs.declared.faults.CutFault.TheVariants as cut_faults
 use Rattle.mcap_wire.specs.Layout.{part}
+use Rattle.rec_data.specs.Records.{message_opcode}
 use Rattle.mcap_model.specs.declared.replay.Place.{Place}
 use Rattle.mcap_model.specs.declared.replay.Range.{Range}
 use Rattle.mcap_model.specs.declared.replay.Shown.{Shown}
@@ -24,6 +25,8 @@ use Rattle.mcap_model.specs.Scan.{Seen, Scan, is_message_top, is_within}
 use Rattle.mcap_model.specs.Declarations.{TablesOf}
 use Rattle.mcap_model.specs.Made.{top}
 use Rattle.mcap_model.specs.Showing.{Shows}
+use Rattle.mcap_model.specs.declared.rules.Rule.{Rule}
+use Rattle.mcap_model.specs.declared.rules.Rule.TheVariants as rules
 use denote.Ref.{Bor}
 
 -- ---- the scan
@@ -82,10 +85,10 @@ PlainRecordTaken bytes at tops tables (Ok c) = TakesRecord bytes at tops tables 
 PlainRecordTaken bytes at tops tables (Err why) = IsRefused bytes why
 
 -- the rule that a record breaks which can't be cut: it is cut short, or its opcode is 0
-abbrev pub uncut_rule : CutFault → ℕ
-uncut_rule cut_faults.Short = 4
-uncut_rule cut_faults.ZeroOp = 5
-uncut_rule (cut_faults.TooLong len) = 4
+abbrev pub uncut_rule : CutFault → Rule
+uncut_rule cut_faults.Short = rules.V4
+uncut_rule cut_faults.ZeroOp = rules.V5
+uncut_rule (cut_faults.TooLong len) = rules.V4
 
 -- ---- the messages of a record
 
@@ -101,7 +104,7 @@ pub record AddsThose (records : List Placed) (old new : List Shown) : Type 0 whe
   pub shows : AllZip IsShown (filter (λ p. is_message_top p.top) records) more
 
 abbrev pub AddsMessage : Place → List ℕ → List Shown → List Shown → Type 0
-AddsMessage place content old new = V6 (top 5 content) → AddsThose (record { place = place; top = top 5 content } ∷ []) old new
+AddsMessage place content old new = V6 (top message_opcode content) → AddsThose (record { place = place; top = top message_opcode content } ∷ []) old new
 
 abbrev pub AddsInside : ℕ → List ℕ → List Shown → List Shown → Type 0
 AddsInside offset records old new = Each V6 (records_in records) → AddsThose (placed_inside offset 0 (records_in records)) old new

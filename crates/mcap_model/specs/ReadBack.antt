@@ -1,5 +1,6 @@
 -- Which extras a file may have, and that it is read back.
 use Rattle.std.specs.Prelude.{◌≡◌, ◌⊎◌}
+use Rattle.rec_data.specs.Records.{attachment_opcode, metadata_opcode}
 use Rattle.rec_data.specs.declared.owned.Rec.{Rec}
 use Rattle.rec_data.specs.Owned.{rec_opcode, rec_text, ShowsRec}
 use Rattle.mcap_model.specs.Tops.{Top}
@@ -11,6 +12,6 @@ IsReadBack r = ShowsRec (rec_opcode r) (rec_text r) r
 
 -- an Attachment or a Metadata that meets its layout, and V10
 pub record IsExtra (t : Top) : Type 0 where
-  pub kind : (t.op ≡ 9) ⊎ (t.op ≡ 12)
+  pub kind : (t.op ≡ attachment_opcode) ⊎ (t.op ≡ metadata_opcode)
   pub v6 : V6 t
   pub v10 : V10 t

@@ -4,6 +4,7 @@ use Rattle.std.specs.List.{AllZip, flat_map}
 use Rattle.mcap_wire.specs.Limits.{chunk_size_limit, block_limit, file_limit}
 use Rattle.rec_data.specs.declared.owned.Rec.{Rec}
 use Rattle.rec_data.specs.Owned.{rec_bytes}
+use Rattle.rec_data.specs.Records.{attachment_opcode, metadata_opcode}
 use Rattle.mcap_model.specs.declared.options.FileOptions.{FileOptions}
 use Rattle.mcap_model.specs.Places.{At}
 use Rattle.mcap_model.specs.Tops.{Top, Tops, offset_behind}
@@ -16,6 +17,7 @@ use Rattle.mcap_model.specs.File.{front, section, file_of, IsPrefix}
 use Rattle.mcap_model.specs.Whole.{count_of}
 use Rattle.mcap_model.specs.Laws.{HoldsSeen, CanBeWritten, CanBeRead}
 use Rattle.mcap_model.specs.Repaired.{Repairs, Repaired}
+use Rattle.mcap_model.specs.declared.rules.Rule.TheVariants as rules
 
 -- a first part of a list
 abbrev pub IsFirstOf : {X : Type 0} → List X → List X → Type 0
@@ -27,7 +29,7 @@ abbrev pub RepairsCanBeWritten : Type 0
 RepairsCanBeWritten = (options : FileOptions) (tops extras : List Top) (history : List Rec) (size : ℕ)
     → Good reading_limits tops → Repairs tops options.profile extras history → options.chunk ≡ Some size → 0 < size → size ≤ chunk_size_limit
     → length (blocks_in (pieces_of options.chunk history)) ≤ block_limit → length (file_of options extras history) ≤ file_limit
-    → count_of 9 extras < 2 ^ 32 → count_of 12 extras < 2 ^ 32 → CanBeWritten options extras history
+    → count_of attachment_opcode extras < 2 ^ 32 → count_of metadata_opcode extras < 2 ^ 32 → CanBeWritten options extras history
 
 -- The messages of what is repaired are those of the scan of the records, all of them, in order.
 abbrev pub RepairsKeepMessages : Type 0
@@ -78,7 +80,7 @@ pub record FrontIsRepaired (options : FileOptions) (extras : List Top) (history 
   pub within : offset_behind whole ≤ length some
   pub cut : (t : Top) (more : List Top) → others ≡ t ∷ more → length some < offset_behind (whole ++ t ∷ [])
   pub complete : others ≡ [] → Halts reading_limits some whole (at_end (offset_behind whole))
-  pub short : (others ≡ [] → ⊥) → Halts reading_limits some whole (grammar (offset_behind whole) 4)
+  pub short : (others ≡ [] → ⊥) → Halts reading_limits some whole (grammar (offset_behind whole) rules.V4)
   pub profile : List ℕ
   pub kept : List Top
   pub first : List Rec

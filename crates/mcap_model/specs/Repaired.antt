@@ -1,6 +1,7 @@
 -- What is kept of a file that may be broken, as a profile, extras and a history.
 use Rattle.std.specs.Prelude.{◌≡◌, ℕ, List, [], ◌∷◌, filter, Bool, ◌==◌, ◌||◌}
 use Rattle.rec_data.specs.declared.owned.Rec.{Rec}
+use Rattle.rec_data.specs.Records.{attachment_opcode, metadata_opcode}
 use Rattle.mcap_model.specs.Tops.{Top}
 use Rattle.mcap_model.specs.Fields.{IsHeader}
 use Rattle.mcap_model.specs.Kept.{Kept, reading_limits}
@@ -9,7 +10,7 @@ use Rattle.mcap_model.specs.Written.{AreFlatRecords}
 
 -- an Attachment or a Metadata
 abbrev pub is_extra : Top → Bool
-is_extra t = (t.op == 9) || (t.op == 12)
+is_extra t = (t.op == attachment_opcode) || (t.op == metadata_opcode)
 
 -- the profile of the Header, or none where there is no record
 abbrev pub ProfileIs : List Top → List ℕ → Type 0

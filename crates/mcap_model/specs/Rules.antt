@@ -6,9 +6,12 @@ use Rattle.mcap_crc.specs.Remainder.{remainder}
 use Rattle.mcap_model.specs.Fields.{ChunkFields, IsHeader, IsDataEnd, SchemaFields, IsSchema, ChannelFields, SameChannel, IsChannel, MessageFields, IsMessage, IsChunk, IsMessageIndex, ChunkIndexFields, IsChunkIndex, AttachmentFields, IsAttachment, IsMetadata, AttachmentIndexFields, IsAttachmentIndex, IsMetadataIndex, StatisticsFields, IsStatistics, IsSummaryOffset, IsFooter}
 use Rattle.std.specs.List.{list_any}
 use Rattle.mcap_wire.specs.Layout.{magic}
-use Rattle.rec_data.specs.Records.{CrcStandsAt}
+use Rattle.rec_data.specs.Records.{CrcStandsAt, header_opcode, footer_opcode, schema_opcode, channel_opcode, message_opcode, attachment_opcode, metadata_opcode, data_end_opcode}
+use Rattle.rec_index.specs.Records.{chunk_opcode, message_index_opcode, chunk_index_opcode, attachment_index_opcode, statistics_opcode, metadata_index_opcode, summary_offset_opcode}
 use Rattle.mcap_model.specs.Places.{At, Each}
 use Rattle.mcap_model.specs.Tops.{Top, spelled, records_in, flattened, flat}
+use Rattle.mcap_model.specs.declared.rules.Rule.{Rule}
+use Rattle.mcap_model.specs.declared.rules.Rule.TheVariants as rules
 
 -- ---- V1: the file begins with the magic
 
@@ -26,14 +29,14 @@ V3 (x ∷ xs) t = Unit {0}
 
 abbrev pub HasDataEnd : List Top → Type 0
 HasDataEnd [] = ⊥
-HasDataEnd (t ∷ ts) = (t.op ≡ 15) ⊎ HasDataEnd ts
+HasDataEnd (t ∷ ts) = (t.op ≡ data_end_opcode) ⊎ HasDataEnd ts
 
 -- An opcode from 16 on is unknown here and passed over: MCAP reserves those up to 127 and leaves the others to applications.
 abbrev pub is_unknown : ℕ → Bool
 is_unknown op = nat_le 16 op
 
 abbrev pub stands_in_section : ℕ → Bool
-stands_in_section op = list_any (λ kind. kind == op) (3 ∷ 4 ∷ 5 ∷ 6 ∷ 7 ∷ 9 ∷ 12 ∷ 15 ∷ []) || is_unknown op
+stands_in_section op = list_any (λ kind. kind == op) (schema_opcode ∷ channel_opcode ∷ message_opcode ∷ chunk_opcode ∷ message_index_opcode ∷ attachment_opcode ∷ metadata_opcode ∷ data_end_opcode ∷ []) || is_unknown op
 
 abbrev pub V5 : List Top → Top → Type 0
 V5 [] t = t.op ≡ 0 → ⊥
@@ -42,21 +45,21 @@ V5 (x ∷ xs) t = (t.op ≡ 0 → ⊥) × (HasDataEnd (x ∷ xs) ⊎ (stands_in_
 -- ---- V6: a known record's content meets its layout
 
 pub record V6 (t : Top) : Type 0 where
-  pub header : t.op ≡ 1 → IsHeader t
-  pub footer : t.op ≡ 2 → (summary offsets crc : ℕ) × IsFooter t summary offsets crc
-  pub schema : t.op ≡ 3 → (id : ℕ) × (f : SchemaFields) × IsSchema t id f
-  pub channel : t.op ≡ 4 → (id : ℕ) × (f : ChannelFields) × IsChannel t id f
-  pub message : t.op ≡ 5 → (channel : ℕ) × (m : MessageFields) × IsMessage t channel m
-  pub chunk : t.op ≡ 6 → (f : ChunkFields) × IsChunk t f
-  pub message_index : t.op ≡ 7 → (channel : ℕ) × (entries : List (ℕ × ℕ)) × IsMessageIndex t channel entries
-  pub chunk_index : t.op ≡ 8 → (f : ChunkIndexFields) × IsChunkIndex t f
-  pub attachment : t.op ≡ 9 → (f : AttachmentFields) × IsAttachment t f
-  pub attachment_index : t.op ≡ 10 → (f : AttachmentIndexFields) × IsAttachmentIndex t f
-  pub statistics : t.op ≡ 11 → (f : StatisticsFields) × IsStatistics t f
-  pub metadata : t.op ≡ 12 → (name : List ℕ) × (pairs : List (List ℕ × List ℕ)) × IsMetadata t name pairs
-  pub metadata_index : t.op ≡ 13 → (offset size : ℕ) × (name : List ℕ) × IsMetadataIndex t offset size name
-  pub summary_offset : t.op ≡ 14 → (op offset size : ℕ) × IsSummaryOffset t op offset size
-  pub data_end : t.op ≡ 15 → IsDataEnd t
+  pub header : t.op ≡ header_opcode → IsHeader t
+  pub footer : t.op ≡ footer_opcode → (summary offsets crc : ℕ) × IsFooter t summary offsets crc
+  pub schema : t.op ≡ schema_opcode → (id : ℕ) × (f : SchemaFields) × IsSchema t id f
+  pub channel : t.op ≡ channel_opcode → (id : ℕ) × (f : ChannelFields) × IsChannel t id f
+  pub message : t.op ≡ message_opcode → (channel : ℕ) × (m : MessageFields) × IsMessage t channel m
+  pub chunk : t.op ≡ chunk_opcode → (f : ChunkFields) × IsChunk t f
+  pub message_index : t.op ≡ message_index_opcode → (channel : ℕ) × (entries : List (ℕ × ℕ)) × IsMessageIndex t channel entries
+  pub chunk_index : t.op ≡ chunk_index_opcode → (f : ChunkIndexFields) × IsChunkIndex t f
+  pub attachment : t.op ≡ attachment_opcode → (f : AttachmentFields) × IsAttachment t f
+  pub attachment_index : t.op ≡ attachment_index_opcode → (f : AttachmentIndexFields) × IsAttachmentIndex t f
+  pub statistics : t.op ≡ statistics_opcode → (f : StatisticsFields) × IsStatistics t f
+  pub metadata : t.op ≡ metadata_opcode → (name : List ℕ) × (pairs : List (List ℕ × List ℕ)) × IsMetadata t name pairs
+  pub metadata_index : t.op ≡ metadata_index_opcode → (offset size : ℕ) × (name : List ℕ) × IsMetadataIndex t offset size name
+  pub summary_offset : t.op ≡ summary_offset_opcode → (op offset size : ℕ) × IsSummaryOffset t op offset size
+  pub data_end : t.op ≡ data_end_opcode → IsDataEnd t
 
 -- ---- V7: the Schemas of one id have equal fields, and so have its Channels; a Channel stands behind its schema, if it
 -- has one, and a Message behind its channel
@@ -105,7 +108,7 @@ abbrev pub TimesAre : List Top → ℕ → ℕ → Type 0
 TimesAre records start end = (time : ℕ) → LogsAt records time → (start ≤ time) × (time ≤ end) × LogsAt records start × LogsAt records end
 
 abbrev pub stands_in_chunk : ℕ → Bool
-stands_in_chunk op = list_any (λ kind. kind == op) (3 ∷ 4 ∷ 5 ∷ []) || is_unknown op
+stands_in_chunk op = list_any (λ kind. kind == op) (schema_opcode ∷ channel_opcode ∷ message_opcode ∷ []) || is_unknown op
 
 pub record ChunkIsRight (f : ChunkFields) : Type 0 where
   pub size : f.size ≡ length f.records
@@ -122,16 +125,16 @@ V8 t = (f : ChunkFields) → IsChunk t f → f.compression ≡ [] → ChunkIsRig
 -- ---- V10: the CRC of an Attachment is 0, or that of the fields before it
 
 abbrev pub V10 : Top → Type 0
-V10 t = (f : AttachmentFields) (place : ℕ) → t.op ≡ 9 → CrcStandsAt t.content place f → (f.crc ≡ 0) ⊎ (f.crc ≡ remainder (take place t.content))
+V10 t = (f : AttachmentFields) (place : ℕ) → t.op ≡ attachment_opcode → CrcStandsAt t.content place f → (f.crc ≡ 0) ⊎ (f.crc ≡ remainder (take place t.content))
 
--- the record breaks the rule of that number
-pub data Breaks (before : List Top) (t : Top) : ℕ → Type 0 where
-  breaks_3 : (V3 before t → ⊥) → Breaks before t 3
-  breaks_5 : (V5 before t → ⊥) → Breaks before t 5
-  breaks_6 : (V6 t → ⊥) → Breaks before t 6
-  breaks_7 : (V7 before t → ⊥) → Breaks before t 7
-  breaks_8 : (V8 t → ⊥) → Breaks before t 8
-  breaks_10 : (V10 t → ⊥) → Breaks before t 10
+-- the record breaks that rule
+pub data Breaks (before : List Top) (t : Top) : Rule → Type 0 where
+  breaks_3 : (V3 before t → ⊥) → Breaks before t rules.V3
+  breaks_5 : (V5 before t → ⊥) → Breaks before t rules.V5
+  breaks_6 : (V6 t → ⊥) → Breaks before t rules.V6
+  breaks_7 : (V7 before t → ⊥) → Breaks before t rules.V7
+  breaks_8 : (V8 t → ⊥) → Breaks before t rules.V8
+  breaks_10 : (V10 t → ⊥) → Breaks before t rules.V10
 
 -- ---- the size and the CRC of a chunk
 

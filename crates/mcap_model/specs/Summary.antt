@@ -6,9 +6,9 @@ use Rattle.mcap_crc.specs.Remainder.{remainder}
 use Rattle.rec_data.specs.declared.owned.Rec.{Rec}
 use Rattle.rec_data.specs.Owned.{rec_text}
 use Rattle.rec_data.specs.Fields.{FooterFields}
-use Rattle.rec_data.specs.Records.{footer_text}
+use Rattle.rec_data.specs.Records.{footer_text, schema_opcode, channel_opcode, attachment_opcode, metadata_opcode}
 use Rattle.rec_index.specs.Fields.{ChunkIndexFields, StatisticsFields, SummaryOffsetFields}
-use Rattle.rec_index.specs.Records.{chunk_index_text, attachment_index_text, statistics_text, metadata_index_text, summary_offset_text}
+use Rattle.rec_index.specs.Records.{chunk_index_text, attachment_index_text, statistics_text, metadata_index_text, summary_offset_text, chunk_index_opcode, attachment_index_opcode, statistics_opcode, metadata_index_opcode}
 use Rattle.mcap_model.specs.Tops.{Top, top_bytes}
 use Rattle.mcap_model.specs.History.{is_schema, is_channel, history_bytes, without_repeats}
 use Rattle.mcap_model.specs.Blocks.{least, greatest, logged, log_times, logged_channels, index_bytes, indexes_bytes, chunk_bytes}
@@ -44,8 +44,8 @@ written_statistics n = record {
   messages = length (logged n.records);
   schemas = length (schemas_of n.records);
   channels = capped (length (channels_of n.records));
-  attachments = capped (length (extras_of_kind 9 n.extras));
-  metadata = capped (length (extras_of_kind 12 n.extras));
+  attachments = capped (length (extras_of_kind attachment_opcode n.extras));
+  metadata = capped (length (extras_of_kind metadata_opcode n.extras));
   chunks = capped (length n.blocks);
   start = least (log_times n.records);
   end = greatest (log_times n.records);
@@ -113,12 +113,12 @@ has_some (x ∷ xs) = true
 -- the groups that are there
 abbrev pub groups_of : Noted → List Group
 groups_of n = filter (λ g. has_some g.contents) (
-    record { op = 3; contents = map rec_text (schemas_of n.records) }
-    ∷ record { op = 4; contents = map rec_text (channels_of n.records) }
-    ∷ record { op = 11; contents = statistics_content n ∷ [] }
-    ∷ record { op = 8; contents = map chunk_index_content n.blocks }
-    ∷ record { op = 10; contents = map attachment_index_content (extras_of_kind 9 n.extras) }
-    ∷ record { op = 13; contents = map metadata_index_content (extras_of_kind 12 n.extras) } ∷ [])
+    record { op = schema_opcode; contents = map rec_text (schemas_of n.records) }
+    ∷ record { op = channel_opcode; contents = map rec_text (channels_of n.records) }
+    ∷ record { op = statistics_opcode; contents = statistics_content n ∷ [] }
+    ∷ record { op = chunk_index_opcode; contents = map chunk_index_content n.blocks }
+    ∷ record { op = attachment_index_opcode; contents = map attachment_index_content (extras_of_kind attachment_opcode n.extras) }
+    ∷ record { op = metadata_index_opcode; contents = map metadata_index_content (extras_of_kind metadata_opcode n.extras) } ∷ [])
 
 -- the fields of the Summary Offset of a group that stands at that offset
 abbrev pub group_fields : Group → ℕ → SummaryOffsetFields

@@ -2,6 +2,8 @@
 use Rattle.std.specs.Prelude.{◌≡◌, ◌⊎◌, ℕ, zero, suc, ◌+◌, List, [], ◌∷◌, ◌++◌, length, take, drop, filter, slice_index, Bool, not, ◌&&◌, ◌==◌, nat_le, if◌then◌else◌}
 use Rattle.std.specs.List.{flat_map, list_any}
 use Rattle.mcap_wire.specs.Layout.{number, framed, magic, text_length, bytes_length}
+use Rattle.rec_data.specs.Records.{schema_opcode, channel_opcode, message_opcode}
+use Rattle.rec_index.specs.Records.{chunk_opcode}
 use Rattle.mcap_model.specs.declared.replay.Place.{Place}
 
 -- a record: its opcode and its content
@@ -80,7 +82,7 @@ chunk_records content =
     take (bytes_length 8 content at) (drop (at + 8) content)
 
 abbrev pub is_chunk : Top → Bool
-is_chunk t = t.op == 6
+is_chunk t = t.op == chunk_opcode
 
 -- the records inside a chunk
 abbrev pub inner_tops : Top → List Top
@@ -92,7 +94,7 @@ unchunked t = if is_chunk t then inner_tops t else t ∷ []
 
 -- a Schema, a Channel or a Message
 abbrev pub is_flat_kind : Top → Bool
-is_flat_kind t = list_any (λ kind. kind == t.op) (3 ∷ 4 ∷ 5 ∷ [])
+is_flat_kind t = list_any (λ kind. kind == t.op) (schema_opcode ∷ channel_opcode ∷ message_opcode ∷ [])
 
 -- the Schemas, Channels and Messages that a record is or holds
 abbrev pub flattened : Top → List Top

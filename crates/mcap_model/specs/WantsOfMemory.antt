@@ -4,6 +4,7 @@ use Rattle.mcap_model.specs.Places.{At}
 use Rattle.mcap_model.specs.Tops.{Top, flat}
 use Rattle.mcap_model.specs.Fields.{SchemaFields, IsSchema, ChannelFields, IsChannel, MessageFields, IsMessage, ChunkFields, IsChunk}
 use Rattle.mcap_model.specs.Rules.{HasSchema, HasChannel, V3, V5, V6, V10, HasSizeAndCrc}
+use Rattle.rec_index.specs.Records.{chunk_opcode}
 use Rattle.mcap_model.specs.Kept.{NamesCompression}
 
 -- equal fields but for the metadata, which aren't compared without memory
@@ -33,4 +34,4 @@ pub record MayWantMemory (tops : List Top) (t : Top) : Type 0 where
   pub v10 : V10 t
   pub plain : NamesNoCompression t
   pub chunk : (f : ChunkFields) → IsChunk t f → HasSizeAndCrc f
-  pub agrees : (t.op ≡ 6 → ⊥) → AgreesButMetadata (flat tops) t
+  pub agrees : (t.op ≡ chunk_opcode → ⊥) → AgreesButMetadata (flat tops) t

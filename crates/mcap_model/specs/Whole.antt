@@ -3,6 +3,8 @@
 use Rattle.std.specs.Prelude.{◌≡◌, ◌≢◌, ◌⊎◌, ℕ, suc, ◌+◌, ◌^◌, ◌<◌, ◌≤◌, List, [], ◌∷◌, ◌++◌, length, take, drop, filter, take_while, Bool, true, ◌||◌, ◌&&◌, ◌==◌, nat_le, nat_lt, if◌then◌else◌, AllPairs}
 use Rattle.std.specs.List.{list_any, AllZip}
 use Rattle.mcap_wire.specs.Layout.{magic, part}
+use Rattle.rec_data.specs.Records.{footer_opcode, schema_opcode, channel_opcode, message_opcode, attachment_opcode, metadata_opcode, data_end_opcode}
+use Rattle.rec_index.specs.Records.{chunk_opcode, message_index_opcode, chunk_index_opcode, attachment_index_opcode, statistics_opcode, metadata_index_opcode, summary_offset_opcode}
 use Rattle.mcap_crc.specs.Remainder.{remainder}
 use Rattle.mcap_model.specs.Places.{At, Has, Each}
 use Rattle.mcap_model.specs.Tops.{Top, top_bytes, spelled, offset_behind, flat, inner_tops}
@@ -46,7 +48,7 @@ pub record IsWhole (file : List ℕ) (tops : List Top) : Type 0 where
 -- attachments and of metadata, Statistics, Summary Offsets and unknown records; and there is a Data End
 
 abbrev pub stands_in_summary : ℕ → Bool
-stands_in_summary op = list_any (λ kind. kind == op) (3 ∷ 4 ∷ 8 ∷ 10 ∷ 11 ∷ 13 ∷ 14 ∷ []) || is_unknown op
+stands_in_summary op = list_any (λ kind. kind == op) (schema_opcode ∷ channel_opcode ∷ chunk_index_opcode ∷ attachment_index_opcode ∷ statistics_opcode ∷ metadata_index_opcode ∷ summary_offset_opcode ∷ []) || is_unknown op
 
 abbrev pub V5Behind : List Top → ℕ → Top → Type 0
 V5Behind tops n t = (InSummary tops n → stands_in_summary t.op ≡ true) × (is_last tops n → HasDataEnd tops)
@@ -54,7 +56,7 @@ V5Behind tops n t = (InSummary tops n → stands_in_summary t.op ≡ true) × (i
 -- ---- V9: Message Indexes
 
 abbrev pub is_index : Top → Bool
-is_index t = t.op == 7
+is_index t = t.op == message_index_opcode
 
 -- the Message Indexes directly behind the record at that place
 abbrev pub indexes_behind : List Top → ℕ → List Top
@@ -92,8 +94,8 @@ pub record BelongsTo (before : List Top) (t : Top) : Type 0 where
   pub front : List Top
   pub neighbour : Top
   pub follows : before ≡ front ++ neighbour ∷ []
-  pub is : (neighbour.op ≡ 6) ⊎ (neighbour.op ≡ 7)
-  pub right : (others : List Top) (chunk : Top) (earlier : List Top) → before ≡ others ++ chunk ∷ earlier → chunk.op ≡ 6 → Each (λ u. u.op ≡ 7) earlier → IndexIsRight chunk earlier t
+  pub is : (neighbour.op ≡ chunk_opcode) ⊎ (neighbour.op ≡ message_index_opcode)
+  pub right : (others : List Top) (chunk : Top) (earlier : List Top) → before ≡ others ++ chunk ∷ earlier → chunk.op ≡ chunk_opcode → Each (λ u. u.op ≡ message_index_opcode) earlier → IndexIsRight chunk earlier t
 
 -- behind the chunk stand no Message Indexes, or one for each channel with a message in it
 abbrev pub IsIndexed : List Top → ℕ → Top → Type 0
@@ -106,14 +108,14 @@ abbrev pub IsFollowed : List Top → ℕ → Type 0
 IsFollowed tops n = suc n + length (indexes_behind tops n) < length tops
 
 abbrev pub V9 : List Top → ℕ → Top → Type 0
-V9 tops n t = (t.op ≡ 7 → BelongsTo (take n tops) t) × (t.op ≡ 6 → IsFollowed tops n → IsIndexed tops n t)
+V9 tops n t = (t.op ≡ message_index_opcode → BelongsTo (take n tops) t) × (t.op ≡ chunk_opcode → IsFollowed tops n → IsIndexed tops n t)
 
 -- ---- V11: where the summary starts, and its order
 
 -- the records behind the first Data End
 abbrev pub behind_end : List Top → List Top
 behind_end [] = []
-behind_end (t ∷ ts) = if t.op == 15 then ts else behind_end ts
+behind_end (t ∷ ts) = if t.op == data_end_opcode then ts else behind_end ts
 
 abbrev pub is_known : ℕ → Bool
 is_known op = nat_le 1 op && nat_lt op 16
@@ -129,17 +131,17 @@ EndsWith op tops = (front : List Top) × (t : Top) × (tops ≡ front ++ t ∷ [
 -- the Footer names the summary and the first Summary Offset
 pub record NamesSummary (tops : List Top) (n summary offsets : ℕ) : Type 0 where
   -- behind the first Data End stands the Footer, and there is no summary; or the summary starts there
-  pub start : (k : ℕ) × (t : Top) × At tops k t × (t.op ≡ 15) × (HasDataEnd (take k tops) → ⊥)
+  pub start : (k : ℕ) × (t : Top) × At tops k t × (t.op ≡ data_end_opcode) × (HasDataEnd (take k tops) → ⊥)
       × (((summary ≡ 0) × (n ≡ suc k)) ⊎ (summary ≡ offset_of tops (suc k)))
   -- where the summary has a Summary Offset, this is the place of the first one
-  pub first_offset : (k : ℕ) (t : Top) → At tops k t → InSummary tops k → t.op ≡ 14 → Each (λ u. u.op ≢ 14) (behind_end (take k tops)) → offsets ≡ offset_of tops k
+  pub first_offset : (k : ℕ) (t : Top) → At tops k t → InSummary tops k → t.op ≡ summary_offset_opcode → Each (λ u. u.op ≢ summary_offset_opcode) (behind_end (take k tops)) → offsets ≡ offset_of tops k
 
 -- A known record of a summary, behind the known ones before it: the one in front of it has its opcode, or none has;
 -- there is one Statistics; and behind Summary Offsets stand such alone.
 pub record IsInPlace (before : List Top) (t : Top) : Type 0 where
   pub together : EndsWith t.op before ⊎ Each (λ u. u.op ≢ t.op) before
-  pub one_statistics : t.op ≡ 11 → Each (λ u. u.op ≢ 11) before
-  pub offsets_last : t.op ≢ 14 → Each (λ u. u.op ≢ 14) before
+  pub one_statistics : t.op ≡ statistics_opcode → Each (λ u. u.op ≢ statistics_opcode) before
+  pub offsets_last : t.op ≢ summary_offset_opcode → Each (λ u. u.op ≢ summary_offset_opcode) before
 
 abbrev pub V11 : List Top → ℕ → Top → Type 0
 V11 tops n t = ((summary offsets crc : ℕ) → is_last tops n → IsFooter t summary offsets crc → NamesSummary tops n summary offsets)
@@ -221,7 +223,7 @@ pub record IsSection (tops section : List Top) : Type 0 where
   pub end : Top
   pub behind : List Top
   pub joined : tops ≡ section ++ end ∷ behind
-  pub kind : end.op ≡ 15
+  pub kind : end.op ≡ data_end_opcode
   pub unended : HasDataEnd section → ⊥
 
 -- the same, or all records where there is no Data End
@@ -260,10 +262,10 @@ pub record AreCounted (section : List Top) (counts : List (ℕ × ℕ)) : Type 0
 pub record StatisticsAreRight (tops : List Top) (f : StatisticsFields) : Type 0 where
   pub section : List Top
   pub is : IsDataSection tops section
-  pub messages : f.messages ≡ count_of 5 (flat section)
-  pub attachments : f.attachments ≡ count_of 9 section
-  pub metadata : f.metadata ≡ count_of 12 section
-  pub chunks : f.chunks ≡ count_of 6 section
+  pub messages : f.messages ≡ count_of message_opcode (flat section)
+  pub attachments : f.attachments ≡ count_of attachment_opcode section
+  pub metadata : f.metadata ≡ count_of metadata_opcode section
+  pub chunks : f.chunks ≡ count_of chunk_opcode section
   pub times : TimesAre (flat section) f.start f.end
   pub counts : (f.counts ≡ []) ⊎ AreCounted section f.counts
   pub schemas : LiesBetween HasSchema section tops f.schemas
@@ -309,4 +311,4 @@ V16 file tops n t = (summary offsets crc : ℕ) → is_last tops n → IsFooter 
 -- ---- V17: the last record is a Footer, and no other one is
 
 abbrev pub V17 : List Top → Type 0
-V17 tops = (before : List Top) × (t : Top) × (tops ≡ before ++ t ∷ []) × ((summary offsets crc : ℕ) × IsFooter t summary offsets crc) × Each (λ u. u.op ≢ 2) before
+V17 tops = (before : List Top) × (t : Top) × (tops ≡ before ++ t ∷ []) × ((summary offsets crc : ℕ) × IsFooter t summary offsets crc) × Each (λ u. u.op ≢ footer_opcode) before

@@ -3,6 +3,7 @@ use Rattle.std.specs.Prelude.{◌≡◌, ◌⊎◌, ℕ, List, length, filter, s
 use Rattle.std.specs.List.{AllZip}
 use Rattle.rec_data.specs.declared.owned.Rec.{Rec}
 use Rattle.rec_data.specs.Owned.{ShowsRec}
+use Rattle.rec_data.specs.Records.{attachment_opcode, metadata_opcode}
 use Rattle.mcap_model.specs.Places.{At}
 use Rattle.mcap_model.specs.Tops.{Top, is_chunk, inner_tops, flat}
 use Rattle.mcap_model.specs.Fields.{SchemaFields, IsSchema, ChannelFields, IsChannel}
@@ -18,7 +19,7 @@ AreFlatRecords tops flattened = AllZip IsRec (flat tops) flattened
 
 -- an Attachment, a Metadata or an unknown record, which a recording passes over
 abbrev pub is_passed_over : Top → Bool
-is_passed_over t = (t.op == 9) || ((t.op == 12) || is_unknown t.op)
+is_passed_over t = (t.op == attachment_opcode) || ((t.op == metadata_opcode) || is_unknown t.op)
 
 -- How many records are passed over where one is read. It is said apart what of a chunk is passed over, since inside one
 -- no record is recorded but Schemas, Channels and Messages.

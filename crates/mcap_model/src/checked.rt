@@ -1,5 +1,7 @@
 //! What a check of a file comes to.
 
+use crate::rules::Rule;
+
 /// How many records of each kind a file has.
 #[derive(Clone, Copy)]
 pub struct Counts {
@@ -11,10 +13,10 @@ pub struct Counts {
     pub metadata: u64,
 }
 
-/// A file is valid and fully indexed; it is valid; or the rule of that number fails at that offset.
+/// A file is valid and fully indexed; it is valid; or that rule fails at that offset.
 #[derive(Clone, Copy)]
 pub enum Verdict {
     Indexed { counts: Counts },
     Plain { counts: Counts },
-    Flawed { rule: u8, offset: u64 },
+    Flawed { rule: Rule, offset: u64 },
 }

@@ -8,6 +8,7 @@ ghost use Rattle.mcap_model.specs.Times.{TimesOf};
 ghost use Rattle.mcap_model.specs.Chunked.{flat_of, InnerTaken, AllTaken, ChunkTaken};
 
 use crate::inner::InnerWalk;
+use crate::rules::Rule;
 use crate::tables::{Ruling, Tables};
 use crate::times::Times;
 use mcap_crc::crc_of;
@@ -39,7 +40,7 @@ fn take_inner(
             Err(rule) => return Err(Ruling::Breaks { rule }),
         },
         16..=255 => return Ok(times),
-        _ => return Err(Ruling::Breaks { rule: 8 }),
+        _ => return Err(Ruling::Breaks { rule: Rule::V8 }),
     }
 }
 
@@ -58,7 +59,7 @@ fn take_all(alloc: Global, tables: &mut Tables, records: &[u8]) -> Result<Times,
     if walk.is_whole() {
         return Ok(times);
     }
-    return Err(Ruling::Breaks { rule: 8 });
+    return Err(Ruling::Breaks { rule: Rule::V8 });
 }
 
 // Whether the CRC is 0 or that of the records.
@@ -73,20 +74,20 @@ pub(crate) fn take_chunk(alloc: Global, tables: &mut Tables, chunk: &Chunk<'_>) 
     ensures { (before : List Top) → TablesOf before tables.old → ChunkTaken before (record { start = chunk.now.message_start_time; end = chunk.now.message_end_time; size = chunk.now.uncompressed_size; crc = chunk.now.uncompressed_crc; compression = chunk.now.compression.now; records = chunk.now.records.now }) tables.new result }
 {
     if chunk.uncompressed_size != chunk.records.len() as u64 {
-        return Ruling::Breaks { rule: 8 };
+        return Ruling::Breaks { rule: Rule::V8 };
     }
     if !has_crc(chunk.uncompressed_crc, chunk.records) {
-        return Ruling::Breaks { rule: 8 };
+        return Ruling::Breaks { rule: Rule::V8 };
     }
     match take_all(alloc, tables, chunk.records) {
         Ok(times) => {
             if times.are(chunk.message_start_time, chunk.message_end_time) {
                 return Ruling::Fits;
             }
-            return Ruling::Breaks { rule: 8 };
+            return Ruling::Breaks { rule: Rule::V8 };
         }
-        Err(Ruling::Breaks { rule: 7 }) => return Ruling::Breaks { rule: 7 },
+        Err(Ruling::Breaks { rule: Rule::V7 }) => return Ruling::Breaks { rule: Rule::V7 },
         Err(Ruling::Memory) => return Ruling::Memory,
-        Err(_) => return Ruling::Breaks { rule: 8 },
+        Err(_) => return Ruling::Breaks { rule: Rule::V8 },
     }
 }

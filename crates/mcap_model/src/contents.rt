@@ -4,6 +4,7 @@ ghost use Rattle.mcap_model.specs.Fields.{IsHeader, IsDataEnd, IsMetadata, IsMes
 ghost use Rattle.mcap_model.specs.Declarations.{AttachmentJudged};
 ghost use Rattle.mcap_model.specs.Made.{top};
 
+use crate::rules::Rule;
 use mcap_crc::crc_of;
 use rec_data::{Attachment, DataEnd, Header, Metadata, attachment_crc_place};
 use rec_index::MessageIndex;
@@ -49,16 +50,16 @@ pub(crate) fn is_message_index(content: &[u8]) -> bool
 }
 
 /// The rule that the content of an Attachment breaks, if any.
-pub(crate) fn attachment_breaks(content: &[u8]) -> Option<u8>
+pub(crate) fn attachment_breaks(content: &[u8]) -> Option<Rule>
     ensures { AttachmentJudged content.now result }
 {
     let attachment = match Attachment::parse(content) {
         Ok(attachment) => attachment,
-        Err(_) => return Some(6),
+        Err(_) => return Some(Rule::V6),
     };
     let place = match attachment_crc_place(content) {
         Ok(place) => place,
-        Err(_) => return Some(6),
+        Err(_) => return Some(Rule::V6),
     };
     if attachment.crc == 0 {
         return None;
@@ -66,5 +67,5 @@ pub(crate) fn attachment_breaks(content: &[u8]) -> Option<u8>
     if attachment.crc == crc_of(&content[..place]) {
         return None;
     }
-    return Some(10);
+    return Some(Rule::V10);
 }

@@ -4,6 +4,7 @@ ghost use Rattle.mcap_model.specs.Plain.{PlainScanned};
 
 use crate::refusals::ReadingRefused;
 use crate::replay::Replayed;
+use crate::rules::Rule;
 use crate::showing::add_messages;
 use crate::tables::Tables;
 use crate::taking::{FIRST_OFFSET, has_magic, take_record};
@@ -16,7 +17,10 @@ pub fn scan_plain(alloc: Global, bytes: &[u8]) -> Result<Replayed, ReadingRefuse
     ensures { PlainScanned bytes.now result }
 {
     if !has_magic(bytes) {
-        return Err(ReadingRefused::Grammar { offset: 0, rule: 1 });
+        return Err(ReadingRefused::Grammar {
+            offset: 0,
+            rule: Rule::V1,
+        });
     }
     let mut tables = Tables::new(alloc);
     let mut shown = Vec::new(alloc);

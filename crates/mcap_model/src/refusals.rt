@@ -1,4 +1,5 @@
 //! Why a reading didn't go through.
+use crate::rules::Rule;
 use mcap_wire::Text;
 
 /// Why a file isn't read, or not to its end. Offsets are in bytes from the file's front. Where a count of faults is told, the
@@ -7,9 +8,9 @@ use mcap_wire::Text;
 pub enum ReadingRefused {
     /// What is read from failed, and this is its count of faults.
     Fault { faults: u64 },
-    /// The rule of that number fails at that offset: of the record there; of a magic that is missing there, the first one at
+    /// That rule fails at that offset: of the record there; of a magic that is missing there, the first one at
     /// offset 0; or of a Footer that is missing there.
-    Grammar { offset: u64, rule: u8 },
+    Grammar { offset: u64, rule: Rule },
     /// The Chunk at that offset names that compression.
     Compressed { offset: u64, name: Text },
     /// A limit is passed at that offset: by the record there, with a content of more than 268,435,456 bytes or an end more than

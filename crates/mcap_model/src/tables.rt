@@ -4,6 +4,7 @@ ghost use Rattle.mcap_model.specs.Tops.{Top};
 ghost use Rattle.mcap_model.specs.Declarations.{TakesDeclaration, TablesOf, Hears, SomeFirst};
 ghost use Rattle.mcap_model.specs.Made.{top};
 
+use crate::rules::Rule;
 use crate::same::{is_same_channel, is_same_schema};
 use crate::table::Table;
 use rec_data::{Channel, Message, Schema};
@@ -13,8 +14,8 @@ use std::alloc::Global;
 #[derive(Clone, Copy)]
 pub enum Ruling {
     Fits,
-    /// It breaks the rule of that number.
-    Breaks { rule: u8 },
+    /// It breaks that rule.
+    Breaks { rule: Rule },
     /// Memory lacked.
     Memory,
 }
@@ -43,10 +44,10 @@ impl Tables {
     {
         let schema = match Schema::parse(content) {
             Ok(schema) => schema,
-            Err(_) => return Ruling::Breaks { rule: 6 },
+            Err(_) => return Ruling::Breaks { rule: Rule::V6 },
         };
         if schema.id == 0 {
-            return Ruling::Breaks { rule: 6 };
+            return Ruling::Breaks { rule: Rule::V6 };
         }
         match self.schemas.find(schema.id) {
             Some(first) => {
@@ -56,7 +57,7 @@ impl Tables {
                 if is_same_schema(first, &schema) {
                     return Ruling::Fits;
                 }
-                return Ruling::Breaks { rule: 7 };
+                return Ruling::Breaks { rule: Rule::V7 };
             }
             None => match self.schemas.add(alloc, schema.id, content) {
                 Ok(()) => return Ruling::Fits,
@@ -78,10 +79,10 @@ impl Tables {
     {
         let channel = match Channel::parse(content) {
             Ok(channel) => channel,
-            Err(_) => return Ruling::Breaks { rule: 6 },
+            Err(_) => return Ruling::Breaks { rule: Rule::V6 },
         };
         if !self.has_schema(channel.schema_id) {
-            return Ruling::Breaks { rule: 7 };
+            return Ruling::Breaks { rule: Rule::V7 };
         }
         match self.channels.find(channel.id) {
             Some(first) => {
@@ -90,7 +91,7 @@ impl Tables {
                 }
                 match is_same_channel(alloc, first, &channel) {
                     Ok(true) => return Ruling::Fits,
-                    Ok(false) => return Ruling::Breaks { rule: 7 },
+                    Ok(false) => return Ruling::Breaks { rule: Rule::V7 },
                     Err(_) => return Ruling::Memory,
                 }
             }
@@ -102,16 +103,16 @@ impl Tables {
     }
 
     /// The log time of a Message, or the rule that it breaks.
-    pub(crate) fn take_message(&self, content: &[u8]) -> Result<u64, u8>
+    pub(crate) fn take_message(&self, content: &[u8]) -> Result<u64, Rule>
         ensures { (records : List Top) → TablesOf records self.now → Hears records (top 5 content.now) result }
     {
         let message = match Message::parse(content) {
             Ok(message) => message,
-            Err(_) => return Err(6),
+            Err(_) => return Err(Rule::V6),
         };
         match self.channels.find(message.channel_id) {
             Some(_) => return Ok(message.log_time),
-            None => return Err(7),
+            None => return Err(Rule::V7),
         }
     }
 }

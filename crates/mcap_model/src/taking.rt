@@ -9,13 +9,13 @@ ghost use Rattle.mcap_model.specs.Judging.{JudgedAs};
 ghost use Rattle.mcap_model.specs.Plain.{ReadTo, PlainRecordTaken, uncut_rule};
 
 use crate::refusals::ReadingRefused;
+use crate::rules::Rule;
 use crate::tables::Tables;
 use crate::tops::{Judged, judge, judge_first};
-use mcap_wire::{CONTENT_LIMIT, Cut, CutFault, FILE_LIMIT, MAGIC, Text, cut, take_u64};
+use mcap_wire::{
+    CONTENT_LIMIT, Cut, CutFault, FILE_LIMIT, HEAD_LENGTH, MAGIC, Text, cut, take_u64,
+};
 use std::alloc::Global;
-
-/// The length of a record's head: the opcode and the content's length.
-const HEAD_LENGTH: u64 = 9;
 
 /// The offset of the first record.
 pub(crate) const FIRST_OFFSET: usize = 8;
@@ -47,12 +47,12 @@ fn passes_limit(bytes: &[u8], at: usize) -> bool
 }
 
 // The rule that a record breaks which can't be cut.
-fn rule_of(fault: CutFault) -> u8
+fn rule_of(fault: CutFault) -> Rule
     ensures { result ≡ uncut_rule fault }
 {
     match fault {
-        CutFault::ZeroOp => return 5,
-        _ => return 4,
+        CutFault::ZeroOp => return Rule::V5,
+        _ => return Rule::V4,
     }
 }
 

@@ -8,6 +8,7 @@ ghost use Rattle.mcap_model.specs.Judging.{as_judged, kept_or_breaks, JudgedAs, 
 
 use crate::chunks::take_chunk;
 use crate::contents::{attachment_breaks, is_data_end, is_header, is_message_index, is_metadata};
+use crate::rules::Rule;
 use crate::tables::{Ruling, Tables};
 use rec_data::{ATTACHMENT, CHANNEL, DATA_END, HEADER, MESSAGE, METADATA, SCHEMA};
 use rec_index::{CHUNK, Chunk, MESSAGE_INDEX};
@@ -17,8 +18,8 @@ use std::alloc::Global;
 #[derive(Clone, Copy)]
 pub enum Judged<'a> {
     Fits,
-    /// It breaks the rule of that number.
-    Breaks { rule: u8 },
+    /// It breaks that rule.
+    Breaks { rule: Rule },
     /// It is a chunk that names that compression.
     Compressed { name: &'a str },
     /// Memory lacked, and nothing is wrong that is told without it.
@@ -37,7 +38,7 @@ fn of_ruling<'a>(ruling: Ruling) -> Judged<'a>
 }
 
 // The record breaks that rule unless it keeps it.
-fn kept_or<'a>(keeps: bool, rule: u8) -> Judged<'a>
+fn kept_or<'a>(keeps: bool, rule: Rule) -> Judged<'a>
     ensures { result ≡ kept_or_breaks keeps rule }
 {
     if keeps {
@@ -50,7 +51,7 @@ fn kept_or<'a>(keeps: bool, rule: u8) -> Judged<'a>
 pub fn judge_first<'a>(op: u8, content: &'a [u8]) -> Judged<'a>
     ensures { FirstJudged (top op content.now) result }
 {
-    kept_or(op == HEADER && is_header(content), 3)
+    kept_or(op == HEADER && is_header(content), Rule::V3)
 }
 
 // Judges a chunk.
@@ -59,7 +60,7 @@ fn judge_chunk<'a>(alloc: Global, tables: &mut Tables, content: &'a [u8]) -> Jud
 {
     let chunk = match Chunk::parse(content) {
         Ok(chunk) => chunk,
-        Err(_) => return Judged::Breaks { rule: 6 },
+        Err(_) => return Judged::Breaks { rule: Rule::V6 },
     };
     if chunk.compression.len() > 0 {
         return Judged::Compressed {
@@ -81,14 +82,14 @@ pub fn judge<'a>(alloc: Global, tables: &mut Tables, op: u8, content: &'a [u8]) 
             Err(rule) => return Judged::Breaks { rule },
         },
         CHUNK => return judge_chunk(alloc, tables, content),
-        MESSAGE_INDEX => return kept_or(is_message_index(content), 6),
+        MESSAGE_INDEX => return kept_or(is_message_index(content), Rule::V6),
         ATTACHMENT => match attachment_breaks(content) {
             None => return Judged::Fits,
             Some(rule) => return Judged::Breaks { rule },
         },
-        METADATA => return kept_or(is_metadata(content), 6),
-        DATA_END => return kept_or(is_data_end(content), 6),
+        METADATA => return kept_or(is_metadata(content), Rule::V6),
+        DATA_END => return kept_or(is_data_end(content), Rule::V6),
         16..=255 => return Judged::Fits,
-        _ => return Judged::Breaks { rule: 5 },
+        _ => return Judged::Breaks { rule: Rule::V5 },
     }
 }

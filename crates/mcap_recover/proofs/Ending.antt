@@ -32,6 +32,7 @@ use Rattle.mcap_scan.specs.declared.reader.Reader.{Reader}
 use Rattle.mcap_scan.specs.declared.reader.Stage.TheVariants as stages
 use Rattle.mcap_model.specs.declared.refusals.ReadingRefused.{ReadingRefused}
 use Rattle.mcap_model.specs.declared.refusals.ReadingRefused.TheVariants as scans
+use Rattle.mcap_model.specs.declared.rules.Rule.{Rule}
 use Rattle.mcap_scan.specs.RefusedReadings.{HaltsSo, FaultStands, MemoryStands, RefusalStands}
 use Rattle.record_walk.specs.declared.flat_reader.FlatReader.{FlatReader}
 use Rattle.chunk_writer.specs.declared.tape.Written.{Written}
@@ -177,7 +178,7 @@ there_place tops rest halt (cut_short a b) = refl
 there_place tops rest halt (packed_chunk name a b c) = refl
 there_place tops rest halt (broken_rule rule a b c d) = refl
 
-no_front : (bytes : List ℕ) (tops : List Top) (halt : Halt) (r : ℕ) → HaltsAt reading_limits bytes tops halt → halt ≡ grammar 0 r → V1 bytes → ⊥
+no_front : (bytes : List ℕ) (tops : List Top) (halt : Halt) (r : Rule) → HaltsAt reading_limits bytes tops halt → halt ≡ grammar 0 r → V1 bytes → ⊥
 unfolding place_of
 no_front bytes tops halt r (no_magic none) is has = none has
 no_front bytes tops halt r (at_data_end rest stands ended) is has = let place : 8 + length (spelled tops) ≡ 0 = ap place_of is in omega (arith, place)
@@ -254,7 +255,7 @@ over_halts reader before now tops overs.Refused at why (w, stage, stands) told =
         let same_why : why ≡ reason = ap (λ v. v.1) pair in
         (grammar place rule, it, subst (λ (x : Why). TellsHalt at x (grammar place rule)) (sym same_why) (kinds place rule reason (sym same_at) kind))
       where
-        kinds : (p n : ℕ) (x : Why) → p ≡ at → GrammarTold n x → TellsHalt at x (grammar p n)
+        kinds : (p : ℕ) (n : Rule) (x : Why) → p ≡ at → GrammarTold n x → TellsHalt at x (grammar p n)
         kinds p n x same (inl (four, short)) = subst (λ (y : Why). TellsHalt at y (grammar p n)) (sym short) (ap (λ (q : ℕ). grammar q n) same ∙ ap (grammar at) four)
         kinds p n x same (inr (other, broken)) = subst (λ (y : Why). TellsHalt at y (grammar p n)) (sym broken) (n, ap (λ (q : ℕ). grammar q n) same, other)
     by (scans.Compressed place name) it is =

@@ -3,3 +3,4 @@ mod Inners
 mod Given
 mod Reading
 mod Ending
+mod Rules

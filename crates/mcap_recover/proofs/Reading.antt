@@ -50,6 +50,8 @@ use Rattle.record_walk.specs.Walking.{flat_content, flat_frame, IsHeldFrame, ahe
 use Rattle.record_walk.proofs.Walked.{walked_v6}
 use denote.Ref.{Bor}
 use Rattle.mcap_model.proofs.Places.{at_none}
+use Rattle.mcap_model.specs.declared.rules.Rule.{Rule}
+use Rattle.mcap_model.specs.declared.rules.Rule.TheVariants as rules
 use Rattle.mcap_recover.specs.declared.answers.RecoverRefused.{RecoverRefused}
 use Rattle.mcap_recover.specs.declared.answers.RecoverRefused.TheVariants as refusals
 
@@ -299,11 +301,11 @@ begun_header flat before now op place profile gives reads =
       still = (lacks_behind flat.reader before now gives.tops gives.going stands.stands).still;
     }
 
-grammar_place : (at rule : ℕ) → grammar at rule ≡ grammar 0 1 → at ≡ 0
+grammar_place : (at : ℕ) (rule : Rule) → grammar at rule ≡ grammar 0 rules.V1 → at ≡ 0
 grammar_place at rule is = cc
 
 -- bytes whose reading halts elsewhere begin with the magic
-magic_by : (bytes : List ℕ) (halt : Halt) → HaltsAt reading_limits bytes [] halt → (halt ≡ grammar 0 1 → ⊥) → V1 bytes
+magic_by : (bytes : List ℕ) (halt : Halt) → HaltsAt reading_limits bytes [] halt → (halt ≡ grammar 0 rules.V1 → ⊥) → V1 bytes
 magic_by bytes halt (no_magic none) other = absurd (other refl)
 magic_by bytes halt (at_data_end rest stands ended) other = (rest, stands.split)
 magic_by bytes halt (behind_kept rest stands unended it there) other = (rest, stands.split)

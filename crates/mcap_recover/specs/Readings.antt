@@ -14,6 +14,8 @@ use Rattle.mcap_model.specs.Written.{IsRec}
 use Rattle.mcap_model.specs.Repaired.{is_extra, ProfileIs, Repairs}
 use Rattle.mcap_model.specs.declared.refusals.ReadingRefused.{ReadingRefused}
 use Rattle.mcap_model.specs.declared.refusals.ReadingRefused.TheVariants as scans
+use Rattle.mcap_model.specs.declared.rules.Rule.{Rule}
+use Rattle.mcap_model.specs.declared.rules.Rule.TheVariants as rules
 use Rattle.mcap_scan.specs.declared.reader.Reader.{Reader}
 use Rattle.mcap_scan.specs.declared.reader.Stage.TheVariants as stages
 use Rattle.mcap_scan.specs.RefusedReadings.{HaltsSo, RefusalStands, FaultStands}
@@ -35,8 +37,8 @@ use Rattle.mcap_recover.specs.Recovering.{lacks, HasMagic}
 -- ---- how a reading ended
 
 -- whether the bytes are cut short, where a rule is broken
-abbrev pub GrammarTold : ℕ → Why → Type 0
-GrammarTold rule why = ((rule ≡ 4) × (why ≡ whys.Short)) ⊎ ((rule ≡ 4 → ⊥) × (why ≡ whys.Grammar))
+abbrev pub GrammarTold : Rule → Why → Type 0
+GrammarTold rule why = ((rule ≡ rules.V4) × (why ≡ whys.Short)) ⊎ ((rule ≡ rules.V4 → ⊥) × (why ≡ whys.Grammar))
 
 abbrev pub RefusalTold : ReadingRefused → Result (ℕ × Why) RecoverRefused → Type 0
 RefusalTold (scans.Fault faults) result = result ≡ Err (refusals.Refused (scans.Fault faults))
@@ -149,7 +151,7 @@ StartsUntold why scans.Memory = (faults : ℕ) → why ≡ scans.Fault faults �
 -- why the first record was refused, and what begins then
 abbrev pub StartsSo : ReadingRefused → Result (List ℕ) RecoverRefused → Type 0
 StartsSo why (Ok profile) = (profile ≡ []) × HaltsStart why
-StartsSo why (Err refusals.NoMagic) = (rule : ℕ) × (why ≡ scans.Grammar 0 rule)
+StartsSo why (Err refusals.NoMagic) = (rule : Rule) × (why ≡ scans.Grammar 0 rule)
 StartsSo why (Err (refusals.Refused told)) = StartsUntold why told
 StartsSo why (Err (refusals.Stopped stop)) = ⊥
 
@@ -186,6 +188,6 @@ UnbegunSo before now scans.Memory = now.faults ≡ before.faults
 -- That; or the source doesn't begin with the magic.
 abbrev pub BeginsReading : SourceState → SourceState → FlatReader → Result (List ℕ) RecoverRefused → Type 0
 BeginsReading before now flat (Ok profile) = BeginsFile before now flat profile
-BeginsReading before now flat (Err refusals.NoMagic) = (rule : ℕ) × HaltsSo before now [] (grammar 0 rule)
+BeginsReading before now flat (Err refusals.NoMagic) = (rule : Rule) × HaltsSo before now [] (grammar 0 rule)
 BeginsReading before now flat (Err (refusals.Refused why)) = UnbegunSo before now why
 BeginsReading before now flat (Err (refusals.Stopped stop)) = ⊥

@@ -15,6 +15,8 @@ use Rattle.mcap_model.specs.History.{is_message}
 use Rattle.mcap_model.specs.Blocks.{pieces_of, blocks_in}
 use Rattle.mcap_model.specs.File.{file_of, IsPrefix}
 use Rattle.mcap_model.specs.Repaired.{Repairs, Repaired}
+use Rattle.mcap_model.specs.declared.rules.Rule.{Rule}
+use Rattle.mcap_model.specs.declared.rules.Rule.TheVariants as rules
 use Rattle.mcap_scan.specs.RefusedReadings.{HaltsSo}
 use Rattle.chunk_writer.specs.Limits.{Holds}
 use Rattle.chunk_writer.specs.declared.tape.Written.{Written}
@@ -38,8 +40,8 @@ recovered_options profile chunk = record { profile = profile; chunk = Some chunk
 -- the reason that is answered is that of the halt
 abbrev pub TellsHalt : ℕ → Why → Halt → Type 0
 TellsHalt at whys.Complete halt = halt ≡ at_end at
-TellsHalt at whys.Short halt = halt ≡ grammar at 4
-TellsHalt at whys.Grammar halt = (rule : ℕ) × (halt ≡ grammar at rule) × (rule ≡ 4 → ⊥)
+TellsHalt at whys.Short halt = halt ≡ grammar at rules.V4
+TellsHalt at whys.Grammar halt = (rule : Rule) × (halt ≡ grammar at rule) × (rule ≡ rules.V4 → ⊥)
 TellsHalt at whys.Compressed halt = (name : List ℕ) × (halt ≡ compressed at name)
 TellsHalt at whys.Limit halt = halt ≡ beyond at
 

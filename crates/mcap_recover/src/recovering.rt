@@ -19,7 +19,7 @@ use crate::keeping::{Keeping, keep_record};
 use chunk_writer::Scribe;
 use indexmap::IndexSet;
 use mcap_io::{LiveStore, Source};
-use mcap_model::{FileOptions, ReadingRefused, Stop};
+use mcap_model::{FileOptions, ReadingRefused, Rule, Stop};
 use mcap_wire::{Memory, Text};
 use rec_data::Header;
 use record_walk::{FlatReader, FlatStep};
@@ -67,10 +67,10 @@ fn ending_of(reader: FlatReader, over: Over) -> Result<(u64, Why), RecoverRefuse
 }
 
 // Whether the bytes are cut short, where that rule is broken.
-fn why_of(rule: u8) -> Why
+fn why_of(rule: Rule) -> Why
     ensures { GrammarTold rule result }
 {
-    if rule == 4 {
+    if rule.is(Rule::V4) {
         return Why::Short;
     }
     return Why::Grammar;

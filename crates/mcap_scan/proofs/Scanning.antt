@@ -28,6 +28,8 @@ use Rattle.mcap_model.proofs.Judging.{fits_may_want}
 use Rattle.mcap_model.proofs.TakenRecords.{ended_more, spelled_more, halted, unended_more}
 use Rattle.mcap_model.proofs.Unpacking.{left_behind}
 use Rattle.mcap_model.proofs.Prefixes.{next_stands}
+use Rattle.mcap_model.specs.declared.rules.Rule.{Rule}
+use Rattle.mcap_model.specs.declared.rules.Rule.TheVariants as rules
 use Rattle.mcap_scan.specs.Sources.{ReadFromFront, unread_behind, IsCutOff}
 use Rattle.mcap_scan.specs.Taking.{RefusalCause, MagicRefused, RecordRefused, TakesFrontRecord, IsTakable}
 use Rattle.mcap_scan.proofs.Taking.{unread_broken}
@@ -67,10 +69,10 @@ part_given bytes tops rest n stands =
     ∙ sym (append_assoc magic (spelled tops ++ take n rest) (drop n rest))
 
 -- a part of the bytes that is cut off in the next record
-cut_off : (part : List ℕ) (tops : List Top) (rest : List ℕ) (offset : ℕ) → offset ≡ offset_behind tops → Tops part tops rest → Good reading_limits tops → (HasDataEnd tops → ⊥) → HaltsThere reading_limits tops rest (grammar offset 4) → IsCutOff part tops
+cut_off : (part : List ℕ) (tops : List Top) (rest : List ℕ) (offset : ℕ) → offset ≡ offset_behind tops → Tops part tops rest → Good reading_limits tops → (HasDataEnd tops → ⊥) → HaltsThere reading_limits tops rest (grammar offset rules.V4) → IsCutOff part tops
 cut_off part tops rest offset place stands good unended there = record {
-  kept = halts_are_last part tops rest (grammar offset 4) stands good (inr there);
-  cut = inr (subst (λ (n : ℕ). HaltsAt reading_limits part tops (grammar n 4)) place (behind_kept rest stands unended (grammar offset 4) there));
+  kept = halts_are_last part tops rest (grammar offset rules.V4) stands good (inr there);
+  cut = inr (subst (λ (n : ℕ). HaltsAt reading_limits part tops (grammar n rules.V4)) place (behind_kept rest stands unended (grammar offset rules.V4) there));
 }
 
 pub record_refused : (tables : Tables) (offset : ℕ) (before now now_new : SourceState) (tops : List Top) (why : ReadingRefused) → IsUnfinished tables offset before now tops
@@ -150,7 +152,7 @@ magic_refused tables offset before now now_new tops why was cause refused =
       still = c;
       halts = λ bytes known.
           let f = r bytes known in
-          let is : grammar at rule ≡ grammar 0 1 = ap (λ (n : ℕ). grammar n rule) f.0 ∙ ap (grammar 0) f.1 in
+          let is : grammar at rule ≡ grammar 0 rules.V1 = ap (λ (n : ℕ). grammar n rule) f.0 ∙ ap (grammar 0) f.1 in
           record { kept = kept_none bytes f.2; there = subst (HaltsAt reading_limits bytes []) (sym is) (no_magic f.2) };
       leaves = λ bytes known. let f = r bytes known in inl (f.2, f.3);
     }
@@ -215,7 +217,7 @@ front_due tops rest at op content place front takable = record {
   within = subst (λ (n : ℕ). is_beyond reading_limits n (declared_length rest) ≡ false) place (ap (is_beyond reading_limits at) front.len_is ∙ takable.within);
 }
 
-broken_there : (tops : List Top) (rest : List ℕ) (at op : ℕ) (content : List ℕ) (rule : ℕ) → at ≡ offset_behind tops → Begun rest (top op content) → IsTakable at op (length content) → ((tops ≡ [] → ⊥) → NamesNoCompression (top op content)) → Breaks tops (top op content) rule → HaltsThere reading_limits tops rest (grammar at rule)
+broken_there : (tops : List Top) (rest : List ℕ) (at op : ℕ) (content : List ℕ) (rule : Rule) → at ≡ offset_behind tops → Begun rest (top op content) → IsTakable at op (length content) → ((tops ≡ [] → ⊥) → NamesNoCompression (top op content)) → Breaks tops (top op content) rule → HaltsThere reading_limits tops rest (grammar at rule)
 broken_there tops rest at op content rule place front takable plain breaks =
     subst (λ (n : ℕ). HaltsThere reading_limits tops rest (grammar n rule)) (sym place)
     (broken_rule rule (front_due tops rest at op content place front takable) front.whole

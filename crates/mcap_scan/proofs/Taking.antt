@@ -7,14 +7,16 @@ use Rattle.mcap_wire.specs.Layout.{le, number, magic}
 use Rattle.mcap_wire.specs.Reading.{HeadAt, HasZeroOpcode}
 use Rattle.mcap_wire.proofs.Fields.{number_bytes, number_there}
 use Rattle.mcap_wire.proofs.Numbers.{length-le}
-use Rattle.mcap_io.specs.declared.outside.ReadRefused.{ReadRefused}
-use Rattle.mcap_io.specs.declared.outside.ReadRefused.TheVariants as reads
+use Rattle.mcap_io.specs.declared.outside.OutsideRefused.{OutsideRefused}
+use Rattle.mcap_io.specs.declared.outside.OutsideRefused.TheVariants as outside_refusals
 use Rattle.mcap_io.specs.Outside.{SourceState}
 use Rattle.mcap_io.specs.OutsideCalls.{StretchTaken, ReadCause}
 use Rattle.mcap_model.specs.Tops.{Top, offset_behind, opcode, declared_length, has_head, is_whole, behind_first}
 use Rattle.mcap_model.specs.Rules.{V1}
 use Rattle.mcap_model.specs.Kept.{reading_limits, is_beyond, HasOpcode, grammar, beyond, HaltsThere, short_head, zero_opcode, past_limit, cut_short}
 use Rattle.mcap_model.specs.declared.refusals.ReadingRefused.{ReadingRefused}
+use Rattle.mcap_model.specs.declared.rules.Rule.{Rule}
+use Rattle.mcap_model.specs.declared.rules.Rule.TheVariants as rules
 use Rattle.mcap_scan.specs.Sources.{unread_behind}
 use Rattle.mcap_scan.specs.Taking.{DueAny, Failure, RefusalCause, MagicRefused, TakesHead, HaltsAny, RecordRefused, TakesFrontRecord}
 
@@ -25,19 +27,19 @@ limit_behind : (at len : ℕ) (b : Bool) (tops : List Top) → at ≡ offset_beh
 limit_behind at len b tops place is = subst (λ (n : ℕ). is_beyond reading_limits n len ≡ b) place is
 
 -- there is no whole head
-headless_there : (rest : List ℕ) (at : ℕ) → has_head rest ≡ false → HaltsAny rest at (grammar at 4)
-headless_there rest at short tops place = subst (λ (n : ℕ). HaltsThere reading_limits tops rest (grammar n 4)) (sym place) (short_head short)
+headless_there : (rest : List ℕ) (at : ℕ) → has_head rest ≡ false → HaltsAny rest at (grammar at rules.V4)
+headless_there rest at short tops place = subst (λ (n : ℕ). HaltsThere reading_limits tops rest (grammar n rules.V4)) (sym place) (short_head short)
 
-zero_there : (rest : List ℕ) (at : ℕ) → has_head rest ≡ true → opcode rest ≡ 0 → HaltsAny rest at (grammar at 5)
-zero_there rest at head zero_op tops place = subst (λ (n : ℕ). HaltsThere reading_limits tops rest (grammar n 5)) (sym place) (zero_opcode head zero_op)
+zero_there : (rest : List ℕ) (at : ℕ) → has_head rest ≡ true → opcode rest ≡ 0 → HaltsAny rest at (grammar at rules.V5)
+zero_there rest at head zero_op tops place = subst (λ (n : ℕ). HaltsThere reading_limits tops rest (grammar n rules.V5)) (sym place) (zero_opcode head zero_op)
 
 past_there : (rest : List ℕ) (at : ℕ) → HasOpcode rest → is_beyond reading_limits at (declared_length rest) ≡ true → HaltsAny rest at (beyond at)
 past_there rest at head past tops place =
     subst (λ (n : ℕ). HaltsThere reading_limits tops rest (beyond n)) (sym place) (past_limit head (limit_behind at (declared_length rest) true tops place past))
 
-cut_there : (rest : List ℕ) (at : ℕ) → HasOpcode rest → is_beyond reading_limits at (declared_length rest) ≡ false → is_whole rest ≡ false → HaltsAny rest at (grammar at 4)
+cut_there : (rest : List ℕ) (at : ℕ) → HasOpcode rest → is_beyond reading_limits at (declared_length rest) ≡ false → is_whole rest ≡ false → HaltsAny rest at (grammar at rules.V4)
 cut_there rest at head within cut tops place =
-    subst (λ (n : ℕ). HaltsThere reading_limits tops rest (grammar n 4)) (sym place) (cut_short (record { head = head; within = limit_behind at (declared_length rest) false tops place within }) cut)
+    subst (λ (n : ℕ). HaltsThere reading_limits tops rest (grammar n rules.V4)) (sym place) (cut_short (record { head = head; within = limit_behind at (declared_length rest) false tops place within }) cut)
 
 -- ---- what stays unread behind a broken record
 
@@ -62,7 +64,7 @@ unread_other rest n other = by (eqb n 0) refl
     by false is = refl
 
 -- a record of a valid opcode that breaks a rule is read whole
-pub unread_broken : (rest : List ℕ) (at rule : ℕ) → (opcode rest ≡ 0 → ⊥) → unread_behind rest (grammar at rule) ≡ behind_first rest
+pub unread_broken : (rest : List ℕ) (at : ℕ) (rule : Rule) → (opcode rest ≡ 0 → ⊥) → unread_behind rest (grammar at rule) ≡ behind_first rest
 unread_broken rest at rule other = unread_other rest (opcode rest) other
 
 -- ---- heads
@@ -92,24 +94,24 @@ head_taken (r ∷ rs) bytes left op len is left_is head =
     }
 
 -- why a head wasn't read
-pub head_refused : (rest : List ℕ) (at : ℕ) (old new : SourceState) (got : List ℕ) (faults : ℕ) (why : ReadRefused) (end : ReadingRefused) → old.left ≡ Some rest → StretchTaken old.left new.left 9 got (Err why) → (IsErrOf {T = Unit {0}} (Err why) reads.Memory → 9 ≤ 65536 → new ≡ old) → Failure faults why end → RecordRefused rest at new.left end
-head_refused rest at old new got faults reads.Failed end told taken unread is =
+pub head_refused : (rest : List ℕ) (at : ℕ) (old new : SourceState) (got : List ℕ) (faults : ℕ) (why : OutsideRefused) (end : ReadingRefused) → old.left ≡ Some rest → StretchTaken old.left new.left 9 got (Err why) → (IsErrOf {T = Unit {0}} (Err why) outside_refusals.Memory → 9 ≤ 65536 → new ≡ old) → Failure faults why end → RecordRefused rest at new.left end
+head_refused rest at old new got faults outside_refusals.Failed end told taken unread is =
     let lost = taken rest told in
     let size = length-take lost.0 rest in
     let few : length (take lost.0 rest) < 9 = omega (arith, lost.1) in
     subst (λ (e : ReadingRefused). RecordRefused rest at new.left e) (sym is) (lost.0, lost.2, headless_there (take lost.0 rest) at (lt-leb 9 (length (take lost.0 rest)) few))
-head_refused rest at old new got faults reads.Memory end told taken unread is =
+head_refused rest at old new got faults outside_refusals.Memory end told taken unread is =
     subst (λ (e : ReadingRefused). RecordRefused rest at new.left e) (sym is) (inl (ap (λ (s : SourceState). s.left) (unread refl (omega arith)) ∙ told))
 
 -- fewer than nine bytes
-pub head_short : (rest bytes : List ℕ) (at : ℕ) (left : Option (List ℕ)) → bytes ≡ take 9 rest → left ≡ Some (drop 9 rest) → length bytes < 9 → HaltsAny rest at (grammar at 4) × (left ≡ Some (unread_behind rest (grammar at 4)))
+pub head_short : (rest bytes : List ℕ) (at : ℕ) (left : Option (List ℕ)) → bytes ≡ take 9 rest → left ≡ Some (drop 9 rest) → length bytes < 9 → HaltsAny rest at (grammar at rules.V4) × (left ≡ Some (unread_behind rest (grammar at rules.V4)))
 head_short rest bytes at left is left_is short =
     let size : length bytes ≡ min 9 (length rest) = ap length is ∙ length-take 9 rest in
     let few : length rest < 9 = omega (arith, size, short) in
     (headless_there rest at (lt-leb 9 (length rest) few), left_is ∙ ap Some (sym (unread_short rest (eqb (opcode rest) 0) few)))
 
 -- nine bytes of opcode 0
-pub head_zero : (rest bytes : List ℕ) (at : ℕ) (left : Option (List ℕ)) → bytes ≡ take 9 rest → left ≡ Some (drop 9 rest) → HasZeroOpcode bytes 0 → HaltsAny rest at (grammar at 5) × (left ≡ Some (unread_behind rest (grammar at 5)))
+pub head_zero : (rest bytes : List ℕ) (at : ℕ) (left : Option (List ℕ)) → bytes ≡ take 9 rest → left ≡ Some (drop 9 rest) → HasZeroOpcode bytes 0 → HaltsAny rest at (grammar at rules.V5) × (left ≡ Some (unread_behind rest (grammar at rules.V5)))
 head_zero rest bytes at left is left_is zero_op =
     let size : length bytes ≡ min 9 (length rest) = ap length is ∙ length-take 9 rest in
     let enough : 9 ≤ length rest = omega (arith, size, zero_op.0) in
@@ -141,7 +143,7 @@ pub beyond_there : (rest : List ℕ) (left : Option (List ℕ)) (at op len : ℕ
 beyond_there rest left at op len head past = (past_there rest at (opcode_there rest left op len head) (ap (is_beyond reading_limits at) head.len_is ∙ past), head_only rest left op len head)
 
 -- the content that was read is shorter than what was declared: it isn't all there
-pub content_short : (rest content : List ℕ) (left left_after : Option (List ℕ)) (at op len : ℕ) (head : TakesHead rest left op len) → is_beyond reading_limits at len ≡ false → content ≡ take len head.after → left_after ≡ Some (drop len head.after) → length content < len → HaltsAny rest at (grammar at 4) × (left_after ≡ Some (unread_behind rest (grammar at 4)))
+pub content_short : (rest content : List ℕ) (left left_after : Option (List ℕ)) (at op len : ℕ) (head : TakesHead rest left op len) → is_beyond reading_limits at len ≡ false → content ≡ take len head.after → left_after ≡ Some (drop len head.after) → length content < len → HaltsAny rest at (grammar at rules.V4) × (left_after ≡ Some (unread_behind rest (grammar at rules.V4)))
 content_short rest content left left_after at op len head within is left_is short =
     let size : length content ≡ min len (length head.after) = ap length is ∙ length-take len head.after in
     let whole : length rest ≡ suc (length (le 8 len ++ head.after)) = ap length head.split in
@@ -149,7 +151,7 @@ content_short rest content left left_after at op len head within is left_is shor
     let len_is = head.len_is in
     let eight = length-le 8 len in (
       cut_there rest at (opcode_there rest left op len head) (ap (is_beyond reading_limits at) len_is ∙ within) (lt-leb (9 + declared_length rest) (length rest) (omega arith)),
-      left_is ∙ ap Some (sym (unread_broken rest at 4 (valid_there rest left op len head) ∙ behind_record rest left op len head)),
+      left_is ∙ ap Some (sym (unread_broken rest at rules.V4 (valid_there rest left op len head) ∙ behind_record rest left op len head)),
     )
 
 -- ---- a source that failed, or memory that lacked
@@ -191,18 +193,18 @@ due_there rest left at op len head within tops place = record {
 
 -- why a content wasn't read
 -- a first part of the content was lost
-content_lost : (rest : List ℕ) (old new : Option (List ℕ)) (op len : ℕ) (got : List ℕ) (why : ReadRefused) → TakesHead rest old op len → StretchTaken old new len got (Err why) → (n : ℕ) × (n < len) × (new ≡ Some (drop (9 + n) rest))
+content_lost : (rest : List ℕ) (old new : Option (List ℕ)) (op len : ℕ) (got : List ℕ) (why : OutsideRefused) → TakesHead rest old op len → StretchTaken old new len got (Err why) → (n : ℕ) × (n < len) × (new ≡ Some (drop (9 + n) rest))
 content_lost rest old new op len got why head taken =
     let lost = taken head.after head.left_after in
     (lost.0, lost.1, lost.2 ∙ ap (λ (l : List ℕ). Some (drop lost.0 l)) (sym (behind_head rest old op len head)) ∙ ap Some (drop-drop lost.0 9 rest))
 
-pub content_refused : (rest : List ℕ) (at : ℕ) (old new : Option (List ℕ)) (op len : ℕ) (got : List ℕ) (faults : ℕ) (why : ReadRefused) (end : ReadingRefused) → TakesHead rest old op len → is_beyond reading_limits at len ≡ false → StretchTaken old new len got (Err why) → Failure faults why end → RecordRefused rest at new end
-content_refused rest at old new op len got faults reads.Failed end head within taken is =
-    let lost = content_lost rest old new op len got reads.Failed head taken in
+pub content_refused : (rest : List ℕ) (at : ℕ) (old new : Option (List ℕ)) (op len : ℕ) (got : List ℕ) (faults : ℕ) (why : OutsideRefused) (end : ReadingRefused) → TakesHead rest old op len → is_beyond reading_limits at len ≡ false → StretchTaken old new len got (Err why) → Failure faults why end → RecordRefused rest at new end
+content_refused rest at old new op len got faults outside_refusals.Failed end head within taken is =
+    let lost = content_lost rest old new op len got outside_refusals.Failed head taken in
     subst (λ (e : ReadingRefused). RecordRefused rest at new e) (sym is)
     (9 + lost.0, lost.2, cut_there (take (9 + lost.0) rest) at (front_opcode rest old op len lost.0 head) (ap (is_beyond reading_limits at) (declares_there rest lost.0 len head.len_is) ∙ within) (few_behind rest lost.0 len head.len_is lost.1))
-content_refused rest at old new op len got faults reads.Memory end head within taken is =
-    let lost = content_lost rest old new op len got reads.Memory head taken in
+content_refused rest at old new op len got faults outside_refusals.Memory end head within taken is =
+    let lost = content_lost rest old new op len got outside_refusals.Memory head taken in
     let declared = head.len_is in
     subst (λ (e : ReadingRefused). RecordRefused rest at new e) (sym is) (inr (due_there rest old at op len head within, (lost.0, omega (arith, declared, lost.1), lost.2)))
 
@@ -220,13 +222,13 @@ record_taken rest content left left_after op len head is left_is enough few =
 
 -- ---- the magic
 
-pub magic_refused : (bytes : List ℕ) (old new : SourceState) (got : List ℕ) (faults : ℕ) (why : ReadRefused) (end : ReadingRefused) → old.left ≡ Some bytes → StretchTaken old.left new.left 8 got (Err why) → (IsErrOf {T = Unit {0}} (Err why) reads.Memory → 8 ≤ 65536 → new ≡ old) → Failure faults why end → MagicRefused bytes new.left end
-magic_refused bytes old new got faults reads.Failed end told taken unread is =
+pub magic_refused : (bytes : List ℕ) (old new : SourceState) (got : List ℕ) (faults : ℕ) (why : OutsideRefused) (end : ReadingRefused) → old.left ≡ Some bytes → StretchTaken old.left new.left 8 got (Err why) → (IsErrOf {T = Unit {0}} (Err why) outside_refusals.Memory → 8 ≤ 65536 → new ≡ old) → Failure faults why end → MagicRefused bytes new.left end
+magic_refused bytes old new got faults outside_refusals.Failed end told taken unread is =
     let lost = taken bytes told in
     let size = length-take lost.0 bytes in
     let few : length (take lost.0 bytes) < 8 = omega (arith, lost.1) in
     subst (λ (e : ReadingRefused). MagicRefused bytes new.left e) (sym is) (lost.0, lost.2, few)
-magic_refused bytes old new got faults reads.Memory end told taken unread is =
+magic_refused bytes old new got faults outside_refusals.Memory end told taken unread is =
     subst (λ (e : ReadingRefused). MagicRefused bytes new.left e) (sym is) (ap (λ (s : SourceState). s.left) (unread refl (omega arith)) ∙ told)
 
 pub magic_lacks : (bytes got : List ℕ) → got ≡ take 8 bytes → (got ≡ magic → ⊥) → V1 bytes → ⊥
@@ -237,6 +239,6 @@ magic_there bytes got is same = sym (take-append-drop 8 bytes) ∙ ap (λ (l : L
 
 -- ---- counts of faults
 
-pub failure_cause : (before now : ℕ) (why : ReadRefused) (end : ReadingRefused) → ReadCause {T = Unit} before now (Err why) → Failure now why end → RefusalCause before now end
-failure_cause before now reads.Failed end cause is = subst (RefusalCause before now) (sym is) (cause, refl)
-failure_cause before now reads.Memory end cause is = subst (RefusalCause before now) (sym is) cause
+pub failure_cause : (before now : ℕ) (why : OutsideRefused) (end : ReadingRefused) → ReadCause {T = Unit} before now (Err why) → Failure now why end → RefusalCause before now end
+failure_cause before now outside_refusals.Failed end cause is = subst (RefusalCause before now) (sym is) (cause, refl)
+failure_cause before now outside_refusals.Memory end cause is = subst (RefusalCause before now) (sym is) cause

@@ -5,6 +5,7 @@ use Rattle.mcap_model.specs.Tops.{Top, Tops, offset_behind, opcode, declared_len
 use Rattle.mcap_model.specs.Rules.{V1}
 use Rattle.mcap_model.specs.Kept.{reading_limits, Kept, Halt, at_end, grammar, compressed, beyond, IsDue, IsPacked, HaltsAt}
 use Rattle.mcap_model.specs.WantsOfMemory.{MayWantMemory}
+use Rattle.mcap_model.specs.declared.rules.Rule.TheVariants as rules
 
 -- where the bytes before are told, these records were taken from their front, and the rest is left
 abbrev pub ReadFromFront : SourceState → SourceState → List Top → Type 0
@@ -31,7 +32,7 @@ HaltLeaves bytes tops halt left = ((V1 bytes → ⊥) × (left ≡ Some (drop 8 
 -- These bytes are cut off: a reading keeps these records of them, and awaits more of the next one, or of the magic.
 pub record IsCutOff (part : List ℕ) (tops : List Top) : Type 0 where
   pub kept : Kept reading_limits part tops
-  pub cut : (length part < 8) ⊎ HaltsAt reading_limits part tops (grammar (offset_behind tops) 4)
+  pub cut : (length part < 8) ⊎ HaltsAt reading_limits part tops (grammar (offset_behind tops) rules.V4)
 
 -- the source gave bytes that are cut off, and has the rest
 pub record FaultLeaves (bytes : List ℕ) (tops : List Top) (left : Option (List ℕ)) : Type 0 where

@@ -2,8 +2,8 @@
 use Rattle.std.specs.Prelude.{◌≡◌, ◌⊎◌, ℕ, ◌<◌, List, ◌∷◌, ◌++◌, length, take, drop, true, false, Option, Some, Result, Ok, Err}
 use Rattle.mcap_wire.specs.Layout.{le, framed, magic}
 use Rattle.mcap_wire.specs.declared.faults.Head.{Head}
-use Rattle.mcap_io.specs.declared.outside.ReadRefused.{ReadRefused}
-use Rattle.mcap_io.specs.declared.outside.ReadRefused.TheVariants as reads
+use Rattle.mcap_io.specs.declared.outside.OutsideRefused.{OutsideRefused}
+use Rattle.mcap_io.specs.declared.outside.OutsideRefused.TheVariants as outside_refusals
 use Rattle.mcap_io.specs.Outside.{RisesOnce}
 use Rattle.mcap_model.specs.Tops.{Top, offset_behind, has_head, opcode, declared_length}
 use Rattle.mcap_model.specs.Rules.{V1}
@@ -11,13 +11,14 @@ use Rattle.mcap_model.specs.Kept.{reading_limits, is_beyond, Halt, grammar, beyo
 use Rattle.mcap_scan.specs.Sources.{unread_behind, ReadWithin}
 use Rattle.mcap_model.specs.declared.refusals.ReadingRefused.{ReadingRefused}
 use Rattle.mcap_model.specs.declared.refusals.ReadingRefused.TheVariants as refusals
+use Rattle.mcap_model.specs.declared.rules.Rule.TheVariants as rules
 
 -- ---- why a source couldn't be read
 
 -- the refusal for a read that failed
-abbrev pub Failure : ℕ → ReadRefused → ReadingRefused → Type 0
-Failure faults reads.Failed why = why ≡ refusals.Fault faults
-Failure faults reads.Memory why = why ≡ refusals.Memory
+abbrev pub Failure : ℕ → OutsideRefused → ReadingRefused → Type 0
+Failure faults outside_refusals.Failed why = why ≡ refusals.Fault faults
+Failure faults outside_refusals.Memory why = why ≡ refusals.Memory
 
 -- the count of faults stands still but at a fault, which carries it, and where it rose by one
 abbrev pub RefusalCause : ℕ → ℕ → ReadingRefused → Type 0
@@ -32,7 +33,7 @@ TakingCause before now (Err why) = RefusalCause before now why
 
 abbrev pub MagicRefused : List ℕ → Option (List ℕ) → ReadingRefused → Type 0
 MagicRefused bytes left (refusals.Fault faults) = (n : ℕ) × (left ≡ Some (drop n bytes)) × (length (take n bytes) < 8)
-MagicRefused bytes left (refusals.Grammar offset rule) = (offset ≡ 0) × (rule ≡ 1) × (V1 bytes → ⊥) × (left ≡ Some (drop 8 bytes))
+MagicRefused bytes left (refusals.Grammar offset rule) = (offset ≡ 0) × (rule ≡ rules.V1) × (V1 bytes → ⊥) × (left ≡ Some (drop 8 bytes))
 MagicRefused bytes left (refusals.Compressed offset name) = ⊥
 MagicRefused bytes left (refusals.Limit offset) = ⊥
 MagicRefused bytes left refusals.Memory = left ≡ Some bytes
@@ -65,7 +66,7 @@ DueAny rest at = (tops : List Top) → at ≡ offset_behind tops → IsDue readi
 
 -- why no record could be taken from the front of what was left, at that offset
 abbrev pub RecordRefused : List ℕ → ℕ → Option (List ℕ) → ReadingRefused → Type 0
-RecordRefused rest at left (refusals.Fault faults) = (n : ℕ) × (left ≡ Some (drop n rest)) × HaltsAny (take n rest) at (grammar at 4)
+RecordRefused rest at left (refusals.Fault faults) = (n : ℕ) × (left ≡ Some (drop n rest)) × HaltsAny (take n rest) at (grammar at rules.V4)
 RecordRefused rest at left (refusals.Grammar offset rule) = HaltsAny rest at (grammar offset rule) × (left ≡ Some (unread_behind rest (grammar offset rule)))
 RecordRefused rest at left (refusals.Compressed offset name) = ⊥
 RecordRefused rest at left (refusals.Limit offset) = HaltsAny rest at (beyond offset) × (left ≡ Some (unread_behind rest (beyond offset)))

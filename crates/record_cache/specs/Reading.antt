@@ -3,6 +3,7 @@ use Rattle.std.specs.Prelude.{ℕ, zero, suc, List, [], ◌∷◌, length, take,
 use Rattle.mcap_wire.specs.Layout.{number}
 use Rattle.rec_data.specs.declared.owned.Rec.{Rec}
 use Rattle.rec_data.specs.declared.owned.Rec.TheVariants.{Schema, Channel, Message}
+use Rattle.rec_data.specs.Records.{schema_opcode, channel_opcode}
 
 -- a text behind its length in four bytes, and what follows it
 abbrev pub first_text : List ℕ → List ℕ
@@ -38,7 +39,7 @@ message_read content =
     (number (take 8 (drop 8 (drop 4 (drop 2 content))))) (drop 8 (drop 8 (drop 4 (drop 2 content))))
 
 unfoldable pub record_read : ℕ → List ℕ → Rec
-record_read op content = if op == 3 then schema_read content else (if op == 4 then channel_read content else message_read content)
+record_read op content = if op == schema_opcode then schema_read content else (if op == channel_opcode then channel_read content else message_read content)
 
 -- at most so many records
 unfoldable pub records_within : ℕ → List ℕ → List Rec

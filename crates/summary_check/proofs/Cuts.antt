@@ -23,6 +23,7 @@ use Rattle.summary_read.specs.PartSteps.{cut_tops}
 use Rattle.summary_read.proofs.Walking.{declared_there, opcode_there}
 use Rattle.mcap_model.specs.declared.refusals.ReadingRefused.{ReadingRefused}
 use Rattle.mcap_model.specs.declared.refusals.ReadingRefused.TheVariants as refusals
+use Rattle.mcap_model.specs.declared.rules.Rule.TheVariants as rules
 use Rattle.summary_check.specs.Files.{spelled_file, FailsThere}
 use Rattle.summary_check.specs.Cutting.{IsRead, CutsBehindTo, AreCutBehind}
 
@@ -36,7 +37,7 @@ inner_is rest =
 pub size_of : (tops : List Top) (rest : List ℕ) → length (spelled_file tops rest) ≡ offset_behind tops + (length rest + 8)
 size_of tops rest = omega (arith, length-append magic (spelled tops ++ (rest ++ magic)), length-append (spelled tops) (rest ++ magic), length-append rest magic)
 
-unfits : (tops : List Top) (rest : List ℕ) (offset : ℕ) → AreShort tops → offset ≡ offset_behind tops → 0 < length rest → (has_head rest ≡ false) ⊎ (is_whole rest ≡ false) → Flaw (spelled_file tops rest) 4 offset
+unfits : (tops : List Top) (rest : List ℕ) (offset : ℕ) → AreShort tops → offset ≡ offset_behind tops → 0 < length rest → (has_head rest ≡ false) ⊎ (is_whole rest ≡ false) → Flaw (spelled_file tops rest) rules.V4 offset
 unfits tops rest offset short there some none = flaw_4 offset (record {
   tops = tops;
   rest = rest ++ magic;
@@ -55,7 +56,7 @@ pub front_length : (rest : List ℕ) → 9 ≤ length rest → declared_length (
 front_length [] some = absurd (omega (arith, some))
 front_length (b ∷ bytes) some = ap number (take-append-le 8 bytes magic (omega (arith, some)))
 
-zero_fails : (tops : List Top) (rest : List ℕ) (offset : ℕ) → AreShort tops → offset ≡ offset_behind tops → 9 ≤ length rest → opcode rest ≡ 0 → Flaw (spelled_file tops rest) 5 offset
+zero_fails : (tops : List Top) (rest : List ℕ) (offset : ℕ) → AreShort tops → offset ≡ offset_behind tops → 9 ≤ length rest → opcode rest ≡ 0 → Flaw (spelled_file tops rest) rules.V5 offset
 zero_fails tops rest offset short there head none = flaw_5 offset (inr (inl (record {
   tops = tops;
   rest = rest ++ magic;
@@ -66,14 +67,14 @@ zero_fails tops rest offset short there head none = flaw_5 offset (inr (inl (rec
   zero = front_opcode rest head ∙ none;
 })))
 
-pub short_refused : (bytes : List ℕ) (at offset : ℕ) (tops : List Top) → at < length bytes → CutFails bytes at cut_faults.Short → AreShort tops → offset ≡ offset_behind tops → FailsThere (spelled_file tops (drop at bytes)) (refusals.Grammar offset 4)
+pub short_refused : (bytes : List ℕ) (at offset : ℕ) (tops : List Top) → at < length bytes → CutFails bytes at cut_faults.Short → AreShort tops → offset ≡ offset_behind tops → FailsThere (spelled_file tops (drop at bytes)) (refusals.Grammar offset rules.V4)
 short_refused bytes at offset tops inside (inl head) short there =
     unfits tops (drop at bytes) offset short there (omega (arith, length-drop at bytes, inside)) (inl (lt-leb 9 (length (drop at bytes)) (omega (arith, length-drop at bytes, head))))
 short_refused bytes at offset tops inside (inr content) short there =
     let rest = drop at bytes in
     unfits tops rest offset short there (omega (arith, length-drop at bytes, inside)) (inr (lt-leb (9 + declared_length rest) (length rest) (omega (arith, length-drop at bytes, declared_there bytes at, content.2))))
 
-pub zero_refused : (bytes : List ℕ) (at offset : ℕ) (tops : List Top) → CutFails bytes at cut_faults.ZeroOp → AreShort tops → offset ≡ offset_behind tops → FailsThere (spelled_file tops (drop at bytes)) (refusals.Grammar offset 5)
+pub zero_refused : (bytes : List ℕ) (at offset : ℕ) (tops : List Top) → CutFails bytes at cut_faults.ZeroOp → AreShort tops → offset ≡ offset_behind tops → FailsThere (spelled_file tops (drop at bytes)) (refusals.Grammar offset rules.V5)
 zero_refused bytes at offset tops fails short there =
     zero_fails tops (drop at bytes) offset short there (omega (arith, length-drop at bytes, fails.0)) (opcode_there bytes at ∙ fails.1)
 

@@ -11,6 +11,7 @@ use Rattle.mcap_model.proofs.Flat.{flat_more}
 use Rattle.mcap_model.proofs.Front.{IsTail, tail_not}
 use Rattle.mcap_model.proofs.Histories.{flat_none}
 use Rattle.mcap_model.proofs.Places.{at_none}
+use Rattle.mcap_model.specs.declared.rules.Rule.{Rule}
 use Rattle.std.proofs.lemmas.Option.{same_Some}
 use Rattle.summary_read.specs.Steps.{Judged}
 use Rattle.summary_check.specs.Declaring.{DeclarationTaken}
@@ -57,6 +58,6 @@ declared_taken before t tables alone agrees are = (
   subst (λ (l : List Top). TablesOf l tables) (sym (flat_more before t ∙ ap (λ (l : List Top). flat before ++ l) alone)) are,
 )
 
-pub declared_refused : (before : List Top) (t : Top) (rule : ℕ) → flattened t ≡ t ∷ [] → BreaksFlat (flat before) t rule → V6 t → V7 before t → ⊥
+pub declared_refused : (before : List Top) (t : Top) (rule : Rule) → flattened t ≡ t ∷ [] → BreaksFlat (flat before) t rule → V6 t → V7 before t → ⊥
 declared_refused before t rule alone (inl (_, bad)) v6 v7 = bad v6
 declared_refused before t rule alone (inr (_, _, bad)) v6 v7 = bad (alone_agrees before t alone v7)

@@ -12,6 +12,8 @@ use Rattle.mcap_model.specs.Plain.{cut_top}
 use Rattle.mcap_model.proofs.Front.{IsTail, tail_not}
 use Rattle.mcap_model.proofs.Lists.{each_cons, each_joined, each_taken}
 use Rattle.mcap_model.proofs.Places.{at_none, at_within}
+use Rattle.mcap_model.specs.declared.rules.Rule.TheVariants as rules
+use Rattle.mcap_model.specs.declared.rules.Rule.{Rule}
 use Rattle.summary_read.specs.PartSteps.{cut_tops}
 use Rattle.summary_read.specs.Steps.{Judged}
 use Rattle.summary_check.specs.Body.{known, KnownInPlace}
@@ -74,23 +76,23 @@ module _ (tops : List Top) (bytes : List ℕ) (cuts : List Cut) (foot : Cut) (st
       each_joined IsPlain tops (body ++ cut_top bytes foot ∷ []) filed.plain
       (each_joined IsPlain body (cut_top bytes foot ∷ []) (λ n t at. judged_plain t (judged n t at)) (each_cons IsPlain (cut_top bytes foot) [] foot_plain (λ n t at. absurd (at_none n t at))))
 
-  pub kind_flaw : (k rule : ℕ) (t : Top) → At body k t → Judged t (Some rule) → Flaw file rule (offset_of all (length tops + k))
+  pub kind_flaw : (k : ℕ) (rule : Rule) (t : Top) → At body k t → Judged t (Some rule) → Flaw file rule (offset_of all (length tops + k))
   kind_flaw k rule t at (inl (same, none)) =
       let laid = filed.laid in
-      subst (λ (r : ℕ). Flaw file r (offset_of all (length tops + k))) (sym same) (flaw_5 (offset_of all (length tops + k)) (inr (inr (
+      subst (λ (r : Rule). Flaw file r (offset_of all (length tops + k))) (sym same) (flaw_5 (offset_of all (length tops + k)) (inr (inr (
       fails_in V5Behind k t at (λ v. both_ways (stands_in_summary t.op) none (v.0 (body_within tops body (cut_top bytes foot) laid.ended k (at_within body k t at)))))
       )))
   kind_flaw k rule t at (inr (same, bad)) =
-      subst (λ (r : ℕ). Flaw file r (offset_of all (length tops + k))) (sym same) (flaw_6 (offset_of all (length tops + k)) (fails_among (λ l n. V6) k t at bad))
+      subst (λ (r : Rule). Flaw file r (offset_of all (length tops + k))) (sym same) (flaw_6 (offset_of all (length tops + k)) (fails_among (λ l n. V6) k t at bad))
 
-  pub declaration_flaw : (k : ℕ) (t : Top) → Each (λ u. Judged u None) body → At body k t → (V7 (tops ++ take k body) t → ⊥) → Flaw file 7 (offset_of all (length tops + k))
+  pub declaration_flaw : (k : ℕ) (t : Top) → Each (λ u. Judged u None) body → At body k t → (V7 (tops ++ take k body) t → ⊥) → Flaw file rules.V7 (offset_of all (length tops + k))
   declaration_flaw k t judged at bad =
       let within = at_within body k t at in
       flaw_7 (offset_of all (length tops + k)) (fails_among (WherePlain (Behind V7)) k t at (λ keeps.
       bad (subst (λ (l : List Top). V7 l t) (before_body tops body (cut_top bytes foot) k (omega (arith, within))) (keeps (each_taken IsPlain all (suc (length tops + k)) (all_plain judged))))
       ))
 
-  pub order_flaw : (k : ℕ) (t : Top) → At body k t → (KnownInPlace body k t → ⊥) → Flaw file 11 (offset_of all (length tops + k))
+  pub order_flaw : (k : ℕ) (t : Top) → At body k t → (KnownInPlace body k t → ⊥) → Flaw file rules.V11 (offset_of all (length tops + k))
   order_flaw k t at bad =
       let laid = filed.laid in
       let within = at_within body k t at in
@@ -99,17 +101,17 @@ module _ (tops : List Top) (bytes : List ℕ) (cuts : List Cut) (foot : Cut) (st
       bad (λ known_is. subst (λ (l : List Top). IsInPlace l t) front (v.1 (body_within tops body (cut_top bytes foot) laid.ended k within) known_is))
       ))
 
-  pub index_flaw : (k rule : ℕ) (t : Top) → Each (λ u. Judged u None) body → At body k t → BreaksIndexing all (length tops + k) t rule → Flaw file rule (offset_of all (length tops + k))
+  pub index_flaw : (k : ℕ) (rule : Rule) (t : Top) → Each (λ u. Judged u None) body → At body k t → BreaksIndexing all (length tops + k) t rule → Flaw file rule (offset_of all (length tops + k))
   index_flaw k rule t judged at (inl (same, bad)) =
-      subst (λ (r : ℕ). Flaw file r (offset_of all (length tops + k))) (sym same) (flaw_12 (offset_of all (length tops + k)) (
+      subst (λ (r : Rule). Flaw file r (offset_of all (length tops + k))) (sym same) (flaw_12 (offset_of all (length tops + k)) (
       fails_in (WherePlain V12) k t at (λ keeps. bad (keeps (each_taken IsPlain all (suc (length tops + k)) (all_plain judged))))
       ))
   index_flaw k rule t judged at (inr (same, bad)) =
-      subst (λ (r : ℕ). Flaw file r (offset_of all (length tops + k))) (sym same) (flaw_13 (offset_of all (length tops + k)) (fails_in V13 k t at bad))
+      subst (λ (r : Rule). Flaw file r (offset_of all (length tops + k))) (sym same) (flaw_13 (offset_of all (length tops + k)) (fails_in V13 k t at bad))
 
-  pub statistics_flaw : (k : ℕ) (t : Top) → Each (λ u. Judged u None) body → At body k t → (V14 all (length tops + k) t → ⊥) → Flaw file 14 (offset_of all (length tops + k))
+  pub statistics_flaw : (k : ℕ) (t : Top) → Each (λ u. Judged u None) body → At body k t → (V14 all (length tops + k) t → ⊥) → Flaw file rules.V14 (offset_of all (length tops + k))
   statistics_flaw k t judged at bad =
       flaw_14 (offset_of all (length tops + k)) (fails_in (WherePlain V14) k t at (λ keeps. bad (keeps (each_taken IsPlain all (suc (length tops + k)) (all_plain judged)))))
 
-  pub offset_flaw : (k : ℕ) (t : Top) → At body k t → (V15 all (length tops + k) t → ⊥) → Flaw file 15 (offset_of all (length tops + k))
+  pub offset_flaw : (k : ℕ) (t : Top) → At body k t → (V15 all (length tops + k) t → ⊥) → Flaw file rules.V15 (offset_of all (length tops + k))
   offset_flaw k t at bad = flaw_15 (offset_of all (length tops + k)) (fails_in V15 k t at bad)

@@ -19,6 +19,7 @@ use Rattle.mcap_model.proofs.Lists.{each_joined}
 use Rattle.mcap_model.proofs.Places.{at_none, at_within, at_kept, at_last, last_apart}
 use Rattle.mcap_model.proofs.Readings.{short_there}
 use Rattle.mcap_model.proofs.TakenRecords.{ended_more}
+use Rattle.mcap_model.specs.declared.rules.Rule.TheVariants as rules
 use Rattle.index_check.specs.declared.section.Section.{Section}
 use Rattle.summary_read.specs.PartSteps.{cut_tops, AreInside}
 use Rattle.summary_read.proofs.FileEnds.{footer_size}
@@ -151,19 +152,19 @@ no_end : (tops before : List Top) (last : Top) → tops ≡ before ++ last ∷ [
 no_end tops before last joined none (front, t, same, (summary, offsets, crc, footer), _) =
     none summary offsets crc (subst (λ (x : Top). IsFooter x summary offsets crc) (last_same front before t last (sym same ∙ joined)) footer)
 
-end_flaw : (tops all : List Top) (rest : List ℕ) (offset : ℕ) → IsWhole (spelled_file tops rest) all → (V17 all → ⊥) → offset ≡ offset_behind tops + (length rest + 8) - 37 → Flaw (spelled_file tops rest) 17 offset
+end_flaw : (tops all : List Top) (rest : List ℕ) (offset : ℕ) → IsWhole (spelled_file tops rest) all → (V17 all → ⊥) → offset ≡ offset_behind tops + (length rest + 8) - 37 → Flaw (spelled_file tops rest) rules.V17 offset
 end_flaw tops all rest offset whole bad there =
     let same : length (spelled_file tops rest) - 37 ≡ offset = omega (arith, size_of tops rest, there) in
-    subst (Flaw (spelled_file tops rest) 17) same (flaw_17 (inr (all, whole, bad)))
+    subst (Flaw (spelled_file tops rest) rules.V17) same (flaw_17 (inr (all, whole, bad)))
 
 -- nothing stands behind the Data End
-pub nothing_flaw : (tops : List Top) (bytes : List ℕ) (offset : ℕ) → EndsWithDataEnd tops → AreShort tops → AreCutBehind bytes [] → offset ≡ offset_behind tops + (length bytes + 8) - 37 → Flaw (spelled_file tops bytes) 17 offset
+pub nothing_flaw : (tops : List Top) (bytes : List ℕ) (offset : ℕ) → EndsWithDataEnd tops → AreShort tops → AreCutBehind bytes [] → offset ≡ offset_behind tops + (length bytes + 8) - 37 → Flaw (spelled_file tops bytes) rules.V17 offset
 nothing_flaw tops bytes offset ended short are there =
     end_flaw tops tops bytes offset (record { split = ap (λ (l : List ℕ). magic ++ (spelled tops ++ (l ++ magic))) are.split; short = short })
     (no_end tops ended.section ended.end ended.joined (λ summary offsets crc footer. omega (arith, ended.kind, footer.kind))) there
 
 -- the last record is no Footer
-pub footless_flaw : (tops : List Top) (bytes : List ℕ) (cuts : List Cut) (foot : Cut) (offset : ℕ) → AreShort tops → AreCutBehind bytes (cuts ++ foot ∷ []) → NoFooter bytes foot → offset ≡ offset_behind tops + (length bytes + 8) - 37 → Flaw (spelled_file tops bytes) 17 offset
+pub footless_flaw : (tops : List Top) (bytes : List ℕ) (cuts : List Cut) (foot : Cut) (offset : ℕ) → AreShort tops → AreCutBehind bytes (cuts ++ foot ∷ []) → NoFooter bytes foot → offset ≡ offset_behind tops + (length bytes + 8) - 37 → Flaw (spelled_file tops bytes) rules.V17 offset
 footless_flaw tops bytes cuts foot offset short are none there =
     end_flaw tops (records_of tops bytes cuts foot) bytes offset (whole_of tops bytes cuts foot are short)
     (no_end (records_of tops bytes cuts foot) (tops ++ cut_tops bytes cuts) (cut_top bytes foot) (sym (append_assoc tops (cut_tops bytes cuts) (cut_top bytes foot ∷ []))) none) there

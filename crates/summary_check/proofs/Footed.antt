@@ -15,6 +15,7 @@ use Rattle.mcap_model.proofs.Flat.{at_mapped}
 use Rattle.mcap_model.proofs.Places.{at_within, at_kept, at_last}
 use Rattle.mcap_model.proofs.Lists.{has_taken}
 use Rattle.mcap_model.proofs.ReadBack.{at_map}
+use Rattle.mcap_model.specs.declared.rules.Rule.TheVariants as rules
 use Rattle.index_check.specs.declared.summary_places.SummaryPlaces.{SummaryPlaces}
 use Rattle.index_check.proofs.Ends.{named_start}
 use Rattle.index_check.specs.SummaryPlaces.{FirstStands, PlacesOf}
@@ -132,7 +133,7 @@ module _ (tops : List Top) (bytes : List ℕ) (cuts : List Cut) (foot : Cut) (st
       breaks = breaks;
     }
 
-    pub places_flaw : (offset : ℕ) → offset ≡ start + (foot.from - 9) → (NamesSummary all last f.summary_start f.summary_offset_start → ⊥) → Flaw (spelled_file tops bytes) 11 offset
+    pub places_flaw : (offset : ℕ) → offset ≡ start + (foot.from - 9) → (NamesSummary all last f.summary_start f.summary_offset_start → ⊥) → Flaw (spelled_file tops bytes) rules.V11 offset
     places_flaw offset there bad = flaw_11 offset (fails_last V11 offset there (λ v. bad (v.0 f.summary_start f.summary_offset_start f.summary_crc is_end is)))
 
     pub crc_unasked : f.summary_start ≡ 0 → V16 (spelled_file tops bytes) all last (cut_top bytes foot)
@@ -140,7 +141,7 @@ module _ (tops : List Top) (bytes : List ℕ) (cuts : List Cut) (foot : Cut) (st
         let same = footer_once (cut_top bytes foot).content f.summary_start f.summary_offset_start f.summary_crc summary offsets crc is.layout other.layout in
         absurd (some (sym same.0 ∙ none))
 
-    pub crc_flaw : (offset : ℕ) → offset ≡ start + (foot.from - 9) → (V16 (spelled_file tops bytes) all last (cut_top bytes foot) → ⊥) → Flaw (spelled_file tops bytes) 16 offset
+    pub crc_flaw : (offset : ℕ) → offset ≡ start + (foot.from - 9) → (V16 (spelled_file tops bytes) all last (cut_top bytes foot) → ⊥) → Flaw (spelled_file tops bytes) rules.V16 offset
     crc_flaw offset there bad = flaw_16 offset (fails_last (V16 (spelled_file tops bytes)) offset there bad)
 
     -- the bytes that the CRC covers

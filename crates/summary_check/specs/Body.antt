@@ -3,6 +3,7 @@ use Rattle.std.specs.Prelude.{◌≡◌, ℕ, ◌+◌, List, [], ◌∷◌, ◌+
 use Rattle.mcap_model.specs.Places.{At, Each}
 use Rattle.mcap_model.specs.Tops.{Top}
 use Rattle.mcap_model.specs.Whole.{is_known, IsInPlace}
+use Rattle.mcap_model.specs.declared.rules.Rule.{Rule}
 use Rattle.summary_read.specs.Steps.{Judged}
 use Rattle.index_check.specs.declared.order.Order.{Order}
 use Rattle.index_check.specs.Order.{OrderOf}
@@ -26,7 +27,7 @@ RuleJudged R all base body (Some k) = BrokenAt R all base body k
 -- ---- kinds and layouts
 
 -- each record may stand there, and its content can be read; or one breaks that rule
-abbrev pub BrokenFound : List Top → Option (ℕ × ℕ) → Type 0
+abbrev pub BrokenFound : List Top → Option (ℕ × Rule) → Type 0
 BrokenFound body None = Each (λ t. Judged t None) body
 BrokenFound body (Some found) = (t : Top) × At body found.0 t × Judged t (Some found.1)
 

@@ -5,6 +5,7 @@ use Rattle.mcap_model.specs.Tops.{Top, spelled}
 use Rattle.mcap_model.specs.Valid.{Flaw}
 use Rattle.mcap_model.specs.declared.refusals.ReadingRefused.{ReadingRefused}
 use Rattle.mcap_model.specs.declared.refusals.ReadingRefused.TheVariants as refusals
+use Rattle.mcap_model.specs.declared.rules.Rule.{Rule}
 use Rattle.summary_check.specs.PassedLimits.{PassesLimit}
 
 -- the file of these records, of the bytes behind them, and of the last magic
@@ -28,5 +29,5 @@ IsOfSummary (refusals.Limit offset) = Unit {0}
 IsOfSummary refusals.Memory = Unit {0}
 
 -- the rule fails at that offset
-abbrev pub flawed_at : ℕ → ℕ → ReadingRefused
+abbrev pub flawed_at : Rule → ℕ → ReadingRefused
 flawed_at rule offset = refusals.Grammar offset rule

@@ -1,5 +1,6 @@
 -- When a valid file is fully indexed.
 use Rattle.std.specs.Prelude.{◌≡◌, ℕ, List, [], Bool, true, false}
+use Rattle.rec_index.specs.Records.{statistics_opcode}
 use Rattle.mcap_model.specs.Places.{At, Each}
 use Rattle.mcap_model.specs.Tops.{Top, inner_tops}
 use Rattle.mcap_model.specs.Fields.{ChunkFields, ChunkIndexFields, IsChunkIndex}
@@ -17,7 +18,7 @@ abbrev pub EmptyRight : List Top → Top → Type 0
 EmptyRight all t = (f : ChunkIndexFields) (k : ℕ) (c : Top) (g : ChunkFields) → IsChunkIndex t f → IsIndexOf all f k c g → EmptyIsRight f c
 
 abbrev pub HasStatistics : List Top → Type 0
-HasStatistics body = (k : ℕ) × (t : Top) × At body k t × (t.op ≡ 11)
+HasStatistics body = (k : ℕ) × (t : Top) × At body k t × (t.op ≡ statistics_opcode)
 
 -- what makes a valid file fully indexed: no Message stands at top level, there are Statistics, each chunk has an index, which
 -- names Message Indexes where the chunk holds Messages, and the Channels of all messages are repeated

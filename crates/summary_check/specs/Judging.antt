@@ -1,6 +1,7 @@
 -- A file whose records keep all rules, and what is known of it.
 use Rattle.std.specs.Prelude.{◌≡◌, ◌↔◌, ◌+◌, ◌++◌, ℕ, Bool, List, length, None, true}
 use Rattle.mcap_wire.specs.declared.faults.Cut.{Cut}
+use Rattle.rec_data.specs.Records.{footer_opcode}
 use Rattle.mcap_model.specs.Places.{Each}
 use Rattle.mcap_model.specs.Plain.{cut_top}
 use Rattle.mcap_model.specs.Tops.{Top, spelled}
@@ -22,7 +23,7 @@ pub record KnownOf (tops : List Top) (bytes : List ℕ) (cuts : List Cut) (foot 
   pub ended : EndsWithDataEnd tops
   pub kinds : Each IsFrontRecord tops
   pub judged : Each (λ t. Judged t None) (cut_tops bytes cuts)
-  pub foot_is : (cut_top bytes foot).op ≡ 2
+  pub foot_is : (cut_top bytes foot).op ≡ footer_opcode
   pub tally : TallyOf (records_of tops bytes cuts foot) ended.section known.tally
   pub at_top : (known.has_messages ≡ true) ↔ HasMessage tops
 

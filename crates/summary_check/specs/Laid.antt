@@ -1,6 +1,7 @@
 -- A data section, the records of a summary, and a Footer, one behind the other.
 use Rattle.std.specs.Prelude.{◌≡◌, ◌⊎◌, ◌<◌, ◌+◌, ◌^◌, ℕ, List, [], ◌∷◌, ◌++◌, length, true}
 use Rattle.mcap_wire.specs.declared.faults.Cut.{Cut}
+use Rattle.rec_data.specs.Records.{header_opcode, data_end_opcode}
 use Rattle.mcap_model.specs.Places.{Each}
 use Rattle.mcap_model.specs.Tops.{Top, offset_behind}
 use Rattle.mcap_model.specs.Rules.{HasDataEnd, stands_in_section}
@@ -15,12 +16,12 @@ pub record EndsWithDataEnd (tops : List Top) : Type 0 where
   pub section : List Top
   pub end : Top
   pub joined : tops ≡ section ++ end ∷ []
-  pub kind : end.op ≡ 15
+  pub kind : end.op ≡ data_end_opcode
   pub unended : HasDataEnd section → ⊥
 
 -- a Header, or a record that may stand behind it in a data section
 abbrev pub IsFrontRecord : Top → Type 0
-IsFrontRecord t = (t.op ≡ 1) ⊎ (stands_in_section t.op ≡ true)
+IsFrontRecord t = (t.op ≡ header_opcode) ⊎ (stands_in_section t.op ≡ true)
 
 -- these bytes, in which these records were cut, stand behind a data section from that offset on
 pub record Laid (tops : List Top) (bytes : List ℕ) (cuts : List Cut) (start : ℕ) : Type 0 where

@@ -10,11 +10,10 @@ ghost use Rattle.summary_check.specs.Filed.{records_of, Filed};
 ghost use Rattle.summary_check.specs.Laid.{all_of, Laid};
 ghost use Rattle.summary_check.specs.Closing.{IsOfFooter};
 
-use crate::flaws::HEAD_LENGTH;
 use crate::offsets::span_of;
 use index_check::{SummaryPlaces, is_crc_right};
-use mcap_model::ReadingRefused;
-use mcap_wire::Cut;
+use mcap_model::{ReadingRefused, Rule};
+use mcap_wire::{Cut, HEAD_LENGTH};
 use rec_data::Footer;
 use rec_index::SUMMARY_OFFSET;
 
@@ -65,7 +64,10 @@ pub(crate) fn judge_footer(
     let places = places_of(cuts, foot, start);
     let offset = places.footer;
     if !places.are_named(footer) {
-        return Err(ReadingRefused::Grammar { offset, rule: 11 });
+        return Err(ReadingRefused::Grammar {
+            offset,
+            rule: Rule::V11,
+        });
     }
     if footer.summary_start == 0 {
         return Ok(());
@@ -73,5 +75,8 @@ pub(crate) fn judge_footer(
     if is_crc_right(&bytes[..(foot.from + CRC_PLACE) as usize], footer) {
         return Ok(());
     }
-    return Err(ReadingRefused::Grammar { offset, rule: 16 });
+    return Err(ReadingRefused::Grammar {
+        offset,
+        rule: Rule::V16,
+    });
 }

@@ -3,7 +3,7 @@ ghost use Rattle.std.specs.Prelude.{◌+◌, ◌^◌, ◌<◌, length, IfErr};
 ghost use Rattle.summary_check.specs.Cutting.{CutJudged, RecordsCut};
 ghost use Rattle.summary_check.specs.Files.{IsOfSummary};
 
-use mcap_model::ReadingRefused;
+use mcap_model::{ReadingRefused, Rule};
 use mcap_wire::{Cut, CutFault, cut};
 use std::alloc::Global;
 
@@ -17,8 +17,14 @@ fn cut_record(bytes: &[u8], at: usize, start: u64) -> Result<Cut, ReadingRefused
     let offset = start + at as u64;
     match cut(bytes, at) {
         Ok(cut) => return Ok(cut),
-        Err(CutFault::Short) => return Err(ReadingRefused::Grammar { offset, rule: 4 }),
-        Err(CutFault::ZeroOp) => return Err(ReadingRefused::Grammar { offset, rule: 5 }),
+        Err(CutFault::Short) => return Err(ReadingRefused::Grammar {
+            offset,
+            rule: Rule::V4,
+        }),
+        Err(CutFault::ZeroOp) => return Err(ReadingRefused::Grammar {
+            offset,
+            rule: Rule::V5,
+        }),
         Err(CutFault::TooLong { len: _ }) => return Err(ReadingRefused::Limit { offset }),
     }
 }

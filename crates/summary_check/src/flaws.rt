@@ -23,15 +23,12 @@ use crate::records::from_at;
 use crate::statistics::find_miscounted;
 use crate::told::take_indexes;
 use index_check::{Attachments, Chunks, MetadataList, Tally};
-use mcap_model::{ReadingRefused, Tables};
-use mcap_wire::Cut;
+use mcap_model::{ReadingRefused, Rule, Tables};
+use mcap_wire::{Cut, HEAD_LENGTH};
 use std::alloc::Global;
 
-/// The length of a record's head: the opcode and the content's length.
-pub(crate) const HEAD_LENGTH: u64 = 9;
-
 // The rule fails at the record that was cut at that place, in bytes that stand in the file from `start` on.
-fn flawed(rule: u8, cuts: &[Cut], i: usize, start: u64) -> ReadingRefused
+fn flawed(rule: Rule, cuts: &[Cut], i: usize, start: u64) -> ReadingRefused
     ensures fails { (tops : List Top) (bytes : List ℕ) (foot t : Top) → Laid tops bytes cuts.now start → At (cut_tops bytes cuts.now) i t → result ≡ flawed_at rule (offset_of (all_of tops (cut_tops bytes cuts.now) foot) (size tops + i)) }
     ensures kind { IsOfSummary result }
 {
@@ -73,7 +70,7 @@ pub(crate) fn judge_declarations(
 {
     match find_disagreeing(alloc, tables, bytes, cuts) {
         Ok(None) => return Ok(()),
-        Ok(Some(i)) => return Err(flawed(7, cuts, i, start)),
+        Ok(Some(i)) => return Err(flawed(Rule::V7, cuts, i, start)),
         Err(_) => return Err(ReadingRefused::Memory),
     }
 }
@@ -86,7 +83,7 @@ pub(crate) fn judge_order(alloc: Global, cuts: &[Cut], start: u64) -> Result<(),
 {
     match find_misplaced(alloc, cuts) {
         Ok(None) => return Ok(()),
-        Ok(Some(i)) => return Err(flawed(11, cuts, i, start)),
+        Ok(Some(i)) => return Err(flawed(Rule::V11, cuts, i, start)),
         Err(_) => return Err(ReadingRefused::Memory),
     }
 }
@@ -127,7 +124,7 @@ pub(crate) fn judge_statistics(
 {
     match find_miscounted(tally, bytes, cuts) {
         None => return Ok(()),
-        Some(i) => return Err(flawed(14, cuts, i, start)),
+        Some(i) => return Err(flawed(Rule::V14, cuts, i, start)),
     }
 }
 
@@ -145,7 +142,7 @@ pub(crate) fn judge_offsets(
 {
     match find_misnamed(alloc, bytes, cuts, start) {
         Ok(None) => return Ok(()),
-        Ok(Some(i)) => return Err(flawed(15, cuts, i, start)),
+        Ok(Some(i)) => return Err(flawed(Rule::V15, cuts, i, start)),
         Err(_) => return Err(ReadingRefused::Memory),
     }
 }

@@ -10,10 +10,9 @@ ghost use Rattle.summary_check.specs.Body.{RuleJudged};
 ghost use Rattle.summary_check.specs.Laid.{all_of, Laid};
 ghost use Rattle.summary_check.specs.Offsets.{SpanIs, AreNamedOpcodes, OffsetTaken};
 
-use crate::flaws::HEAD_LENGTH;
 use crate::records::record_at;
 use index_check::Ids;
-use mcap_wire::{Cut, Memory};
+use mcap_wire::{Cut, HEAD_LENGTH, Memory};
 use rec_index::{SUMMARY_OFFSET, SummaryOffset};
 use std::alloc::Global;
 

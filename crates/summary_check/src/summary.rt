@@ -8,7 +8,7 @@ ghost use Rattle.summary_check.specs.Laid.{EndsWithDataEnd};
 ghost use Rattle.summary_check.specs.Closing.{CutWithFooter};
 
 use crate::cutting::cut_records;
-use mcap_model::ReadingRefused;
+use mcap_model::{ReadingRefused, Rule};
 use mcap_wire::Cut;
 use rec_data::{FOOTER, Footer};
 use std::alloc::Global;
@@ -61,10 +61,16 @@ pub(crate) fn cut_summary(
     let offset = (start + bytes.len() as u64 + MAGIC_LENGTH).saturating_sub(END_LENGTH);
     let foot = match cuts.pop() {
         Some(foot) => foot,
-        None => return Err(ReadingRefused::Grammar { offset, rule: 17 }),
+        None => return Err(ReadingRefused::Grammar {
+            offset,
+            rule: Rule::V17,
+        }),
     };
     match footer_of(bytes, foot) {
         Some(footer) => return Ok(Summary { cuts, foot, footer }),
-        None => return Err(ReadingRefused::Grammar { offset, rule: 17 }),
+        None => return Err(ReadingRefused::Grammar {
+            offset,
+            rule: Rule::V17,
+        }),
     }
 }

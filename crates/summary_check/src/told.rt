@@ -9,6 +9,7 @@ ghost use Rattle.summary_check.specs.Told.{ToldOf, IndexTaken, IndexesTaken};
 
 use crate::records::record_at;
 use index_check::{Attachments, Chunks, MetadataList};
+use mcap_model::Rule;
 use mcap_wire::Cut;
 use rec_index::{
     ATTACHMENT_INDEX, AttachmentIndex, CHUNK_INDEX, ChunkIndex, METADATA_INDEX, MetadataIndex,
@@ -21,7 +22,7 @@ fn take_index(
     metadata: &mut MetadataList,
     op: u8,
     content: &[u8],
-) -> Option<u8>
+) -> Option<Rule>
     ensures { (all : List Top) (n : ℕ) → ToldOf all n chunks.old attachments.old metadata.old → At all n (top op content.now) → IndexTaken all n (top op content.now) chunks.new attachments.new metadata.new result }
 {
     if op == CHUNK_INDEX {
@@ -32,7 +33,7 @@ fn take_index(
         if chunks.take_index(&index) {
             return None;
         }
-        return Some(12);
+        return Some(Rule::V12);
     }
     if op == ATTACHMENT_INDEX {
         let index = match AttachmentIndex::parse(content) {
@@ -42,7 +43,7 @@ fn take_index(
         if attachments.take_index(&index) {
             return None;
         }
-        return Some(13);
+        return Some(Rule::V13);
     }
     if op == METADATA_INDEX {
         let index = match MetadataIndex::parse(content) {
@@ -52,7 +53,7 @@ fn take_index(
         if metadata.take_index(&index) {
             return None;
         }
-        return Some(13);
+        return Some(Rule::V13);
     }
     return None;
 }
@@ -64,7 +65,7 @@ pub(crate) fn take_indexes(
     metadata: &mut MetadataList,
     bytes: &[u8],
     cuts: &[Cut],
-) -> Option<(usize, u8)>
+) -> Option<(usize, Rule)>
     requires { AreInside bytes.now cuts.now }
     ensures { (all : List Top) (base : ℕ) → StandFrom all base (cut_tops bytes.now cuts.now) → ToldOf all base chunks.old attachments.old metadata.old → IndexesTaken all base (cut_tops bytes.now cuts.now) chunks.new attachments.new metadata.new result }
 {

@@ -12,6 +12,7 @@ use Rattle.mcap_model.specs.Rules.{V1}
 use Rattle.mcap_model.specs.Whole.{EndsWithMagic, V2}
 use Rattle.mcap_model.specs.Valid.{EndsWithFooter}
 use Rattle.mcap_model.proofs.Readings.{length-top}
+use Rattle.mcap_model.specs.declared.rules.Rule.TheVariants as rules
 use Rattle.summary_read.specs.Reached.{RecordShowsFooter, EndsIn, HasNoSummary, FailsLoading, at_ends, last_magic, no_footer, by_start}
 use Rattle.summary_read.specs.Steps.{BeginsWithFooter}
 
@@ -71,9 +72,9 @@ no_other file f ends none = one_start file f none.0 ends none.1 ∙ none.2
 
 -- ---- the rules of the end
 
-pub footer_lacks : (file : List ℕ) (offset : ℕ) → offset ≡ length file - 37 → ((f : Footer) → EndsIn file f → ⊥) → V1 file → FailsLoading file 17 offset
+pub footer_lacks : (file : List ℕ) (offset : ℕ) → offset ≡ length file - 37 → ((f : Footer) → EndsIn file f → ⊥) → V1 file → FailsLoading file rules.V17 offset
 footer_lacks file offset is none v1 =
-    subst (FailsLoading file 17) (sym is) (at_ends 17 (length file - 37) (no_footer v1 (λ ends. none (footer_of ends) (record {
+    subst (FailsLoading file rules.V17) (sym is) (at_ends rules.V17 (length file - 37) (no_footer v1 (λ ends. none (footer_of ends) (record {
       before = ends.0;
       top = ends.2;
       last = ends.1;
@@ -103,13 +104,13 @@ magic_ends file end len size whole is ends = (
   ),
 )
 
-pub magic_lacks : (file end : List ℕ) (len offset : ℕ) → length file ≡ len → 37 ≤ len → drop (len - 37) file ≡ end → offset ≡ len - 8 → (EndsWithMagic end → ⊥) → V1 file → FailsLoading file 2 offset
+pub magic_lacks : (file end : List ℕ) (len offset : ℕ) → length file ≡ len → 37 ≤ len → drop (len - 37) file ≡ end → offset ≡ len - 8 → (EndsWithMagic end → ⊥) → V1 file → FailsLoading file rules.V2 offset
 magic_lacks file end len offset size whole is there none v1 =
-    subst (FailsLoading file 2) (sym (there ∙ ap (λ (n : ℕ). n - 8) (sym size))) (at_ends 2 (length file - 8) (last_magic v1 (λ v2. none (end_has_magic file end len size whole is v2))))
+    subst (FailsLoading file rules.V2) (sym (there ∙ ap (λ (n : ℕ). n - 8) (sym size))) (at_ends rules.V2 (length file - 8) (last_magic v1 (λ v2. none (end_has_magic file end len size whole is v2))))
 
-pub start_lies : (file : List ℕ) (len offset : ℕ) (f : Footer) → length file ≡ len → offset ≡ len - 37 → EndsIn file f → f.summary_start ≢ 0 → (f.summary_start < 8) ⊎ (len < f.summary_start + 37) → V1 file → FailsLoading file 11 offset
+pub start_lies : (file : List ℕ) (len offset : ℕ) (f : Footer) → length file ≡ len → offset ≡ len - 37 → EndsIn file f → f.summary_start ≢ 0 → (f.summary_start < 8) ⊎ (len < f.summary_start + 37) → V1 file → FailsLoading file rules.V11 offset
 start_lies file len offset f size there ends some lies v1 =
-    subst (FailsLoading file 11) (sym (there ∙ ap (λ (n : ℕ). n - 37) (sym size))) (by_start v1 f ends some (subst (λ (n : ℕ). (f.summary_start < 8) ⊎ (n < f.summary_start + 37)) (sym size) lies))
+    subst (FailsLoading file rules.V11) (sym (there ∙ ap (λ (n : ℕ). n - 37) (sym size))) (by_start v1 f ends some (subst (λ (n : ℕ). (f.summary_start < 8) ⊎ (n < f.summary_start + 37)) (sym size) lies))
 
 pub ends_long : (file : List ℕ) (f : Footer) → EndsIn file f → 37 ≤ length file
 ends_long file f ends =
@@ -123,7 +124,7 @@ ends_long file f ends =
     )
 
 -- a file that is too short for a Footer
-pub too_short : (file : List ℕ) → length file < 37 → (V1 file → FailsLoading file 17 0) × (HasNoSummary file → ⊥)
+pub too_short : (file : List ℕ) → length file < 37 → (V1 file → FailsLoading file rules.V17 0) × (HasNoSummary file → ⊥)
 too_short file short =
     (footer_lacks file 0 (omega (arith, short)) none, λ no. none no.0 no.1)
   where

@@ -13,6 +13,7 @@ use Rattle.mcap_model.specs.Fields.{IsHeader}
 use Rattle.mcap_model.specs.Made.{top}
 use Rattle.mcap_model.specs.Rules.{V1}
 use Rattle.mcap_model.proofs.Readings.{begun, length-top}
+use Rattle.mcap_model.specs.declared.rules.Rule.TheVariants as rules
 use Rattle.summary_read.specs.Reached.{FailsLoading, at_ends, first_magic, no_header, header_cut, Passes, header_passes}
 use Rattle.summary_read.specs.Steps.{HasHead, HasHeader}
 
@@ -32,8 +33,8 @@ begins_magic file front is v1 = ([], sym is ∙ ap (take 8) v1.1)
 pub magic_front : (file front : List ℕ) → take 17 file ≡ front → V1 front → V1 file
 magic_front = magic_begins 17
 
-pub magic_missing : (file front : List ℕ) → take 17 file ≡ front → (V1 front → ⊥) → FailsLoading file 1 0
-magic_missing file front is none = at_ends 1 0 (first_magic (λ v1. none (front_magic file front is v1)))
+pub magic_missing : (file front : List ℕ) → take 17 file ≡ front → (V1 front → ⊥) → FailsLoading file rules.V1 0
+magic_missing file front is none = at_ends rules.V1 0 (first_magic (λ v1. none (front_magic file front is v1)))
 
 -- ---- the head of the Header
 
@@ -50,9 +51,9 @@ behind_magic file front is size =
     ∙ drop-append-le 8 front (drop 17 file) (omega (arith, size))
     ∙ ap (λ (l : List ℕ). l ++ drop 17 file) (drop_one 8 front (omega (arith, size)))
 
-pub other_header : (file front : List ℕ) → take 17 file ≡ front → length front ≡ 17 → (slice_index front 8 ≡ 1 → ⊥) → V1 front → FailsLoading file 3 8
+pub other_header : (file front : List ℕ) → take 17 file ≡ front → length front ≡ 17 → (slice_index front 8 ≡ 1 → ⊥) → V1 front → FailsLoading file rules.V3 8
 other_header file front is size other v1 =
-    at_ends 3 8 (no_header (magic_front file front is v1) (λ starts.
+    at_ends rules.V3 8 (no_header (magic_front file front is v1) (λ starts.
     let op_is : slice_index front 8 ≡ starts.0.op = ap opcode (sym (behind_magic file front is size) ∙ starts.1.there) in
     other (op_is ∙ starts.2.kind)))
 
@@ -96,7 +97,7 @@ declared_front front more long =
     ap (λ (l : List ℕ). number (take 8 l)) (drop-append-le 1 front more (omega (arith, long)))
     ∙ ap number (take-append-le 8 (drop 1 front) more (omega (arith, long, length-drop 1 front)))
 
-pub header_falls_short : (file front : List ℕ) (op len : ℕ) → take 17 file ≡ front → length front ≡ 17 → 37 ≤ length file → HeadAt front 8 op len → op ≡ 1 → len < 2 ^ 64 → V1 front → length file < 25 + len → FailsLoading file 4 8
+pub header_falls_short : (file front : List ℕ) (op len : ℕ) → take 17 file ≡ front → length front ≡ 17 → 37 ≤ length file → HeadAt front 8 op len → op ≡ 1 → len < 2 ^ 64 → V1 front → length file < 25 + len → FailsLoading file rules.V4 8
 header_falls_short file front op len is size whole head kind fits v1 past =
     let rest = drop 8 file in
     let inner = take (length rest - 8) rest in
@@ -106,7 +107,7 @@ header_falls_short file front op len is size whole head kind fits v1 past =
     ap declared_length (sym (take-append-drop (length rest - 8) rest)) ∙ declared_front inner (drop (length rest - 8) rest) (omega (arith, long, whole)) in
     let declares = declared_is file len fits (head_is file front op len is size head kind) in
     let size_is : length rest - 8 ≡ length file - 8 - 8 = omega (arith, there) in
-    at_ends 4 8 (header_cut (record {
+    at_ends rules.V4 8 (header_cut (record {
       v1 = magic_front file front is v1;
       some = omega (arith, whole);
       cut = inr (subst (λ (n : ℕ). is_whole (take n rest) ≡ false) size_is (lt-leb (9 + declared_length inner) (length inner) (omega (arith, long, same, declares, past, whole))));
@@ -131,11 +132,11 @@ header_stands file content len head is =
     }
 
 -- a content that is no Header's
-pub header_fails : (file content : List ℕ) (len : ℕ) → HasHead file len → content ≡ take len (drop 17 file) → length file < 2 ^ 64 → (IsHeader (top 1 content) → ⊥) → FailsLoading file 3 8
+pub header_fails : (file content : List ℕ) (len : ℕ) → HasHead file len → content ≡ take len (drop 17 file) → length file < 2 ^ 64 → (IsHeader (top 1 content) → ⊥) → FailsLoading file rules.V3 8
 header_fails file content len head is fits none =
     let has = header_stands file content len head is in
     let size : length content ≡ len = omega (arith, ap length is, length-take len (drop 17 file), length-drop 17 file, head.whole) in
-    at_ends 3 8 (no_header head.v1 (λ starts.
+    at_ends rules.V3 8 (no_header head.v1 (λ starts.
     let t = starts.0 in
     let long : length t.content < 2 ^ 64 = omega (arith, fits, length-drop 8 file, ap length starts.1.there, length-append (top_bytes t) starts.1.rest, length-top t) in
     let one = begun (drop 8 file) (top 1 content) has.stands.rest has.stands.there (omega (arith, size, head.within)) in

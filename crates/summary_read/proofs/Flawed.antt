@@ -5,6 +5,7 @@ use Rattle.mcap_wire.specs.Layout.{magic}
 use Rattle.mcap_model.specs.Tops.{has_head, is_whole}
 use Rattle.mcap_model.specs.Valid.{FailsToFit, Flaw, flaw_1, flaw_2, flaw_3, flaw_4, flaw_17}
 use Rattle.mcap_model.proofs.Places.{at_none}
+use Rattle.mcap_model.specs.declared.rules.Rule.{Rule}
 use Rattle.summary_read.specs.Reached.{CutsFirst, FailsAtEnds, first_magic, last_magic, no_header, header_cut, no_footer}
 
 -- the first record doesn't fit
@@ -22,7 +23,7 @@ fails_to_fit file cuts =
       cut = subst (λ (n : ℕ). let inner = take n (drop 8 file) in (has_head inner ≡ false) ⊎ (is_whole inner ≡ false)) size cuts.cut;
     }
 
-pub flawed : (file : List ℕ) (rule offset : ℕ) → FailsAtEnds file rule offset → Flaw file rule offset
+pub flawed : (file : List ℕ) (rule : Rule) (offset : ℕ) → FailsAtEnds file rule offset → Flaw file rule offset
 flawed file rule offset (first_magic none) = flaw_1 none
 flawed file rule offset (last_magic v1 none) = flaw_2 none
 flawed file rule offset (no_header v1 none) = flaw_3 none

@@ -16,6 +16,8 @@ use Rattle.mcap_model.proofs.Flat.{map-append}
 use Rattle.mcap_model.proofs.Lists.{each_cons, each_joined}
 use Rattle.mcap_model.proofs.Places.{at_none}
 use Rattle.mcap_model.proofs.Readings.{length-top}
+use Rattle.mcap_model.specs.declared.rules.Rule.{Rule}
+use Rattle.mcap_model.specs.declared.rules.Rule.TheVariants as rules
 use Rattle.summary_read.specs.Reached.{BreaksFirst, breaks_4, breaks_5, breaks_6, DeclaresPast}
 use Rattle.summary_read.specs.Parts.{IsSummaryRecord}
 use Rattle.summary_read.specs.PartSteps.{cut_tops}
@@ -36,13 +38,13 @@ head_there bytes at whole = le-leb 9 (length (drop at bytes)) (omega (arith, len
 
 -- ---- why none is cut
 
-pub short_breaks : (bytes : List ℕ) (at : ℕ) → CutFails bytes at cut_faults.Short → BreaksFirst (drop at bytes) 4
+pub short_breaks : (bytes : List ℕ) (at : ℕ) → CutFails bytes at cut_faults.Short → BreaksFirst (drop at bytes) rules.V4
 short_breaks bytes at (inl head) = breaks_4 (inl (lt-leb 9 (length (drop at bytes)) (omega (arith, length-drop at bytes, head))))
 short_breaks bytes at (inr content) =
     let rest = drop at bytes in
     breaks_4 (inr (lt-leb (9 + declared_length rest) (length rest) (omega (arith, length-drop at bytes, declared_there bytes at, content.2))))
 
-pub zero_breaks : (bytes : List ℕ) (at : ℕ) → CutFails bytes at cut_faults.ZeroOp → BreaksFirst (drop at bytes) 5
+pub zero_breaks : (bytes : List ℕ) (at : ℕ) → CutFails bytes at cut_faults.ZeroOp → BreaksFirst (drop at bytes) rules.V5
 zero_breaks bytes at zero =
     breaks_5 (head_there bytes at zero.0) (ap stands_in_summary (opcode_there bytes at ∙ zero.1))
 
@@ -52,13 +54,13 @@ long_passes bytes at len long = record {
   past = omega (arith, declared_there bytes at, long.1, long.2);
 }
 
-pub record_breaks : (bytes : List ℕ) (at : ℕ) (c : Cut) (rule : ℕ) → IsCut bytes at c → Judged (cut_top bytes c) (Some rule) → BreaksFirst (drop at bytes) rule
+pub record_breaks : (bytes : List ℕ) (at : ℕ) (c : Cut) (rule : Rule) → IsCut bytes at c → Judged (cut_top bytes c) (Some rule) → BreaksFirst (drop at bytes) rule
 record_breaks bytes at c rule is (inl kind) =
     let op_is : opcode (drop at bytes) ≡ c.op = ap opcode is.stands.framed_there in
     let whole : at + 9 ≤ length bytes = omega (arith, is.stands.head, is.stands.begins, is.stands.ends) in
-    subst (λ (r : ℕ). BreaksFirst (drop at bytes) r) (sym kind.0) (breaks_5 (head_there bytes at whole) (ap stands_in_summary op_is ∙ kind.1))
+    subst (λ (r : Rule). BreaksFirst (drop at bytes) r) (sym kind.0) (breaks_5 (head_there bytes at whole) (ap stands_in_summary op_is ∙ kind.1))
 record_breaks bytes at c rule is (inr layout) =
-    subst (λ (r : ℕ). BreaksFirst (drop at bytes) r) (sym layout.0) (breaks_6 (cut_top bytes c) (drop c.to bytes) is.stands.framed_there layout.1)
+    subst (λ (r : Rule). BreaksFirst (drop at bytes) r) (sym layout.0) (breaks_6 (cut_top bytes c) (drop c.to bytes) is.stands.framed_there layout.1)
 
 -- ---- one record more
 

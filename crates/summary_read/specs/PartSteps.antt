@@ -11,6 +11,7 @@ use Rattle.mcap_model.specs.Fields.{IsStatistics}
 use Rattle.mcap_model.specs.Rules.{V6}
 use Rattle.mcap_model.specs.Made.{top}
 use Rattle.mcap_model.specs.Plain.{cut_top}
+use Rattle.rec_index.specs.Records.{chunk_index_opcode}
 use Rattle.summary_read.specs.Parts.{Parts, offsets_of_kind, AreListed}
 
 -- ---- how they are held
@@ -47,7 +48,7 @@ pub record ListsParts (header : List ℕ) (footer : Footer) (summary : List ℕ)
   pub header_is : p.header ≡ top 1 header
   pub footer_is : p.footer ≡ footer
   pub listed : AreListed (cut_tops summary cuts) p
-  pub placed : p.chunk_index_offsets ≡ offsets_of_kind 8 footer.summary_start (cut_tops summary cuts)
+  pub placed : p.chunk_index_offsets ≡ offsets_of_kind chunk_index_opcode footer.summary_start (cut_tops summary cuts)
 
 -- ---- what is given of them
 

@@ -8,6 +8,8 @@ use Rattle.mcap_model.specs.Fields.{IsHeader}
 use Rattle.mcap_model.specs.Rules.{V1, V6}
 use Rattle.mcap_model.specs.Whole.{V2, stands_in_summary}
 use Rattle.mcap_wire.specs.Limits.{file_limit}
+use Rattle.rec_data.specs.Records.{schema_opcode, channel_opcode}
+use Rattle.rec_index.specs.Records.{chunk_index_opcode, attachment_index_opcode, statistics_opcode, metadata_index_opcode, summary_offset_opcode}
 use Rattle.summary_read.specs.Reached.{summary_limit, EndsIn, SummaryStartsAt, summary_part}
 
 -- The Header and the Footer; the first Statistics of the summary, if it has one; and the other known records of the
@@ -41,13 +43,13 @@ offsets_of_kind op at (t ∷ ts) =
 
 -- all records of the summary are listed
 pub record AreListed (tops : List Top) (p : Parts) : Type 0 where
-  pub statistics : p.statistics ≡ first_of_kind 11 tops
-  pub schemas : p.schemas ≡ of_kind 3 tops
-  pub channels : p.channels ≡ of_kind 4 tops
-  pub chunk_indexes : p.chunk_indexes ≡ of_kind 8 tops
-  pub attachment_indexes : p.attachment_indexes ≡ of_kind 10 tops
-  pub metadata_indexes : p.metadata_indexes ≡ of_kind 13 tops
-  pub summary_offsets : p.summary_offsets ≡ of_kind 14 tops
+  pub statistics : p.statistics ≡ first_of_kind statistics_opcode tops
+  pub schemas : p.schemas ≡ of_kind schema_opcode tops
+  pub channels : p.channels ≡ of_kind channel_opcode tops
+  pub chunk_indexes : p.chunk_indexes ≡ of_kind chunk_index_opcode tops
+  pub attachment_indexes : p.attachment_indexes ≡ of_kind attachment_index_opcode tops
+  pub metadata_indexes : p.metadata_indexes ≡ of_kind metadata_index_opcode tops
+  pub summary_offsets : p.summary_offsets ≡ of_kind summary_offset_opcode tops
 
 -- a record that may stand in a summary, with a content that can be read
 pub record IsSummaryRecord (t : Top) : Type 0 where
@@ -67,6 +69,6 @@ pub record IsLoaded (file : List ℕ) (p : Parts) : Type 0 where
   pub split : summary_part file p.footer.summary_start ≡ spelled tops
   pub sound : Each IsSummaryRecord tops
   pub listed : AreListed tops p
-  pub placed : p.chunk_index_offsets ≡ offsets_of_kind 8 p.footer.summary_start tops
+  pub placed : p.chunk_index_offsets ≡ offsets_of_kind chunk_index_opcode p.footer.summary_start tops
   pub file_fits : length file ≤ file_limit
   pub summary_fits : length (spelled tops) ≤ summary_limit

@@ -9,6 +9,8 @@ use Rattle.mcap_model.specs.Fields.{IsFooter}
 use Rattle.mcap_model.specs.Rules.{V1, V6}
 use Rattle.mcap_model.specs.Whole.{V2, stands_in_summary}
 use Rattle.mcap_model.specs.Valid.{StartsWithHeader, EndsWithFooter}
+use Rattle.mcap_model.specs.declared.rules.Rule.{Rule}
+use Rattle.mcap_model.specs.declared.rules.Rule.TheVariants as rules
 
 -- ---- limits
 
@@ -56,15 +58,15 @@ pub record CutTo (summary : List ℕ) (start : ℕ) (tops : List Top) (rest : Li
 
 -- ---- where a rule fails
 
--- the first record of the rest breaks the rule of that number: it isn't whole, or it is none that stands in a summary, or
+-- the first record of the rest breaks that rule: it isn't whole, or it is none that stands in a summary, or
 -- its content can't be read
-pub data BreaksFirst (rest : List ℕ) : ℕ → Type 0 where
-  breaks_4 : (has_head rest ≡ false) ⊎ (is_whole rest ≡ false) → BreaksFirst rest 4
-  breaks_5 : has_head rest ≡ true → stands_in_summary (opcode rest) ≡ false → BreaksFirst rest 5
-  breaks_6 : (t : Top) (behind : List ℕ) → rest ≡ top_bytes t ++ behind → (V6 t → ⊥) → BreaksFirst rest 6
+pub data BreaksFirst (rest : List ℕ) : Rule → Type 0 where
+  breaks_4 : (has_head rest ≡ false) ⊎ (is_whole rest ≡ false) → BreaksFirst rest rules.V4
+  breaks_5 : has_head rest ≡ true → stands_in_summary (opcode rest) ≡ false → BreaksFirst rest rules.V5
+  breaks_6 : (t : Top) (behind : List ℕ) → rest ≡ top_bytes t ++ behind → (V6 t → ⊥) → BreaksFirst rest rules.V6
 
 -- a record of the summary breaks the rule
-abbrev pub FailsInside : List ℕ → ℕ → ℕ → ℕ → Type 0
+abbrev pub FailsInside : List ℕ → ℕ → Rule → ℕ → Type 0
 FailsInside summary start rule offset = (tops : List Top) × (rest : List ℕ) × CutTo summary start tops rest offset × (rest ≢ []) × BreaksFirst rest rule
 
 -- The file begins with the magic, and in front of its last eight bytes no whole record begins behind that.
@@ -73,21 +75,21 @@ pub record CutsFirst (file : List ℕ) : Type 0 where
   pub some : 16 < length file
   pub cut : let inner = part 8 (length file - 8) file in (has_head inner ≡ false) ⊎ (is_whole inner ≡ false)
 
--- The rule of that number fails at that offset, on the ends of the file: the first magic isn't there; or it is, and behind
+-- That rule fails at that offset, on the ends of the file: the first magic isn't there; or it is, and behind
 -- it no Header stands, or no whole record; or the last magic isn't there, or in front of the last eight bytes no Footer.
-pub data FailsAtEnds (file : List ℕ) : ℕ → ℕ → Type 0 where
-  first_magic : (V1 file → ⊥) → FailsAtEnds file 1 0
-  last_magic : V1 file → (V2 file → ⊥) → FailsAtEnds file 2 (length file - 8)
-  no_header : V1 file → (StartsWithHeader file → ⊥) → FailsAtEnds file 3 8
-  header_cut : CutsFirst file → FailsAtEnds file 4 8
-  no_footer : V1 file → (EndsWithFooter file → ⊥) → FailsAtEnds file 17 (length file - 37)
+pub data FailsAtEnds (file : List ℕ) : Rule → ℕ → Type 0 where
+  first_magic : (V1 file → ⊥) → FailsAtEnds file rules.V1 0
+  last_magic : V1 file → (V2 file → ⊥) → FailsAtEnds file rules.V2 (length file - 8)
+  no_header : V1 file → (StartsWithHeader file → ⊥) → FailsAtEnds file rules.V3 8
+  header_cut : CutsFirst file → FailsAtEnds file rules.V4 8
+  no_footer : V1 file → (EndsWithFooter file → ⊥) → FailsAtEnds file rules.V17 (length file - 37)
 
--- The rule of that number fails at that offset: on the file's ends; on the Footer, which names no place of a summary; or on
+-- That rule fails at that offset: on the file's ends; on the Footer, which names no place of a summary; or on
 -- a record of the summary. Of a file that doesn't begin with the magic only that is told.
-pub data FailsLoading (file : List ℕ) : ℕ → ℕ → Type 0 where
-  at_ends : (rule offset : ℕ) → FailsAtEnds file rule offset → FailsLoading file rule offset
-  by_start : V1 file → (f : Footer) → EndsIn file f → f.summary_start ≢ 0 → (f.summary_start < 8) ⊎ (length file < f.summary_start + 37) → FailsLoading file 11 (length file - 37)
-  inside : V1 file → (start rule offset : ℕ) → SummaryStartsAt file start → FailsInside (summary_part file start) start rule offset → FailsLoading file rule offset
+pub data FailsLoading (file : List ℕ) : Rule → ℕ → Type 0 where
+  at_ends : (rule : Rule) (offset : ℕ) → FailsAtEnds file rule offset → FailsLoading file rule offset
+  by_start : V1 file → (f : Footer) → EndsIn file f → f.summary_start ≢ 0 → (f.summary_start < 8) ⊎ (length file < f.summary_start + 37) → FailsLoading file rules.V11 (length file - 37)
+  inside : V1 file → (start : ℕ) (rule : Rule) (offset : ℕ) → SummaryStartsAt file start → FailsInside (summary_part file start) start rule offset → FailsLoading file rule offset
 
 -- ---- where a limit is passed
 

@@ -17,7 +17,10 @@ use Rattle.mcap_model.specs.Plain.{cut_top}
 use Rattle.mcap_model.specs.declared.refusals.ReadingRefused.TheVariants as refusals
 use Rattle.mcap_model.specs.declared.refusals.IndexedRefused.{IndexedRefused}
 use Rattle.mcap_model.specs.declared.refusals.IndexedRefused.TheVariants as by_index
+use Rattle.mcap_model.specs.declared.rules.Rule.TheVariants as rules
+use Rattle.mcap_model.specs.declared.rules.Rule.{Rule}
 use Rattle.mcap_wire.specs.Limits.{file_limit}
+use Rattle.rec_data.specs.Records.{header_opcode}
 use Rattle.summary_read.specs.Reached.{summary_limit, RecordShowsFooter, EndsIn, HasNoSummary, BreaksFirst, DeclaresPast, FailsLoading, Passes, FailsInside, PassesInside}
 use Rattle.summary_read.specs.PartSteps.{cut_tops, AreInside}
 use Rattle.summary_read.specs.Parts.{IsSummaryRecord}
@@ -113,7 +116,7 @@ abbrev pub TellsMagic : Option (List ℕ) → ℕ → Result Bool Failed → Typ
 TellsMagic told len result = (file : List ℕ) → told ≡ Some file → length file ≡ len → BeginsIs file result
 
 -- a rule that fails by the end is told, or the first magic isn't there
-abbrev pub TellsRefused : Option (List ℕ) → ℕ → ℕ → ℕ → ReadingRefused → Type 0
+abbrev pub TellsRefused : Option (List ℕ) → ℕ → ℕ → Rule → ReadingRefused → Type 0
 TellsRefused told len offset rule why = (file : List ℕ) → told ≡ Some file → length file ≡ len → EndStops file (refusals.Grammar offset rule) → IsUnloaded file why
 
 -- its front
@@ -132,7 +135,7 @@ TellsPart told at len (Err refusals.Memory) = Unit {0}
 -- the Header stands behind the magic
 pub record HasHeader (file content : List ℕ) : Type 0 where
   pub v1 : V1 file
-  pub stands : StandsIn file 8 (top 1 content)
+  pub stands : StandsIn file 8 (top header_opcode content)
 
 abbrev pub HeaderJudged : {Y : Type 0} → List ℕ → Result (Vec ℕ Y) ReadingRefused → Type 0
 HeaderJudged file (Ok content) = HasHeader file content.items
@@ -148,9 +151,9 @@ HeaderAsks old new len = (file : List ℕ) → old.bytes ≡ Some file → lengt
 -- ---- the records of the summary
 
 -- a record keeps the rules that are looked at, or breaks one of them
-abbrev pub Judged : Top → Option ℕ → Type 0
+abbrev pub Judged : Top → Option Rule → Type 0
 Judged t None = (stands_in_summary t.op ≡ true) × V6 t
-Judged t (Some rule) = ((rule ≡ 5) × (stands_in_summary t.op ≡ false)) ⊎ ((rule ≡ 6) × (V6 t → ⊥))
+Judged t (Some rule) = ((rule ≡ rules.V5) × (stands_in_summary t.op ≡ false)) ⊎ ((rule ≡ rules.V6) × (V6 t → ⊥))
 
 -- the record there was cut, and may stand in a summary
 pub record IsTaken (bytes : List ℕ) (at : ℕ) (c : Cut) : Type 0 where

@@ -7,7 +7,7 @@ ghost use Rattle.summary_read.specs.Reached.{EndsIn, HasNoSummary};
 ghost use Rattle.mcap_model.specs.Whole.{EndsWithMagic};
 ghost use Rattle.summary_read.specs.Steps.{IsOfBytes, IsOfEnd, FooterNamesPlace, BeginsWithFooter, EndJudged, EndStops, FooterJudged, FrontJudged};
 
-use mcap_model::{IndexedRefused, NotIndexed, ReadingRefused};
+use mcap_model::{IndexedRefused, NotIndexed, ReadingRefused, Rule};
 use mcap_wire::{CONTENT_LIMIT, MAGIC, cut, take_head};
 use rec_data::{FOOTER, Footer, HEADER, Header};
 
@@ -70,12 +70,12 @@ fn judge_without_footer(end: &[u8], len: u64) -> ReadingRefused
     if !ends_with_magic(end) {
         return ReadingRefused::Grammar {
             offset: len - MAGIC.len() as u64,
-            rule: 2,
+            rule: Rule::V2,
         };
     }
     return ReadingRefused::Grammar {
         offset: len - END_LENGTH,
-        rule: 17,
+        rule: Rule::V17,
     };
 }
 
@@ -96,12 +96,12 @@ fn judge_footer(end: &[u8], len: u64, footer: Footer) -> Result<Footer, ReadingR
     if !ends_with_magic(end) {
         return Err(ReadingRefused::Grammar {
             offset: len - MAGIC.len() as u64,
-            rule: 2,
+            rule: Rule::V2,
         });
     }
     let misplaced = ReadingRefused::Grammar {
         offset: footer_offset,
-        rule: 11,
+        rule: Rule::V11,
     };
     if start < HEADER_OFFSET {
         return Err(misplaced);
@@ -151,21 +151,33 @@ pub(crate) fn judge_front(front: &[u8], len: u64) -> Result<u64, ReadingRefused>
     ensures of_bytes { IfErr result IsOfBytes }
 {
     if !begins_with_magic(front) {
-        return Err(ReadingRefused::Grammar { offset: 0, rule: 1 });
+        return Err(ReadingRefused::Grammar {
+            offset: 0,
+            rule: Rule::V1,
+        });
     }
     let offset = HEADER_OFFSET;
     let head = match take_head(front, 8) {
         Ok(head) => head,
-        Err(_) => return Err(ReadingRefused::Grammar { offset, rule: 3 }),
+        Err(_) => return Err(ReadingRefused::Grammar {
+            offset,
+            rule: Rule::V3,
+        }),
     };
     if head.op != HEADER {
-        return Err(ReadingRefused::Grammar { offset, rule: 3 });
+        return Err(ReadingRefused::Grammar {
+            offset,
+            rule: Rule::V3,
+        });
     }
     if head.len > CONTENT_LIMIT {
         return Err(ReadingRefused::Limit { offset });
     }
     if FRONT_LENGTH + head.len + 8 > len {
-        return Err(ReadingRefused::Grammar { offset, rule: 4 });
+        return Err(ReadingRefused::Grammar {
+            offset,
+            rule: Rule::V4,
+        });
     }
     return Ok(head.len);
 }

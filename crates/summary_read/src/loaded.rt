@@ -7,13 +7,10 @@ ghost use Rattle.mcap_model.specs.Places.{At};
 ghost use Rattle.mcap_model.specs.Fields.{IsSchema, IsChannel, IsChunkIndex, IsAttachmentIndex, IsMetadataIndex, IsSummaryOffset};
 ghost use Rattle.summary_read.specs.PartSteps.{AreInside, IsContentAt, IsSuchAt, GivesStatistics};
 
-use mcap_wire::Cut;
+use mcap_wire::{Cut, HEAD_LENGTH};
 use rec_data::{Channel, Footer, Header, Schema};
 use rec_index::{AttachmentIndex, ChunkIndex, MetadataIndex, Statistics, SummaryOffset};
 use std::marker::Model;
-
-/// The bytes of a record in front of its content.
-const HEAD_LENGTH: u64 = 9;
 
 /// What was loaded of a file: its Header, its Footer, and the known records of its summary, of several Statistics the
 /// first. Each list is in the order of the file. Contracts see the records.

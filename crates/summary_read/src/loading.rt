@@ -12,8 +12,8 @@ use crate::ends::{END_LENGTH, FRONT_LENGTH, begins_with_magic, is_header, judge_
 use crate::lists::of_kind;
 use crate::loaded::Loaded;
 use crate::walk::cut_records;
-use mcap_io::{Failed, ReadRefused, Store, read_part};
-use mcap_model::{IndexedRefused, ReadingRefused};
+use mcap_io::{Failed, OutsideRefused, Store, read_part};
+use mcap_model::{IndexedRefused, ReadingRefused, Rule};
 use mcap_wire::{Cut, MAGIC, Memory};
 use rec_data::{CHANNEL, Footer, SCHEMA};
 use rec_index::{ATTACHMENT_INDEX, CHUNK_INDEX, METADATA_INDEX, STATISTICS, SUMMARY_OFFSET};
@@ -31,7 +31,7 @@ fn read_end<T: Store>(store: &mut T, len: u64) -> Result<Footer, IndexedRefused>
         return Err(IndexedRefused::Refused {
             why: ReadingRefused::Grammar {
                 offset: 0,
-                rule: 17,
+                rule: Rule::V17,
             },
         });
     }
@@ -66,7 +66,7 @@ fn read_magic<T: Store>(store: &mut T, len: u64) -> Result<bool, Failed>
 }
 
 // Refuses a store of that length at whose end a rule fails, if it begins with the magic: else it is refused for that.
-fn refuse_end<T: Store>(store: &mut T, len: u64, offset: u64, rule: u8) -> ReadingRefused
+fn refuse_end<T: Store>(store: &mut T, len: u64, offset: u64, rule: Rule) -> ReadingRefused
     requires { len ≤ (T.state store.old).known }
     ensures judged { TellsRefused (T.state store.old).bytes len offset rule result }
     ensures cause { PlainCause (T.state store.old).faults (T.state store.new).faults result }
@@ -74,7 +74,10 @@ fn refuse_end<T: Store>(store: &mut T, len: u64, offset: u64, rule: u8) -> Readi
 {
     match read_magic(store, len) {
         Ok(true) => return ReadingRefused::Grammar { offset, rule },
-        Ok(false) => return ReadingRefused::Grammar { offset: 0, rule: 1 },
+        Ok(false) => return ReadingRefused::Grammar {
+            offset: 0,
+            rule: Rule::V1,
+        },
         Err(Failed) => {
             return ReadingRefused::Fault {
                 faults: store.faults(),
@@ -141,12 +144,12 @@ fn take_part<T: Store>(
 {
     match read_part(alloc, store, at, len) {
         Ok(part) => return Ok(part),
-        Err(ReadRefused::Failed) => {
+        Err(OutsideRefused::Failed) => {
             return Err(ReadingRefused::Fault {
                 faults: store.faults(),
             });
         }
-        Err(ReadRefused::Memory) => return Err(ReadingRefused::Memory),
+        Err(OutsideRefused::Memory) => return Err(ReadingRefused::Memory),
     }
 }
 
@@ -171,7 +174,10 @@ fn read_header<T: Store>(alloc: Global, store: &mut T, len: u64) -> Result<Vec<u
     if is_header(&content) {
         return Ok(content);
     }
-    return Err(ReadingRefused::Grammar { offset: 8, rule: 3 });
+    return Err(ReadingRefused::Grammar {
+        offset: 8,
+        rule: Rule::V3,
+    });
 }
 
 // Lists the records that were cut from the summary.

@@ -4,6 +4,7 @@ ghost use Rattle.mcap_model.specs.Fields.{SchemaFields, IsSchema, ChannelFields,
 ghost use Rattle.mcap_model.specs.Made.{top};
 ghost use Rattle.summary_read.specs.Steps.{Judged};
 
+use mcap_model::Rule;
 use rec_data::{CHANNEL, Channel, SCHEMA, Schema};
 use rec_index::{
     ATTACHMENT_INDEX, AttachmentIndex, CHUNK_INDEX, ChunkIndex, METADATA_INDEX, MetadataIndex,
@@ -85,8 +86,8 @@ fn is_summary_offset(content: &[u8]) -> bool
     }
 }
 
-/// The rule that a record breaks: 5 where it is none that stands in a summary, 6 where its content can't be read.
-pub fn breaks(op: u8, content: &[u8]) -> Option<u8>
+/// The rule that a record breaks: V5 where it is none that stands in a summary, V6 where its content can't be read.
+pub fn breaks(op: u8, content: &[u8]) -> Option<Rule>
     ensures { Judged (top op content.now) result }
 {
     let readable = match op {
@@ -98,10 +99,10 @@ pub fn breaks(op: u8, content: &[u8]) -> Option<u8>
         METADATA_INDEX => is_metadata_index(content),
         SUMMARY_OFFSET => is_summary_offset(content),
         16..=255 => true,
-        _ => return Some(5),
+        _ => return Some(Rule::V5),
     };
     if readable {
         return None;
     }
-    return Some(6);
+    return Some(Rule::V6);
 }

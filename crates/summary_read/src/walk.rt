@@ -3,7 +3,7 @@ ghost use Rattle.std.specs.Prelude.{◌+◌, ◌^◌, ◌<◌, length, IfErr};
 ghost use Rattle.summary_read.specs.Steps.{IsOfBytes, RecordCut, SummaryCut};
 
 use crate::records::breaks;
-use mcap_model::ReadingRefused;
+use mcap_model::{ReadingRefused, Rule};
 use mcap_wire::{Cut, CutFault, cut};
 use std::alloc::Global;
 
@@ -16,8 +16,14 @@ fn take_record(bytes: &[u8], at: usize, start: u64) -> Result<Cut, ReadingRefuse
     let offset = start + at as u64;
     let cut = match cut(bytes, at) {
         Ok(cut) => cut,
-        Err(CutFault::Short) => return Err(ReadingRefused::Grammar { offset, rule: 4 }),
-        Err(CutFault::ZeroOp) => return Err(ReadingRefused::Grammar { offset, rule: 5 }),
+        Err(CutFault::Short) => return Err(ReadingRefused::Grammar {
+            offset,
+            rule: Rule::V4,
+        }),
+        Err(CutFault::ZeroOp) => return Err(ReadingRefused::Grammar {
+            offset,
+            rule: Rule::V5,
+        }),
         Err(CutFault::TooLong { len: _ }) => return Err(ReadingRefused::Limit { offset }),
     };
     match breaks(cut.op, &bytes[cut.from as usize..cut.to as usize]) {

@@ -1,6 +1,6 @@
 -- What messages that are kept show.
 use Rattle.std.specs.Prelude.{◌≡◌, ℕ, ◌+◌, ◌≤◌, ◌++◌, ◌∷◌, [], List, length, map, take, drop, Option, Some, Result, Ok, Err}
-use Rattle.mcap_io.specs.declared.outside.ReadRefused.{ReadRefused}
+use Rattle.mcap_io.specs.declared.outside.OutsideRefused.{OutsideRefused}
 use Rattle.mcap_model.specs.declared.replay.Shown.{Shown}
 use Rattle.rec_data.specs.declared.message.Message.{Message}
 use Rattle.mcap_model.specs.declared.replay.Place.{Place}
@@ -30,11 +30,11 @@ pub record IsKeptWith (told : Option (List ℕ)) (at len : ℕ) (show : List ℕ
   pub size : length payload ≡ len
   pub told_is : (file : List ℕ) → told ≡ Some file → payload ≡ take len (drop at file)
 
-abbrev pub KeepsPart : Option (List ℕ) → ℕ → ℕ → (List ℕ → Shown) → List Shown → List Shown → Result Unit ReadRefused → Type 0
+abbrev pub KeepsPart : Option (List ℕ) → ℕ → ℕ → (List ℕ → Shown) → List Shown → List Shown → Result Unit OutsideRefused → Type 0
 KeepsPart told at len show before now (Ok it) = IsKeptWith told at len show before now
 KeepsPart told at len show before now (Err why) = Unit {0}
 
 -- so many bytes more are held; where they are refused, at most so many
-abbrev pub HoldsMoreBytes : ℕ → ℕ → ℕ → Result Unit ReadRefused → Type 0
+abbrev pub HoldsMoreBytes : ℕ → ℕ → ℕ → Result Unit OutsideRefused → Type 0
 HoldsMoreBytes len before now (Ok it) = now ≡ before + len
 HoldsMoreBytes len before now (Err why) = now ≤ before + len

@@ -5,7 +5,7 @@ ghost use Rattle.time_player.specs.Heads.{AreWithin, HeadNotBehind, HeadsInOrder
 
 use crate::lent::{Lent, copy_of};
 use crate::store_part::add_part;
-use mcap_io::{ReadRefused, Store};
+use mcap_io::{OutsideRefused, Store};
 use mcap_model::{Place, Shown, Table};
 use mcap_wire::{Bytes, Memory};
 use rec_data::Message;
@@ -178,7 +178,7 @@ impl Kept {
         message: &Message,
         at: u64,
         len: u64,
-    ) -> Result<(), ReadRefused>
+    ) -> Result<(), OutsideRefused>
         requires { at + len ≤ (T.state store.old).known }
         ensures keeps { KeepsPart (T.state store.old).bytes at len (shown_with place message.now) (kept_in self.old) (kept_in self.new) result }
         ensures reads { ReadsFrom (T.state store.old) (T.state store.new) len result }
@@ -200,7 +200,7 @@ impl Kept {
         };
         match self.heads.push(head) {
             Ok(()) => return Ok(()),
-            Err(_) => return Err(ReadRefused::Memory),
+            Err(_) => return Err(OutsideRefused::Memory),
         }
     }
 

@@ -2,7 +2,7 @@
 ghost use Rattle.std.specs.Prelude.{◌+◌, ◌≤◌, length};
 ghost use Rattle.time_player.specs.Reading.{PartIs, ReadsFrom};
 
-use mcap_io::{Failed, ReadRefused, Store};
+use mcap_io::{Failed, OutsideRefused, Store};
 
 /// Appends the `len` bytes that stand from `at` on. Where it is refused the vector may have grown.
 pub(crate) fn add_part<T: Store>(
@@ -10,7 +10,7 @@ pub(crate) fn add_part<T: Store>(
     at: u64,
     len: u64,
     out: &mut Vec<u8>,
-) -> Result<(), ReadRefused>
+) -> Result<(), OutsideRefused>
     requires { at + len ≤ (T.state store.old).known }
     ensures gives { PartIs (T.state store.old).bytes at len out.old.items out.new.items result }
     ensures grows { length out.old.items ≤ length out.new.items }
@@ -20,14 +20,14 @@ pub(crate) fn add_part<T: Store>(
     let from = out.len();
     let to = match from.checked_add(len as usize) {
         Some(to) => to,
-        None => return Err(ReadRefused::Memory),
+        None => return Err(OutsideRefused::Memory),
     };
     match out.resize(to, 0) {
         Ok(()) => {}
-        Err(_) => return Err(ReadRefused::Memory),
+        Err(_) => return Err(OutsideRefused::Memory),
     }
     match store.read_at(at, &mut out[from..]) {
         Ok(()) => return Ok(()),
-        Err(Failed) => return Err(ReadRefused::Failed),
+        Err(Failed) => return Err(OutsideRefused::Failed),
     }
 }

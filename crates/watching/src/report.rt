@@ -1,5 +1,7 @@
 //! How a watcher ended.
 
+use mcap_model::Rule;
+
 /// Why a watcher ended.
 #[derive(Clone, Copy, Debug, PartialEq, Eq)]
 pub enum WatchEnd {
@@ -9,8 +11,8 @@ pub enum WatchEnd {
     Unsealed,
     /// Its sink or its view failed: this is the count of faults of the one that did.
     Fault { faults: u64 },
-    /// What the view reads breaks the rule of that number at that offset of the file, as where another program changes it.
-    Flaw { rule: u8, offset: u64 },
+    /// What the view reads breaks that rule at that offset of the file, as where another program changes it.
+    Flaw { rule: Rule, offset: u64 },
     /// Memory lacked.
     Memory,
 }

@@ -1,5 +1,6 @@
-use Rattle.std.proofs.Common.{◌++◌, ◌∷◌, [], sym, ◌∙◌, inr, arith}
+use Rattle.std.proofs.Common.{◌++◌, ◌∷◌, ◌≡◌, [], sym, ◌∙◌, inr}
 use Rattle.std.proofs.lemmas.Bool.{both_ways}
+use Rattle.mcap_model.specs.declared.rules.Rule.TheVariants as rules
 use Rattle.mcap_model.specs.Walk.{walk_rest, inner_top}
 use Rattle.mcap_model.proofs.Inside.{walk_steps, walk_ends, walk_cut, all_refused}
 use Rattle.mcap_model.proofs.chunks.take_all.Goals as goal
@@ -23,8 +24,11 @@ returns-then-is_whole c = λ before are.
     let all = walk_ends before c.args.records.now (walk_rest c.records.walk) c.records.tables c.records.times w.0 w.1 h.0 (sym h.2 ∙ c.is_whole.ensures.0 c.if-is_whole.true) in
     (all.whole, all.agrees, all.tables_are, all.times_are)
 
+eight_not_seven : rules.V8 ≡ rules.V7 → ⊥
+eight_not_seven e = cc
+
 pub returns : goal.returns
 returns c = λ before are.
     let w = c.records.invariant before are in
     let h = c.in_default.ensures in
-    inr ((λ e. omega (arith, e)), walk_cut before c.args.records.now (walk_rest c.records.walk) c.records.tables c.records.times w.0 w.1 h.0 (λ e. both_ways c.is_whole.result c.if-is_whole.false (c.is_whole.ensures.1 (h.2 ∙ e))))
+    inr (eight_not_seven, walk_cut before c.args.records.now (walk_rest c.records.walk) c.records.tables c.records.times w.0 w.1 h.0 (λ e. both_ways c.is_whole.result c.if-is_whole.false (c.is_whole.ensures.1 (h.2 ∙ e))))

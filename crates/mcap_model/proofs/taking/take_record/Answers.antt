@@ -4,13 +4,14 @@ use Rattle.mcap_model.specs.Tops.{Top}
 use Rattle.mcap_model.specs.Kept.{reading_limits, grammar, compressed, Halts}
 use Rattle.mcap_model.proofs.TakenRecords.{past_there, uncut, cut_broken, cut_packed, cut_taken}
 use Rattle.mcap_model.proofs.taking.take_record.Goals as goal
+use Rattle.mcap_model.specs.declared.rules.Rule.{Rule}
 
 pub returns-then-passes_limit : goal.returns-then-passes_limit
 returns-then-passes_limit c = λ tops was. (tops, past_there c.args.bytes.now c.args.at c.args.tables.now tops was (c.passes_limit.ensures.0 c.if-passes_limit.true))
 
 pub returns-in-Err : goal.returns-in-Err
 returns-in-Err c = λ tops was.
-    subst (λ (rule : ℕ). (others : List Top) × Halts reading_limits c.args.bytes.now others (grammar c.args.at rule)) (sym c.rule_of.ensures)
+    subst (λ (rule : Rule). (others : List Top) × Halts reading_limits c.args.bytes.now others (grammar c.args.at rule)) (sym c.rule_of.ensures)
     (uncut c.args.bytes.now c.args.at c.args.tables.now tops c.in-Err.fault was (λ past. both_ways c.passes_limit.result c.if-passes_limit.false (c.passes_limit.ensures.1 past)) c.in-Err.ensures)
 
 pub returns-in-Fits : goal.returns-in-Fits

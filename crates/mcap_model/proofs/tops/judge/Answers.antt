@@ -3,6 +3,7 @@ use Rattle.std.proofs.lemmas.Bool.{both_ways}
 use Rattle.mcap_model.specs.Tops.{flat}
 use Rattle.mcap_model.specs.Rules.{breaks_5, breaks_6}
 use Rattle.mcap_model.proofs.Histories.{data_end_meets}
+use Rattle.mcap_model.specs.declared.rules.Rule.TheVariants as rules
 use Rattle.mcap_model.specs.declared.tables.Ruling.TheVariants as rulings
 use Rattle.mcap_model.specs.Made.{top}
 use Rattle.mcap_model.specs.Judging.{JudgedAs}
@@ -43,9 +44,9 @@ returns-in-7 c = λ first more unended stands.
     let t = top 7 c.args.content.now in
     let is = c.is_message_index.ensures in
     subst (JudgedAs (first ∷ more) (top c.args.op c.args.content.now) c.args.tables.now) (sym c.kept_or.ensures)
-    (judged_by (first ∷ more) (top c.args.op c.args.content.now) c.args.tables.now c.is_message_index.result 6
+    (judged_by (first ∷ more) (top c.args.op c.args.content.now) c.args.tables.now c.is_message_index.result rules.V6
     (λ yes. let s = is.0 yes in silent_fits first more c.args.op 7 c.args.content.now c.args.tables.now c.in-7.is refl (λ e. omega (arith, e)) (λ e. omega (arith, e)) (λ e. omega (arith, e)) refl (index_meets t s.0 s.1 s.2) stands)
-    (λ no. breaks_plain (first ∷ more) c.args.op 7 c.args.content.now 6 c.in-7.is (λ e. omega (arith, e)) (breaks_6 (λ v6. both_ways c.is_message_index.result no (is.1 (v6.message_index refl))))))
+    (λ no. breaks_plain (first ∷ more) c.args.op 7 c.args.content.now rules.V6 c.in-7.is (λ e. omega (arith, e)) (breaks_6 (λ v6. both_ways c.is_message_index.result no (is.1 (v6.message_index refl))))))
 
 pub returns-in-None : goal.returns-in-None
 returns-in-None c = λ first more unended stands.
@@ -60,18 +61,18 @@ returns-in-12 c = λ first more unended stands.
     let t = top 12 c.args.content.now in
     let is = c.is_metadata.ensures in
     subst (JudgedAs (first ∷ more) (top c.args.op c.args.content.now) c.args.tables.now) (sym c.kept_or-in-12.ensures)
-    (judged_by (first ∷ more) (top c.args.op c.args.content.now) c.args.tables.now c.is_metadata.result 6
+    (judged_by (first ∷ more) (top c.args.op c.args.content.now) c.args.tables.now c.is_metadata.result rules.V6
     (λ yes. let s = is.0 yes in silent_fits first more c.args.op 12 c.args.content.now c.args.tables.now c.in-12.is refl (λ e. omega (arith, e)) (λ e. omega (arith, e)) (λ e. omega (arith, e)) refl (metadata_meets t s.0 s.1 s.2) stands)
-    (λ no. breaks_plain (first ∷ more) c.args.op 12 c.args.content.now 6 c.in-12.is (λ e. omega (arith, e)) (breaks_6 (λ v6. both_ways c.is_metadata.result no (is.1 (v6.metadata refl))))))
+    (λ no. breaks_plain (first ∷ more) c.args.op 12 c.args.content.now rules.V6 c.in-12.is (λ e. omega (arith, e)) (breaks_6 (λ v6. both_ways c.is_metadata.result no (is.1 (v6.metadata refl))))))
 
 pub returns-in-15 : goal.returns-in-15
 returns-in-15 c = λ first more unended stands.
     let t = top 15 c.args.content.now in
     let is = c.is_data_end.ensures in
     subst (JudgedAs (first ∷ more) (top c.args.op c.args.content.now) c.args.tables.now) (sym c.kept_or-in-15.ensures)
-    (judged_by (first ∷ more) (top c.args.op c.args.content.now) c.args.tables.now c.is_data_end.result 6
+    (judged_by (first ∷ more) (top c.args.op c.args.content.now) c.args.tables.now c.is_data_end.result rules.V6
     (λ yes. silent_fits first more c.args.op 15 c.args.content.now c.args.tables.now c.in-15.is refl (λ e. omega (arith, e)) (λ e. omega (arith, e)) (λ e. omega (arith, e)) refl (data_end_meets t (is.0 yes)) stands)
-    (λ no. breaks_plain (first ∷ more) c.args.op 15 c.args.content.now 6 c.in-15.is (λ e. omega (arith, e)) (breaks_6 (λ v6. both_ways c.is_data_end.result no (is.1 (v6.data_end refl))))))
+    (λ no. breaks_plain (first ∷ more) c.args.op 15 c.args.content.now rules.V6 c.in-15.is (λ e. omega (arith, e)) (breaks_6 (λ v6. both_ways c.is_data_end.result no (is.1 (v6.data_end refl))))))
 
 pub returns-in_default : goal.returns-in_default
 returns-in_default c = λ first more unended stands.
