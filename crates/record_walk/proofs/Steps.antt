@@ -140,6 +140,7 @@ given_inside old new (steps.Record op place) before now tops given was gives =
       v6 = meets.0;
       v10 = meets.1;
       frame = gives.frame;
+      lent = λ none. gives.lent;
       going = still;
     }
 given_inside old new (steps.End offset) before now tops given was gives = absurd gives
@@ -180,7 +181,7 @@ given_top flat before now tops given op offset whole gives holds lies =
     let more = tops ++ t ∷ [] in
     let good = good_stand flat.reader before now more gives.going gives.stands in
     let fits = last_fits tops t good in
-    let lent : flat_content flat ≡ bytes = ap (λ (n : ℕ). part n flat.hi bytes) holds.lo ∙ ap (λ (n : ℕ). part 0 n bytes) holds.hi ∙ part_whole bytes in
+    let content_is : flat_content flat ≡ bytes = ap (λ (n : ℕ). part n flat.hi bytes) holds.lo ∙ ap (λ (n : ℕ). part 0 n bytes) holds.hi ∙ part_whole bytes in
     let place : Place = record { top = offset; inner = 0 } in
     let none : flat.at - flat.from ≡ 0 = let front = holds.front in omega (arith, front) in
     let ahead : ahead_of flat ≡ (if is_chunk t then placed_inside offset 0 (inner_tops t) else []) =
@@ -201,15 +202,16 @@ given_top flat before now tops given op offset whole gives holds lies =
             walked_more tops t
             ∙ ap (λ (l : List Placed). l ++ walked_one (offset_behind tops) t) whole
             ∙ ap (λ (n : ℕ). given ++ walked_one n t) (sym gives.place)
-            ∙ ap (λ (l : List ℕ). given ++ placed_at place op l ∷ (if is_chunk t then placed_inside offset 0 (inner_tops t) else [])) (sym lent)
+            ∙ ap (λ (l : List ℕ). given ++ placed_at place op l ∷ (if is_chunk t then placed_inside offset 0 (inner_tops t) else [])) (sym content_is)
             ∙ ap (λ (l : List Placed). given ++ placed_at place op (flat_content flat) ∷ l) (sym ahead)
             ∙ sym (append_assoc given (placed_at place op (flat_content flat) ∷ []) (ahead_of flat));
         going = λ some. gives.going;
         inside = λ some. record { earlier = tops; last = t; are = refl; behind = p ∷ []; split = ap (λ (l : List Placed). l ++ p ∷ []) (sym whole) };
       };
-      v6 = subst (λ (l : List ℕ). V6 (top op l)) (sym lent) fits.0;
-      v10 = subst (λ (l : List ℕ). V10 (top op l)) (sym lent) fits.1;
+      v6 = subst (λ (l : List ℕ). V6 (top op l)) (sym content_is) fits.0;
+      v10 = subst (λ (l : List ℕ). V10 (top op l)) (sym content_is) fits.1;
       frame = λ found is. absurd (no_frame (sym (ap (λ (b : Bool). if b then Some (part (flat.lo - 9) flat.hi bytes) else None) holds.outside) ∙ is));
+      lent = λ none. absurd (not_none t [] none);
       going = gives.going;
     }
   where

@@ -1,6 +1,6 @@
 -- For which records a flat reader stands, and what its next step adds. Flat: all records of a file in one row, the chunks themselves
 -- too; `flat` of mcap_model drops these and other kinds.
-use Rattle.std.specs.Prelude.{◌≡◌, ℕ, ◌+◌, ◌-◌, ◌*◌, ◌^◌, ◌<◌, List, [], ◌∷◌, ◌++◌, Bool, false, if◌then◌else◌, Option, Some, None}
+use Rattle.std.specs.Prelude.{◌≡◌, ℕ, ◌+◌, ◌-◌, ◌*◌, ◌^◌, ◌<◌, List, [], ◌∷◌, ◌++◌, Bool, true, false, if◌then◌else◌, Option, Some, None}
 use Rattle.mcap_io.specs.Outside.{SourceState}
 use Rattle.mcap_wire.specs.Layout.{framed, part}
 use Rattle.mcap_wire.specs.Limits.{file_limit}
@@ -74,6 +74,8 @@ pub record FlatGives (flat : FlatReader) (before now : SourceState) (was : List 
   pub v6 : V6 (top op (flat_content flat))
   pub v10 : V10 (top op (flat_content flat))
   pub frame : (bytes : List ℕ) → flat_frame flat ≡ Some bytes → bytes ≡ framed op (flat_content flat)
+  -- a step that reads nothing gives a record inside the last one, which is lent with its head
+  pub lent : more ≡ [] → flat.inside ≡ true
   pub going : IsGoing flat.reader.stage
 
 -- the Data End was given, and all was; no more is read
@@ -124,6 +126,7 @@ pub record GivesInside (old new : FlatReader) (op : ℕ) (place : Place) : Type 
   pub same : new.reader ≡ old.reader
   pub due : ahead_of old ≡ placed_at place op (flat_content new) ∷ ahead_of new
   pub frame : (bytes : List ℕ) → flat_frame new ≡ Some bytes → bytes ≡ framed op (flat_content new)
+  pub lent : new.inside ≡ true
   pub less : new.to - new.at < old.to - old.at
 
 -- or none is due, and all is as it was

@@ -8,7 +8,7 @@ use mcap_wire::{Memory, take_u16, take_u64};
 use rec_data::MESSAGE;
 
 /// The length of a Message's content before what it holds.
-const HEAD_LENGTH: usize = 22;
+const MESSAGE_FRONT_LENGTH: usize = 22;
 
 /// Where the log time stands in a Message's content.
 const TIME_OFFSET: usize = 6;
@@ -30,7 +30,7 @@ fn head_of(op: u8, content: &[u8], offset: u64) -> Option<MessageHead>
     if op != MESSAGE {
         return None;
     }
-    if content.len() < HEAD_LENGTH {
+    if content.len() < MESSAGE_FRONT_LENGTH {
         return None;
     }
     let (channel, _) = match take_u16(content, 0) {

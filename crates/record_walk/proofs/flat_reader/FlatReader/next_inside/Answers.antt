@@ -40,5 +40,6 @@ returns-in-Some c =
       same = refl;
       due = due_inside bytes self.top self.from self.at self.to inner.op inner.content.now behind found (ap records_in (sym due) ∙ steps.first) self.begins;
       frame = λ given is. frame_inside bytes self.at self.to inner.op inner.content.now behind given found is;
+      lent = refl;
       less = omega (arith, fits);
     }
