@@ -9,6 +9,9 @@ use Rattle.mcap_model.specs.Kept.{reading_limits, Good, grammar, HaltsThere, sho
 use Rattle.mcap_model.specs.Whole.{V2}
 use Rattle.mcap_model.specs.Valid.{Flaw, flaw_1, flaw_2, flaw_4, flaw_5}
 use Rattle.mcap_model.proofs.Flaws.{left_size}
+use Rattle.mcap_model.specs.declared.rules.Rule.{Rule}
+use Rattle.mcap_model.specs.RuleNumbers.{same_rule}
+use Rattle.mcap_model.specs.declared.rules.Rule.TheVariants as rules
 use Rattle.file_check.specs.declared.flaws.FailedRule.{FailedRule}
 use Rattle.file_check.specs.Halting.{failed_at, lacks_magic, told_cut}
 use Rattle.file_check.specs.HaltFlaws.{HasLengthAt, CutsAreFlaws}
@@ -50,12 +53,12 @@ unless file true g none flaw = flaw_2 none
 unless file false g none flaw = flaw refl
 
 cut_there : (file : List ℕ) (tops : List Top) (rest : List ℕ) → (V2 file → ⊥) → Tops file tops rest → Good reading_limits tops → (has_head rest ≡ false) ⊎ (is_whole rest ≡ false)
-    → Flaw file (told_cut (length file) (offset_behind tops) 4).rule (told_cut (length file) (offset_behind tops) 4).offset
+    → Flaw file (told_cut (length file) (offset_behind tops) rules.V4).rule (told_cut (length file) (offset_behind tops) rules.V4).offset
 cut_there file tops rest none stand good cut =
     let at = offset_behind tops in
     let size = left_size file tops rest stand in
-    unless file (nat_le (length file - at) 8) (failed_at at 4) none
-    (λ far. as_told file (failed_at at 4) 4 at (at_plain at 4 refl) (flaw_4 at (record {
+    unless file (nat_le (length file - at) 8) (failed_at at rules.V4) none
+    (λ far. as_told file (failed_at at rules.V4) rules.V4 at (at_plain at rules.V4 refl) (flaw_4 at (record {
       tops = tops;
       rest = rest;
       stand = stand;
@@ -66,11 +69,11 @@ cut_there file tops rest none stand good cut =
     })))
 
 zero_there : (file : List ℕ) (tops : List Top) (rest : List ℕ) → (V2 file → ⊥) → Tops file tops rest → Good reading_limits tops → opcode rest ≡ 0
-    → Flaw file (told_cut (length file) (offset_behind tops) 5).rule (told_cut (length file) (offset_behind tops) 5).offset
+    → Flaw file (told_cut (length file) (offset_behind tops) rules.V5).rule (told_cut (length file) (offset_behind tops) rules.V5).offset
 zero_there file tops rest none stand good zero =
     let at = offset_behind tops in
-    unless file (nat_lt (length file - at) 17) (failed_at at 5) none
-    (λ far. as_told file (failed_at at 5) 5 at (at_plain at 5 refl) (flaw_5 at (inr (inl (record {
+    unless file (nat_lt (length file - at) 17) (failed_at at rules.V5) none
+    (λ far. as_told file (failed_at at rules.V5) rules.V5 at (at_plain at rules.V5 refl) (flaw_5 at (inr (inl (record {
       tops = tops;
       rest = rest;
       stand = stand;
@@ -81,17 +84,17 @@ zero_there file tops rest none stand good zero =
     })))))
 
 -- a rule that a whole record breaks
-broken_here : (file : List ℕ) (offset rule : ℕ) → (V2 file → ⊥) → eqb rule 4 ≡ false → Flaw file (failed_at offset rule).rule (failed_at offset rule).offset
+broken_here : (file : List ℕ) (offset : ℕ) (rule : Rule) → (V2 file → ⊥) → same_rule rule rules.V4 ≡ false → Flaw file (failed_at offset rule).rule (failed_at offset rule).offset
     → Flaw file (told_cut (length file) offset rule).rule (told_cut (length file) offset rule).offset
 broken_here file offset rule none four flaw =
-    let zero = unless file (eqb rule 5 && nat_lt (length file - offset) 17) (failed_at offset rule) none (λ far. flaw) in
+    let zero = unless file (same_rule rule rules.V5 && nat_lt (length file - offset) 17) (failed_at offset rule) none (λ far. flaw) in
     let len = length file in
     subst (λ (b : Bool). Flaw file
-    (if b && nat_le (len - offset) 8 then lacks_magic len else if eqb rule 5 && nat_lt (len - offset) 17 then lacks_magic len else failed_at offset rule).rule
-    (if b && nat_le (len - offset) 8 then lacks_magic len else if eqb rule 5 && nat_lt (len - offset) 17 then lacks_magic len else failed_at offset rule).offset)
+    (if b && nat_le (len - offset) 8 then lacks_magic len else if same_rule rule rules.V5 && nat_lt (len - offset) 17 then lacks_magic len else failed_at offset rule).rule
+    (if b && nat_le (len - offset) 8 then lacks_magic len else if same_rule rule rules.V5 && nat_lt (len - offset) 17 then lacks_magic len else failed_at offset rule).offset)
     (sym four) zero
 
-by_cause : (file : List ℕ) (tops : List Top) (rest : List ℕ) (offset rule : ℕ) → length file < 2 ^ 64 → (V2 file → ⊥) → Tops file tops rest → Good reading_limits tops
+by_cause : (file : List ℕ) (tops : List Top) (rest : List ℕ) (offset : ℕ) (rule : Rule) → length file < 2 ^ 64 → (V2 file → ⊥) → Tops file tops rest → Good reading_limits tops
     → (offset + 9 ≤ length file → HasLengthAt file offset) → HaltsThere reading_limits tops rest (grammar offset rule)
     → Flaw file (told_cut (length file) offset rule).rule (told_cut (length file) offset rule).offset
 by_cause file tops rest offset rule fits none stand good bytes (short_head headless) = cut_there file tops rest none stand good (inl headless)
@@ -104,7 +107,7 @@ by_cause file tops rest offset rule fits none stand good bytes (broken_rule r du
     let flaw = broken_there file [] tops t r (λ v2. absurd (none (subst V2 same v2))) (next_there file tops rest stand good due whole bytes) (omega (arith, fits)) plain breaks in
     broken_here file at r none (not_four tops t r breaks) (subst (λ (l : List ℕ). Flaw l (failed_at at r).rule (failed_at at r).offset) same flaw)
 
-halted : (file : List ℕ) (tops : List Top) (offset rule : ℕ) → length file < 2 ^ 64 → (V2 file → ⊥) → (offset + 9 ≤ length file → HasLengthAt file offset) → Good reading_limits tops
+halted : (file : List ℕ) (tops : List Top) (offset : ℕ) (rule : Rule) → length file < 2 ^ 64 → (V2 file → ⊥) → (offset + 9 ≤ length file → HasLengthAt file offset) → Good reading_limits tops
     → HaltsAt reading_limits file tops (grammar offset rule) → Flaw file (told_cut (length file) offset rule).rule (told_cut (length file) offset rule).offset
 halted file tops offset rule fits none bytes good (no_magic bad) = flaw_1 bad
 halted file tops offset rule fits none bytes good (behind_kept rest stand unended halt there) = by_cause file tops rest offset rule fits none stand good bytes there

@@ -7,10 +7,11 @@ use Rattle.mcap_model.specs.Kept.{reading_limits, Good}
 use Rattle.mcap_model.specs.Valid.{IsPlain, Flaw, flaw_9}
 use Rattle.mcap_model.proofs.Lists.{each_taken}
 use Rattle.mcap_model.proofs.Readings.{short_there}
+use Rattle.mcap_model.specs.declared.rules.Rule.TheVariants as rules
 use Rattle.file_check.specs.CutFiles.{IndexFails}
 
 -- the file goes on with these last bytes, which weren't read
-pub index_flaw : (bytes last : List ℕ) (tops : List Top) (rest : List ℕ) (offset : ℕ) → Tops bytes tops rest → Good reading_limits tops → length last ≡ 8 → IndexFails tops offset → Flaw (bytes ++ last) 9 offset
+pub index_flaw : (bytes last : List ℕ) (tops : List Top) (rest : List ℕ) (offset : ℕ) → Tops bytes tops rest → Good reading_limits tops → length last ≡ 8 → IndexFails tops offset → Flaw (bytes ++ last) rules.V9 offset
 index_flaw bytes last tops rest offset stands good eight fails = flaw_9 offset (record {
   tops = tops;
   rest = rest ++ last;

@@ -7,13 +7,12 @@ use Rattle.mcap_io.specs.Stores.{StoreState}
 use Rattle.mcap_io.specs.StoreSources.{front_left}
 use Rattle.mcap_model.specs.declared.checked.Verdict.{Verdict}
 use Rattle.mcap_model.proofs.Flaws.{left_size}
+use Rattle.mcap_model.specs.declared.refusals.ReadingRefused.{ReadingRefused}
 use Rattle.mcap_model.specs.declared.refusals.ReadingRefused.TheVariants as scans
 use Rattle.store_front.specs.Fronts.{WasRead}
 use Rattle.store_front.proofs.Lent.{asks_front}
 use Rattle.index_check.specs.declared.section.Section.{Section}
-use Rattle.file_check.specs.declared.reading.SectionRefused.{SectionRefused}
-use Rattle.file_check.specs.declared.reading.SectionRefused.TheVariants as sections
-use Rattle.mcap_model.specs.declared.refusals.ReadingRefused.{ReadingRefused}
+use Rattle.file_check.specs.declared.flaws.FailedRule.{FailedRule}
 use Rattle.file_check.specs.Reading.{ReadsSection}
 use Rattle.file_check.specs.Checking.{CheckCause}
 use Rattle.file_check.specs.CheckSteps.{checked_front, SectionCause, SectionAsks, RefusedCause}
@@ -22,22 +21,23 @@ use Rattle.file_check.specs.CheckSteps.{checked_front, SectionCause, SectionAsks
 still : (old new : StoreState) (next end failures : ℕ) → WasRead old new next end failures → failures ≡ 0 → new.faults ≡ old.faults
 still old new next end failures was none = let whole = was.whole none in whole.0
 
-pub front_cause : (old new : StoreState) (now : SourceState) (next end : ℕ) (result : Result Section SectionRefused) → WasRead old new next end now.faults → ReadsSection (checked_front old end) now result → SectionCause old.faults new.faults result
-front_cause old new now next end (Ok section) was (tops, is) = let read = is.are_read in still old new next end now.faults was read.still
-front_cause old new now next end (Err (sections.Scan (scans.Fault faults))) was (tops, stands) =
+pub front_cause : (old new : StoreState) (now : SourceState) (next end : ℕ) (result : Result (Result Section FailedRule) ReadingRefused) → WasRead old new next end now.faults → ReadsSection (checked_front old end) now result → SectionCause old.faults new.faults result
+front_cause old new now next end (Ok (Ok section)) was (tops, is) = let read = is.are_read in still old new next end now.faults was read.still
+front_cause old new now next end (Ok (Err failed)) was (tops, wrong) = let read = wrong.are_read in still old new next end now.faults was read.still
+front_cause old new now next end (Err (scans.Fault faults)) was (tops, stands) =
     let rises = stands.rises in
     let broken = was.broken (omega (arith, rises.once)) in
     record { later = broken.0; once = broken.1 }
-front_cause old new now next end (Err (sections.Scan (scans.Grammar offset rule))) was (tops, stands) = still old new next end now.faults was stands.still
-front_cause old new now next end (Err (sections.Scan (scans.Compressed offset name))) was (tops, stands) = still old new next end now.faults was stands.still
-front_cause old new now next end (Err (sections.Scan (scans.Limit offset))) was (tops, stands) = still old new next end now.faults was stands.still
-front_cause old new now next end (Err (sections.Scan scans.Memory)) was (tops, stands) = still old new next end now.faults was stands.still
-front_cause old new now next end (Err (sections.Index offset)) was (tops, wrong) = let read = wrong.are_read in still old new next end now.faults was read.still
+front_cause old new now next end (Err (scans.Grammar offset rule)) was (tops, stands) = still old new next end now.faults was stands.still
+front_cause old new now next end (Err (scans.Compressed offset name)) was (tops, stands) = still old new next end now.faults was stands.still
+front_cause old new now next end (Err (scans.Limit offset)) was (tops, stands) = still old new next end now.faults was stands.still
+front_cause old new now next end (Err scans.Memory) was (tops, stands) = still old new next end now.faults was stands.still
 
-pub front_asks : (old new : StoreState) (now : SourceState) (next end : ℕ) (result : Result Section SectionRefused) → WasRead old new next end now.faults → now.left ≡ front_left new.bytes next end
+pub front_asks : (old new : StoreState) (now : SourceState) (next end : ℕ) (result : Result (Result Section FailedRule) ReadingRefused) → WasRead old new next end now.faults → now.left ≡ front_left new.bytes next end
     → ReadsSection (checked_front old end) now result → SectionAsks old end new.asked result
 front_asks old new now next end (Err why) was left reads = asks_front old new next end now.faults was
-front_asks old new now next end (Ok section) was left (tops, is) = λ file told long.
+front_asks old new now next end (Ok (Err failed)) was left reads = asks_front old new next end now.faults was
+front_asks old new now next end (Ok (Ok section)) was left (tops, is) = λ file told long.
     let read = is.are_read in
     let kept = is.kept in
     let behind = kept.behind in
@@ -51,11 +51,10 @@ front_asks old new now next end (Ok section) was left (tops, is) = λ file told 
 
 -- ---- what is told of a refusal
 
-pub told_cause : (before read now : ℕ) (why : SectionRefused) (result : Result Verdict ReadingRefused) → SectionCause before read (Err why) → RefusedCause read now why result → CheckCause before now result
-told_cause before read now (sections.Scan (scans.Fault faults)) result rises (same, is) =
+pub told_cause : (before read now : ℕ) (why : ReadingRefused) (result : Result Verdict ReadingRefused) → SectionCause before read (Err why) → RefusedCause read now why result → CheckCause before now result
+told_cause before read now (scans.Fault faults) result rises (same, is) =
     subst (λ (r : Result Verdict ReadingRefused). CheckCause before now r) (sym is) (subst (λ (n : ℕ). RisesOnce before n) (sym same) rises, refl)
-told_cause before read now (sections.Scan (scans.Grammar offset rule)) result same cause = subst (λ (n : ℕ). CheckCause n now result) same cause
-told_cause before read now (sections.Scan (scans.Compressed offset name)) result same cause = subst (λ (n : ℕ). CheckCause n now result) same cause
-told_cause before read now (sections.Scan (scans.Limit offset)) result same cause = subst (λ (n : ℕ). CheckCause n now result) same cause
-told_cause before read now (sections.Scan scans.Memory) result same cause = subst (λ (n : ℕ). CheckCause n now result) same cause
-told_cause before read now (sections.Index offset) result same cause = subst (λ (n : ℕ). CheckCause n now result) same cause
+told_cause before read now (scans.Grammar offset rule) result same cause = subst (λ (n : ℕ). CheckCause n now result) same cause
+told_cause before read now (scans.Compressed offset name) result same cause = subst (λ (n : ℕ). CheckCause n now result) same cause
+told_cause before read now (scans.Limit offset) result same cause = subst (λ (n : ℕ). CheckCause n now result) same cause
+told_cause before read now scans.Memory result same cause = subst (λ (n : ℕ). CheckCause n now result) same cause

@@ -17,6 +17,9 @@ use Rattle.mcap_model.specs.Valid.{IsPlain, Behind, WherePlain, FailsAmong, Fail
 use Rattle.mcap_model.proofs.Places.{at_none, at_last, at_more}
 use Rattle.mcap_model.proofs.Readings.{top_of, short_there, length-top}
 use Rattle.mcap_model.proofs.Flaws.{left_size}
+use Rattle.mcap_model.specs.declared.rules.Rule.{Rule}
+use Rattle.mcap_model.specs.declared.rules.Rule.TheVariants as rules
+use Rattle.mcap_model.specs.RuleNumbers.{same_rule}
 use Rattle.summary_check.proofs.Cuts.{inner_is}
 use Rattle.file_check.specs.declared.flaws.FailedRule.{FailedRule}
 use Rattle.file_check.specs.Halting.{failed, failed_at}
@@ -168,29 +171,29 @@ header_v8 t header f is plain = let six = is.kind in let one = header.kind in ab
 
 -- ---- what is told
 
-pub as_told : (file : List ℕ) (f : FailedRule) (rule offset : ℕ) → f ≡ failed rule offset → Flaw file rule offset → Flaw file f.rule f.offset
+pub as_told : (file : List ℕ) (f : FailedRule) (rule : Rule) (offset : ℕ) → f ≡ failed rule offset → Flaw file rule offset → Flaw file f.rule f.offset
 as_told file f rule offset same flaw = subst (λ (g : FailedRule). Flaw file g.rule g.offset) (sym same) flaw
 
 and_no : (b : Bool) → (b && false) ≡ false
 and_no true = refl
 and_no false = refl
 
--- rules other than 7 and 8 are told as they are, and so are these behind the first record
-pub at_plain : (offset rule : ℕ) → (eqb rule 7 || eqb rule 8) ≡ false → failed_at offset rule ≡ failed rule offset
-at_plain offset rule others = ap (λ (b : Bool). if b then failed 3 8 else failed rule offset) (ap (λ (b : Bool). eqb offset 8 && b) others ∙ and_no (eqb offset 8))
+-- rules other than V7 and V8 are told as they are, and so are these behind the first record
+pub at_plain : (offset : ℕ) (rule : Rule) → (same_rule rule rules.V7 || same_rule rule rules.V8) ≡ false → failed_at offset rule ≡ failed rule offset
+at_plain offset rule others = ap (λ (b : Bool). if b then failed rules.V3 8 else failed rule offset) (ap (λ (b : Bool). eqb offset 8 && b) others ∙ and_no (eqb offset 8))
 
-at_later : (offset rule : ℕ) → (offset ≡ 8 → ⊥) → failed_at offset rule ≡ failed rule offset
-at_later offset rule apart = ap (λ (b : Bool). if b && (eqb rule 7 || eqb rule 8) then failed 3 8 else failed rule offset) (ne_eqb offset 8 apart)
+at_later : (offset : ℕ) (rule : Rule) → (offset ≡ 8 → ⊥) → failed_at offset rule ≡ failed rule offset
+at_later offset rule apart = ap (λ (b : Bool). if b && (same_rule rule rules.V7 || same_rule rule rules.V8) then failed rules.V3 8 else failed rule offset) (ne_eqb offset 8 apart)
 
--- rules other than 4 are told where they are broken, and so is 4 in front of the end
-told_other : (end offset rule : ℕ) → eqb rule 4 ≡ false → told_flaw end offset rule ≡ failed_at offset rule
-told_other end offset rule four = ap (λ (b : Bool). if b && eqb offset end then failed 17 (end - 29) else failed_at offset rule) four
+-- rules other than V4 are told where they are broken, and so is V4 in front of the end
+told_other : (end offset : ℕ) (rule : Rule) → same_rule rule rules.V4 ≡ false → told_flaw end offset rule ≡ failed_at offset rule
+told_other end offset rule four = ap (λ (b : Bool). if b && eqb offset end then failed rules.V17 (end - 29) else failed_at offset rule) four
 
-told_short : (end offset : ℕ) → (offset ≡ end → ⊥) → told_flaw end offset 4 ≡ failed 4 offset
-told_short end offset apart = ap (λ (b : Bool). if b then failed 17 (end - 29) else failed_at offset 4) (ne_eqb offset end apart) ∙ at_plain offset 4 refl
+told_short : (end offset : ℕ) → (offset ≡ end → ⊥) → told_flaw end offset rules.V4 ≡ failed rules.V4 offset
+told_short end offset apart = ap (λ (b : Bool). if b then failed rules.V17 (end - 29) else failed_at offset rules.V4) (ne_eqb offset end apart) ∙ at_plain offset rules.V4 refl
 
-told_end : (end : ℕ) → told_flaw end end 4 ≡ failed 17 (end - 29)
-told_end end = ap (λ (b : Bool). if b then failed 17 (end - 29) else failed_at end 4) (eq-eqb end end refl)
+told_end : (end : ℕ) → told_flaw end end rules.V4 ≡ failed rules.V17 (end - 29)
+told_end end = ap (λ (b : Bool). if b then failed rules.V17 (end - 29) else failed_at end rules.V4) (eq-eqb end end refl)
 
 -- ---- each halt
 
@@ -219,13 +222,13 @@ no_footer tops good unended (before, t, joined, footer, none) =
         both_ways false refl (sym (ap stands_in_section two) ∙ stands)
 
 -- whole records, and the last magic directly behind them
-at_the_end : (inner : List ℕ) (tops : List Top) → Tops inner tops [] → Good reading_limits tops → (HasDataEnd tops → ⊥) → Flaw (inner ++ magic) 17 (length inner - 29)
+at_the_end : (inner : List ℕ) (tops : List Top) → Tops inner tops [] → Good reading_limits tops → (HasDataEnd tops → ⊥) → Flaw (inner ++ magic) rules.V17 (length inner - 29)
 at_the_end inner tops stand good unended =
     let whole = stand_whole inner tops [] stand in
     let is : IsWhole (inner ++ magic) tops = record { split = whole.split; short = good_short tops good } in
     let size = length-append inner magic in
     let there : length (inner ++ magic) - 37 ≡ length inner - 29 = omega (arith, size) in
-    subst (λ (n : ℕ). Flaw (inner ++ magic) 17 n) there (flaw_17 (inr (tops, is, no_footer tops good unended)))
+    subst (λ (n : ℕ). Flaw (inner ++ magic) rules.V17 n) there (flaw_17 (inr (tops, is, no_footer tops good unended)))
 
 cut_off : (inner : List ℕ) (tops : List Top) (rest : List ℕ) → Tops inner tops rest → Good reading_limits tops → 0 < length rest → (has_head rest ≡ false) ⊎ (is_whole rest ≡ false) → FailsToFit (inner ++ magic) (offset_behind tops)
 cut_off inner tops rest stand good some cut = record {
@@ -242,14 +245,14 @@ cut_off inner tops rest stand good some cut = record {
 }
 
 cut_there : (inner : List ℕ) (tops : List Top) (rest : List ℕ) → Tops inner tops rest → Good reading_limits tops → (HasDataEnd tops → ⊥) → (has_head rest ≡ false) ⊎ (is_whole rest ≡ false)
-    → Flaw (inner ++ magic) (told_flaw (length inner) (offset_behind tops) 4).rule (told_flaw (length inner) (offset_behind tops) 4).offset
+    → Flaw (inner ++ magic) (told_flaw (length inner) (offset_behind tops) rules.V4).rule (told_flaw (length inner) (offset_behind tops) rules.V4).offset
 cut_there inner tops [] stand good unended cut =
     let end : length inner ≡ offset_behind tops = omega (arith, left_size inner tops [] stand) in
-    as_told (inner ++ magic) (told_flaw (length inner) (offset_behind tops) 4) 17 (length inner - 29)
-    (ap (λ (n : ℕ). told_flaw (length inner) n 4) (sym end) ∙ told_end (length inner)) (at_the_end inner tops stand good unended)
+    as_told (inner ++ magic) (told_flaw (length inner) (offset_behind tops) rules.V4) rules.V17 (length inner - 29)
+    (ap (λ (n : ℕ). told_flaw (length inner) n rules.V4) (sym end) ∙ told_end (length inner)) (at_the_end inner tops stand good unended)
 cut_there inner tops (b ∷ bs) stand good unended cut =
     let size = left_size inner tops (b ∷ bs) stand in
-    as_told (inner ++ magic) (told_flaw (length inner) (offset_behind tops) 4) 4 (offset_behind tops)
+    as_told (inner ++ magic) (told_flaw (length inner) (offset_behind tops) rules.V4) rules.V4 (offset_behind tops)
     (told_short (length inner) (offset_behind tops) (λ e. omega (arith, e, size)))
     (flaw_4 (offset_behind tops) (cut_off inner tops (b ∷ bs) stand good (omega arith) cut))
 
@@ -272,37 +275,37 @@ later : (x : Top) (xs : List Top) → offset_behind (x ∷ xs) ≡ 8 → ⊥
 later x xs e = omega (arith, e, length-append (top_bytes x) (spelled xs), length-top x)
 
 -- the record there breaks a rule
-pub broken_there : (inner last : List ℕ) (tops : List Top) (t : Top) (rule : ℕ) → Ends inner last → Next inner tops t → length inner + length last < 2 ^ 64 → ((name : List ℕ) → IsPacked tops t name → ⊥) → Breaks tops t rule
+pub broken_there : (inner last : List ℕ) (tops : List Top) (t : Top) (rule : Rule) → Ends inner last → Next inner tops t → length inner + length last < 2 ^ 64 → ((name : List ℕ) → IsPacked tops t name → ⊥) → Breaks tops t rule
     → Flaw (inner ++ last) (failed_at (offset_behind tops) rule).rule (failed_at (offset_behind tops) rule).offset
 broken_there inner last [] t rule ends next fits plain (breaks_3 bad) =
-    as_told (inner ++ last) (failed_at 8 3) 3 8 (at_plain 8 3 refl) (flaw_3 (no_header inner last t next fits bad))
+    as_told (inner ++ last) (failed_at 8 rules.V3) rules.V3 8 (at_plain 8 rules.V3 refl) (flaw_3 (no_header inner last t next fits bad))
 broken_there inner last (x ∷ xs) t rule ends next fits plain (breaks_3 bad) = absurd (bad tt)
 broken_there inner last tops t rule ends next fits plain (breaks_5 bad) =
-    as_told (inner ++ last) (failed_at (offset_behind tops) 5) 5 (offset_behind tops) (at_plain (offset_behind tops) 5 refl)
+    as_told (inner ++ last) (failed_at (offset_behind tops) rules.V5) rules.V5 (offset_behind tops) (at_plain (offset_behind tops) rules.V5 refl)
     (flaw_5 (offset_behind tops) (inl (fails_among (Behind V5) inner last tops t ends next (behind_bad V5 tops t bad))))
 broken_there inner last tops t rule ends next fits plain (breaks_6 bad) =
-    as_told (inner ++ last) (failed_at (offset_behind tops) 6) 6 (offset_behind tops) (at_plain (offset_behind tops) 6 refl)
+    as_told (inner ++ last) (failed_at (offset_behind tops) rules.V6) rules.V6 (offset_behind tops) (at_plain (offset_behind tops) rules.V6 refl)
     (flaw_6 (offset_behind tops) (fails_among (λ l n. V6) inner last tops t ends next bad))
 broken_there inner last [] t rule ends next fits plain (breaks_7 bad) =
-    as_told (inner ++ last) (failed_at 8 7) 3 8 refl (flaw_3 (no_header inner last t next fits (λ header. bad (header_v7 t header))))
+    as_told (inner ++ last) (failed_at 8 rules.V7) rules.V3 8 refl (flaw_3 (no_header inner last t next fits (λ header. bad (header_v7 t header))))
 broken_there inner last (x ∷ xs) t rule ends next fits plain (breaks_7 bad) =
     let at = offset_behind (x ∷ xs) in
-    as_told (inner ++ last) (failed_at at 7) 7 at (at_later at 7 (later x xs))
+    as_told (inner ++ last) (failed_at at rules.V7) rules.V7 at (at_later at rules.V7 (later x xs))
     (flaw_7 at (fails_among (WherePlain (Behind V7)) inner last (x ∷ xs) t ends next
     (where_plain_bad (Behind V7) (x ∷ xs) t next.good (λ name names. plain name (no_cons x xs, names)) (behind_bad V7 (x ∷ xs) t bad))))
 broken_there inner last [] t rule ends next fits plain (breaks_8 bad) =
-    as_told (inner ++ last) (failed_at 8 8) 3 8 refl (flaw_3 (no_header inner last t next fits (λ header. bad (header_v8 t header))))
+    as_told (inner ++ last) (failed_at 8 rules.V8) rules.V3 8 refl (flaw_3 (no_header inner last t next fits (λ header. bad (header_v8 t header))))
 broken_there inner last (x ∷ xs) t rule ends next fits plain (breaks_8 bad) =
     let at = offset_behind (x ∷ xs) in
-    as_told (inner ++ last) (failed_at at 8) 8 at (at_later at 8 (later x xs))
+    as_told (inner ++ last) (failed_at at rules.V8) rules.V8 at (at_later at rules.V8 (later x xs))
     (flaw_8 at (fails_among (WherePlain (λ l n. V8)) inner last (x ∷ xs) t ends next
     (where_plain_bad (λ l n. V8) (x ∷ xs) t next.good (λ name names. plain name (no_cons x xs, names)) bad)))
 broken_there inner last tops t rule ends next fits plain (breaks_10 bad) =
-    as_told (inner ++ last) (failed_at (offset_behind tops) 10) 10 (offset_behind tops) (at_plain (offset_behind tops) 10 refl)
+    as_told (inner ++ last) (failed_at (offset_behind tops) rules.V10) rules.V10 (offset_behind tops) (at_plain (offset_behind tops) rules.V10 refl)
     (flaw_10 (offset_behind tops) (fails_among (λ l n. V10) inner last tops t ends next bad))
 
 -- it isn't that a record isn't whole
-pub not_four : (tops : List Top) (t : Top) (rule : ℕ) → Breaks tops t rule → eqb rule 4 ≡ false
+pub not_four : (tops : List Top) (t : Top) (rule : Rule) → Breaks tops t rule → same_rule rule rules.V4 ≡ false
 not_four tops t rule (breaks_3 bad) = refl
 not_four tops t rule (breaks_5 bad) = refl
 not_four tops t rule (breaks_6 bad) = refl
@@ -323,12 +326,12 @@ next_there inner tops rest stand good due whole bytes =
 
 -- ---- all of them
 
-by_cause : (inner : List ℕ) (tops : List Top) (rest : List ℕ) (offset rule : ℕ) → Tops inner tops rest → Good reading_limits tops → (HasDataEnd tops → ⊥) → length inner + 8 < 2 ^ 64
+by_cause : (inner : List ℕ) (tops : List Top) (rest : List ℕ) (offset : ℕ) (rule : Rule) → Tops inner tops rest → Good reading_limits tops → (HasDataEnd tops → ⊥) → length inner + 8 < 2 ^ 64
     → (offset + 9 ≤ length inner → HasLengthAt inner offset) → HaltsThere reading_limits tops rest (grammar offset rule)
     → Flaw (inner ++ magic) (told_flaw (length inner) offset rule).rule (told_flaw (length inner) offset rule).offset
 by_cause inner tops rest offset rule stand good unended fits bytes (short_head headless) = cut_there inner tops rest stand good unended (inl headless)
 by_cause inner tops rest offset rule stand good unended fits bytes (zero_opcode head none) =
-    as_told (inner ++ magic) (told_flaw (length inner) (offset_behind tops) 5) 5 (offset_behind tops) (told_other (length inner) (offset_behind tops) 5 refl ∙ at_plain (offset_behind tops) 5 refl)
+    as_told (inner ++ magic) (told_flaw (length inner) (offset_behind tops) rules.V5) rules.V5 (offset_behind tops) (told_other (length inner) (offset_behind tops) rules.V5 refl ∙ at_plain (offset_behind tops) rules.V5 refl)
     (flaw_5 (offset_behind tops) (inr (inl (zero_there inner tops rest stand good head none))))
 by_cause inner tops rest offset rule stand good unended fits bytes (cut_short due short) = cut_there inner tops rest stand good unended (inr short)
 by_cause inner tops rest offset rule stand good unended fits bytes (broken_rule r due whole plain breaks) =
@@ -345,10 +348,10 @@ no_magic_there inner long bad (rest, is) =
     take_first : take 8 (inner ++ magic) ≡ take 8 inner
     take_first = take-append-le 8 inner magic long
 
-halted : (inner : List ℕ) (tops : List Top) (offset rule : ℕ) → 8 ≤ length inner → length inner + 8 < 2 ^ 64 → (offset + 9 ≤ length inner → HasLengthAt inner offset) → Good reading_limits tops
+halted : (inner : List ℕ) (tops : List Top) (offset : ℕ) (rule : Rule) → 8 ≤ length inner → length inner + 8 < 2 ^ 64 → (offset + 9 ≤ length inner → HasLengthAt inner offset) → Good reading_limits tops
     → HaltsAt reading_limits inner tops (grammar offset rule) → Flaw (inner ++ magic) (told_flaw (length inner) offset rule).rule (told_flaw (length inner) offset rule).offset
 halted inner tops offset rule long fits bytes good (no_magic bad) =
-    as_told (inner ++ magic) (told_flaw (length inner) 0 1) 1 0 refl (flaw_1 (no_magic_there inner long bad))
+    as_told (inner ++ magic) (told_flaw (length inner) 0 rules.V1) rules.V1 0 refl (flaw_1 (no_magic_there inner long bad))
 halted inner tops offset rule long fits bytes good (behind_kept rest stand unended halt there) = by_cause inner tops rest offset rule stand good unended fits bytes there
 
 pub halts_are_flaws : HaltsAreFlaws

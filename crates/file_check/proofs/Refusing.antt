@@ -22,6 +22,8 @@ use Rattle.mcap_model.specs.declared.refusals.ReadingRefused.TheVariants as refu
 use Rattle.file_check.specs.Checking.{HaltsBefore, IsUnchecked, IsFault}
 use Rattle.file_check.specs.CheckSteps.{checked_front, TellsFlaw, TellsCut, IsUnended, EndsAtMagic, IsSectionRead}
 use Rattle.mcap_model.proofs.Places.{at_none}
+use Rattle.mcap_model.specs.declared.rules.Rule.TheVariants as rules
+use Rattle.mcap_model.specs.declared.rules.Rule.{Rule}
 use Rattle.file_check.proofs.CutFlaws.{cuts_are_flaws}
 use Rattle.file_check.proofs.Halted.{good_short, stand_whole, halts_are_flaws}
 
@@ -53,7 +55,7 @@ fault_unchecked file refusals.Memory is = absurd is
 pub halts_before : (file : List ℕ) (end : ℕ) (halt : Halt) (tops : List Top) → EndsAtMagic file end → Halts reading_limits (take end file) tops halt → HaltsBefore file halt
 halts_before file end halt tops ended halts = (take end file, tops, inner_whole file end ended, halts)
 
-pub grammar_told : (file : List ℕ) (end offset rule : ℕ) (tops : List Top) (f : FailedRule) → 8 ≤ end → EndsAtMagic file end → Halts reading_limits (take end file) tops (grammar offset rule)
+pub grammar_told : (file : List ℕ) (end offset : ℕ) (rule : Rule) (tops : List Top) (f : FailedRule) → 8 ≤ end → EndsAtMagic file end → Halts reading_limits (take end file) tops (grammar offset rule)
     → TellsFlaw (Some file) end offset rule f → Flaw file f.rule f.offset
 grammar_told file end offset rule tops f long ended halts (is, there) =
     let inner = take end file in
@@ -77,7 +79,7 @@ taken_at (t ∷ ts) (suc n) (suc k) u at = taken_at ts n k u at
 plain_front : (tops : List Top) (n : ℕ) → Good reading_limits tops → Each IsPlain (take n tops)
 plain_front tops n good k u at = let fits = good k u (taken_at tops n k u at) in fits.plain
 
-pub index_told : (file : List ℕ) (end offset : ℕ) (tops : List Top) (rest : List ℕ) → EndsAtMagic file end → Good reading_limits tops → Tops (take end file) tops rest → IndexFails tops offset → Flaw file 9 offset
+pub index_told : (file : List ℕ) (end offset : ℕ) (tops : List Top) (rest : List ℕ) → EndsAtMagic file end → Good reading_limits tops → Tops (take end file) tops rest → IndexFails tops offset → Flaw file rules.V9 offset
 index_told file end offset tops rest ended good stand fails =
     let bad = fails.breaks in
     let among : FailsAmong (WherePlain V9) (take end file ++ magic) offset = record {
@@ -92,10 +94,10 @@ index_told file end offset tops rest ended good stand fails =
       there = fails.there;
       breaks = λ keeps. bad (keeps (plain_front tops (suc fails.place) good));
     } in
-    subst (λ (l : List ℕ). Flaw l 9 offset) (sym (inner_whole file end ended)) (flaw_9 offset among)
+    subst (λ (l : List ℕ). Flaw l rules.V9 offset) (sym (inner_whole file end ended)) (flaw_9 offset among)
 
 -- the same of a file without the last magic
-index_cut : (file : List ℕ) (offset : ℕ) (tops : List Top) (rest : List ℕ) → (EndsWithMagic file → ⊥) → Good reading_limits tops → Tops file tops rest → IndexFails tops offset → Flaw file 9 offset
+index_cut : (file : List ℕ) (offset : ℕ) (tops : List Top) (rest : List ℕ) → (EndsWithMagic file → ⊥) → Good reading_limits tops → Tops file tops rest → IndexFails tops offset → Flaw file rules.V9 offset
 index_cut file offset tops rest none good stand fails =
     let bad = fails.breaks in
     flaw_9 offset (record {
@@ -111,29 +113,30 @@ index_cut file offset tops rest none good stand fails =
       breaks = λ keeps. bad (keeps (plain_front tops (suc fails.place) good));
     })
 
-pub index_read : (old : StoreState) (now : SourceState) (told : Option (List ℕ)) (file : List ℕ) (end offset : ℕ) (tops : List Top) → old.bytes ≡ told → told ≡ Some file → EndsAtMagic file end
-    → IndexIsWrong (checked_front old end) now tops offset → Flaw file 9 offset
-index_read old now told file end offset tops same is ended wrong =
+pub index_read : (old : StoreState) (now : SourceState) (file : List ℕ) (end : ℕ) (failed : FailedRule) (tops : List Top) → old.bytes ≡ Some file → EndsAtMagic file end
+    → IndexIsWrong (checked_front old end) now tops failed → Flaw file failed.rule failed.offset
+index_read old now file end failed tops told ended wrong =
     let are = wrong.are_read in
-    let left = are.read (take end file) (ap (λ (t : Option (List ℕ)). front_left t 0 end) (same ∙ is)) in
-    index_told file end offset tops left.0 ended are.good left.2 wrong.fails
+    let left = are.read (take end file) (ap (λ (t : Option (List ℕ)). front_left t 0 end) told) in
+    subst (λ (rule : Rule). Flaw file rule failed.offset) (sym wrong.rule_is) (index_told file end failed.offset tops left.0 ended are.good left.2 wrong.fails)
 
 -- ---- a file without the last magic
 
-pub unended : (file : List ℕ) (len : ℕ) → len ≡ length file → (EndsWithMagic file → ⊥) → Flaw file 2 (len - 8)
-unended file len size none = subst (λ (n : ℕ). Flaw file 2 (n - 8)) (sym size) (flaw_2 (λ v2. none v2.1))
+pub unended : (file : List ℕ) (len : ℕ) → len ≡ length file → (EndsWithMagic file → ⊥) → Flaw file rules.V2 (len - 8)
+unended file len size none = subst (λ (n : ℕ). Flaw file rules.V2 (n - 8)) (sym size) (flaw_2 (λ v2. none v2.1))
 
 all_of_it : (file : List ℕ) (len : ℕ) → IsUnended file len → take len file ≡ file
 all_of_it file len ended = take_all len file (omega (arith, ended.size))
 
-pub index_read_cut : (old : StoreState) (now : SourceState) (told : Option (List ℕ)) (file : List ℕ) (len offset : ℕ) (tops : List Top) → old.bytes ≡ told → told ≡ Some file → IsUnended file len
-    → IndexIsWrong (checked_front old len) now tops offset → Flaw file 9 offset
-index_read_cut old now told file len offset tops same is ended wrong =
+pub index_read_cut : (old : StoreState) (now : SourceState) (file : List ℕ) (len : ℕ) (failed : FailedRule) (tops : List Top) → old.bytes ≡ Some file → IsUnended file len
+    → IndexIsWrong (checked_front old len) now tops failed → Flaw file failed.rule failed.offset
+index_read_cut old now file len failed tops told ended wrong =
     let are = wrong.are_read in
-    let left = are.read (take len file) (ap (λ (t : Option (List ℕ)). front_left t 0 len) (same ∙ is)) in
-    index_cut file offset tops left.0 ended.none are.good (subst (λ (l : List ℕ). Tops l tops left.0) (all_of_it file len ended) left.2) wrong.fails
+    let left = are.read (take len file) (ap (λ (t : Option (List ℕ)). front_left t 0 len) told) in
+    subst (λ (rule : Rule). Flaw file rule failed.offset) (sym wrong.rule_is)
+    (index_cut file failed.offset tops left.0 ended.none are.good (subst (λ (l : List ℕ). Tops l tops left.0) (all_of_it file len ended) left.2) wrong.fails)
 
-pub cut_told : (file : List ℕ) (len offset rule : ℕ) (tops : List Top) (f : FailedRule) → len < 2 ^ 64 → IsUnended file len → Halts reading_limits (take len file) tops (grammar offset rule)
+pub cut_told : (file : List ℕ) (len offset : ℕ) (rule : Rule) (tops : List Top) (f : FailedRule) → len < 2 ^ 64 → IsUnended file len → Halts reading_limits (take len file) tops (grammar offset rule)
     → TellsCut (Some file) len offset rule f → Flaw file f.rule f.offset
 cut_told file len offset rule tops f fits ended halts (is, there) =
     let all = all_of_it file len ended in
@@ -143,12 +146,12 @@ cut_told file len offset rule tops f fits ended halts (is, there) =
     let same : f ≡ told_cut (length file) offset rule = is ∙ ap (λ (n : ℕ). told_cut n offset rule) (sym ended.size) in
     subst (λ (g : FailedRule). Flaw file g.rule g.offset) (sym same) flaw
 
-pub lacks_last : (file : List ℕ) (len : ℕ) → IsUnended file len → Flaw file 2 (len - 8)
+pub lacks_last : (file : List ℕ) (len : ℕ) → IsUnended file len → Flaw file rules.V2 (len - 8)
 lacks_last file len ended = unended file len (sym ended.size) ended.none
 
 -- ---- what was read
 
-pub front_is : (old : StoreState) (now : SourceState) (file : List ℕ) (end : ℕ) (section : Section) → old.bytes ≡ Some file → ReadsSection (checked_front old end) now (Ok section) → IsSectionRead file end section
+pub front_is : (old : StoreState) (now : SourceState) (file : List ℕ) (end : ℕ) (section : Section) → old.bytes ≡ Some file → ReadsSection (checked_front old end) now (Ok (Ok section)) → IsSectionRead file end section
 front_is old now file end section told (tops, is) =
     let are = is.are_read in
     let left = are.read (take end file) (ap (λ (t : Option (List ℕ)). front_left t 0 end) told) in
@@ -156,8 +159,8 @@ front_is old now file end section told (tops, is) =
 
 -- ---- files that are too short, or have no magic at their end
 
-pub too_short : (file : List ℕ) (len : ℕ) → len ≡ length file → len < 16 → Flaw file 2 (len - 8)
-too_short file len size short = subst (λ (n : ℕ). Flaw file 2 (n - 8)) (sym size) (flaw_2 (λ v2. let long = v2.0 in omega (arith, long, size, short)))
+pub too_short : (file : List ℕ) (len : ℕ) → len ≡ length file → len < 16 → Flaw file rules.V2 (len - 8)
+too_short file len size short = subst (λ (n : ℕ). Flaw file rules.V2 (n - 8)) (sym size) (flaw_2 (λ v2. let long = v2.0 in omega (arith, long, size, short)))
 
 pub ended_at : (file : List ℕ) (len : ℕ) → len ≡ length file → 8 ≤ len → len < 2 ^ 64 → EndsWithMagic file → EndsAtMagic file (len - 8)
 ended_at file len size long fits ends = record { size = omega (arith, size, long); magic_last = ends; fits = omega (arith, size, fits) }

@@ -14,10 +14,9 @@ use Rattle.mcap_model.specs.Valid.{Keeps as KeepsAll}
 use Rattle.file_check.specs.declared.flaws.FailedRule.{FailedRule}
 use Rattle.mcap_model.specs.declared.refusals.ReadingRefused.{ReadingRefused}
 use Rattle.mcap_model.specs.declared.refusals.ReadingRefused.TheVariants as refusals
+use Rattle.mcap_model.specs.declared.rules.Rule.{Rule}
 use Rattle.index_check.specs.declared.section.Section.{Section}
 use Rattle.index_check.specs.Section.{SectionOf}
-use Rattle.file_check.specs.declared.reading.SectionRefused.{SectionRefused}
-use Rattle.file_check.specs.declared.reading.SectionRefused.TheVariants as sections
 use Rattle.file_check.specs.Reading.{ReadsSection}
 use Rattle.summary_check.specs.Judging.{IsJudged}
 use Rattle.summary_check.specs.Files.{spelled_file, FailsThere as IsRefusedBehind}
@@ -37,11 +36,11 @@ abbrev pub HeadStands : Option (List ℕ) → ℕ → ℕ → Type 0
 HeadStands told end offset = (file : List ℕ) → told ≡ Some file → offset + 9 ≤ end → end ≤ length file → HasLengthAt (take end file) offset
 
 -- what is told of a reading that halted there
-abbrev pub TellsFlaw : Option (List ℕ) → ℕ → ℕ → ℕ → FailedRule → Type 0
+abbrev pub TellsFlaw : Option (List ℕ) → ℕ → ℕ → Rule → FailedRule → Type 0
 TellsFlaw told end offset rule f = (f ≡ told_flaw end offset rule) × HeadStands told end offset
 
 -- the same of a file without the last magic
-abbrev pub TellsCut : Option (List ℕ) → ℕ → ℕ → ℕ → FailedRule → Type 0
+abbrev pub TellsCut : Option (List ℕ) → ℕ → ℕ → Rule → FailedRule → Type 0
 TellsCut told len offset rule f = (f ≡ told_cut len offset rule) × HeadStands told len offset
 
 -- ---- what is asked for
@@ -56,22 +55,22 @@ AsksUpTo old end new = (file : List ℕ) → old.bytes ≡ Some file → end ≤
 -- ---- the data section
 
 -- the data section of a store was read in front of that end
-abbrev pub SectionReads : StoreState → ℕ → Result Section SectionRefused → Type 0
+abbrev pub SectionReads : StoreState → ℕ → Result (Result Section FailedRule) ReadingRefused → Type 0
 SectionReads old end result = (now : SourceState) × ReadsSection (checked_front old end) now result
 
 -- the store failed where the reading did
-abbrev pub SectionCause : ℕ → ℕ → Result Section SectionRefused → Type 0
-SectionCause before now (Ok section) = now ≡ before
-SectionCause before now (Err (sections.Scan (refusals.Fault faults))) = RisesOnce before now
-SectionCause before now (Err (sections.Scan (refusals.Grammar offset rule))) = now ≡ before
-SectionCause before now (Err (sections.Scan (refusals.Compressed offset name))) = now ≡ before
-SectionCause before now (Err (sections.Scan (refusals.Limit offset))) = now ≡ before
-SectionCause before now (Err (sections.Scan refusals.Memory)) = now ≡ before
-SectionCause before now (Err (sections.Index offset)) = now ≡ before
+abbrev pub SectionCause : ℕ → ℕ → Result (Result Section FailedRule) ReadingRefused → Type 0
+SectionCause before now (Ok it) = now ≡ before
+SectionCause before now (Err (refusals.Fault faults)) = RisesOnce before now
+SectionCause before now (Err (refusals.Grammar offset rule)) = now ≡ before
+SectionCause before now (Err (refusals.Compressed offset name)) = now ≡ before
+SectionCause before now (Err (refusals.Limit offset)) = now ≡ before
+SectionCause before now (Err refusals.Memory) = now ≡ before
 
 -- of the bytes up to the end each was asked for once at most, and none behind a section that was read
-abbrev pub SectionAsks : StoreState → ℕ → ℕ → Result Section SectionRefused → Type 0
-SectionAsks old end asked (Ok section) = (file : List ℕ) → old.bytes ≡ Some file → end ≤ length file → (section.behind ≤ end) × (asked ≤ old.asked + section.behind)
+abbrev pub SectionAsks : StoreState → ℕ → ℕ → Result (Result Section FailedRule) ReadingRefused → Type 0
+SectionAsks old end asked (Ok (Ok section)) = (file : List ℕ) → old.bytes ≡ Some file → end ≤ length file → (section.behind ≤ end) × (asked ≤ old.asked + section.behind)
+SectionAsks old end asked (Ok (Err failed)) = asked ≤ old.asked + end
 SectionAsks old end asked (Err why) = asked ≤ old.asked + end
 
 -- the file's last magic stands at that end
@@ -81,18 +80,17 @@ pub record EndsAtMagic (file : List ℕ) (end : ℕ) : Type 0 where
   pub fits : length file < 2 ^ 64
 
 -- what is told, by a store of these bytes, of a data section that was refused
-abbrev pub TellsSectionRefused : Option (List ℕ) → ℕ → SectionRefused → Result Verdict ReadingRefused → Type 0
+abbrev pub TellsSectionRefused : Option (List ℕ) → ℕ → ReadingRefused → Result Verdict ReadingRefused → Type 0
 TellsSectionRefused told end why result = (old : StoreState) (now : SourceState) → old.bytes ≡ told → ReadsSection (checked_front old end) now (Err why)
     → (file : List ℕ) → told ≡ Some file → EndsAtMagic file end → Checked file result
 
 -- and its cause: where the reading had failed, the count of the store is told
-abbrev pub RefusedCause : ℕ → ℕ → SectionRefused → Result Verdict ReadingRefused → Type 0
-RefusedCause before now (sections.Scan (refusals.Fault faults)) result = (now ≡ before) × (result ≡ Err (refusals.Fault now))
-RefusedCause before now (sections.Scan (refusals.Grammar offset rule)) result = CheckCause before now result
-RefusedCause before now (sections.Scan (refusals.Compressed offset name)) result = CheckCause before now result
-RefusedCause before now (sections.Scan (refusals.Limit offset)) result = CheckCause before now result
-RefusedCause before now (sections.Scan refusals.Memory) result = CheckCause before now result
-RefusedCause before now (sections.Index offset) result = CheckCause before now result
+abbrev pub RefusedCause : ℕ → ℕ → ReadingRefused → Result Verdict ReadingRefused → Type 0
+RefusedCause before now (refusals.Fault faults) result = (now ≡ before) × (result ≡ Err (refusals.Fault now))
+RefusedCause before now (refusals.Grammar offset rule) result = CheckCause before now result
+RefusedCause before now (refusals.Compressed offset name) result = CheckCause before now result
+RefusedCause before now (refusals.Limit offset) result = CheckCause before now result
+RefusedCause before now refusals.Memory result = CheckCause before now result
 
 -- ---- a file without the last magic
 
@@ -101,7 +99,7 @@ pub record IsUnended (file : List ℕ) (len : ℕ) : Type 0 where
   pub none : EndsWithMagic file → ⊥
 
 -- what is told of it where its data section was refused
-abbrev pub TellsCutSection : Option (List ℕ) → ℕ → SectionRefused → Result Verdict ReadingRefused → Type 0
+abbrev pub TellsCutSection : Option (List ℕ) → ℕ → ReadingRefused → Result Verdict ReadingRefused → Type 0
 TellsCutSection told len why result = (old : StoreState) (now : SourceState) → old.bytes ≡ told → ReadsSection (checked_front old len) now (Err why)
     → (file : List ℕ) → told ≡ Some file → IsUnended file len → Checked file result
 
@@ -145,7 +143,7 @@ JudgesBehind tops rest (Err why) = IsRefusedBehind (spelled_file tops rest) why
 -- ---- a file without the last magic
 
 -- a cut file is told so by a store of these bytes, of that length, whose data section was refused
-abbrev pub TellsCutRefusal : Option (List ℕ) → ℕ → SectionRefused → Result Verdict ReadingRefused → Type 0
+abbrev pub TellsCutRefusal : Option (List ℕ) → ℕ → ReadingRefused → Result Verdict ReadingRefused → Type 0
 TellsCutRefusal told len why result = (old : StoreState) (now : SourceState) → old.bytes ≡ told → ReadsSection (checked_front old len) now (Err why)
     → (file : List ℕ) → told ≡ Some file → length file ≡ len → NamesCut file result
 

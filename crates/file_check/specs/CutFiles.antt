@@ -9,6 +9,8 @@ use Rattle.mcap_model.specs.Whole.{V2, offset_of, V9}
 use Rattle.file_check.specs.declared.flaws.FailedRule.{FailedRule}
 use Rattle.mcap_model.specs.declared.refusals.ReadingRefused.{ReadingRefused}
 use Rattle.mcap_model.specs.declared.refusals.ReadingRefused.TheVariants as refusals
+use Rattle.mcap_model.specs.declared.rules.Rule.{Rule}
+use Rattle.mcap_model.specs.declared.rules.Rule.TheVariants as rules
 use Rattle.file_check.specs.Halting.{lacks_magic, told_cut}
 use Rattle.file_check.specs.Checking.{IsFault}
 use Rattle.mcap_model.specs.Places.{At}
@@ -25,7 +27,7 @@ pub record IndexFails (tops : List Top) (offset : ℕ) : Type 0 where
 
 -- V1 fails at the front, unless the store fails
 abbrev pub NamesFront : Result Verdict ReadingRefused → Type 0
-NamesFront (Ok verdict) = verdict ≡ verdicts.Flawed 1 0
+NamesFront (Ok verdict) = verdict ≡ verdicts.Flawed rules.V1 0
 NamesFront (Err why) = IsFault why
 
 -- so it is told of each file without the first magic
@@ -43,7 +45,7 @@ rule_told len (compressed offset name) = lacks_magic len
 rule_told len (beyond offset) = lacks_magic len
 
 -- the reading of the file halts, and this is told of it
-pub record HaltIsTold (file : List ℕ) (rule offset : ℕ) : Type 0 where
+pub record HaltIsTold (file : List ℕ) (rule : Rule) (offset : ℕ) : Type 0 where
   pub tops : List Top
   pub halt : Halt
   pub halts : Halts reading_limits file tops halt
@@ -51,8 +53,8 @@ pub record HaltIsTold (file : List ℕ) (rule offset : ℕ) : Type 0 where
   pub offset_is : offset ≡ (rule_told (length file) halt).offset
 
 -- in front of that one of the good records breaks V9 there
-pub record IndexIsTold (file : List ℕ) (rule offset : ℕ) : Type 0 where
-  pub rule_is : rule ≡ 9
+pub record IndexIsTold (file : List ℕ) (rule : Rule) (offset : ℕ) : Type 0 where
+  pub rule_is : rule ≡ rules.V9
   pub tops : List Top
   pub rest : List ℕ
   pub stand : Tops file tops rest

@@ -1,5 +1,6 @@
 -- What was counted of Schemas, Channels and Messages.
 use Rattle.std.specs.Prelude.{◌≡◌, ℕ, ◌+◌, ◌-◌, ◌^◌, min, max, List, slice_index, true, false}
+use Rattle.rec_data.specs.Records.{message_opcode}
 use Rattle.mcap_model.specs.Tops.{Top}
 use Rattle.mcap_model.specs.Rules.{HasSchema, HasChannel}
 use Rattle.mcap_model.specs.Times.{TimesOf}
@@ -8,7 +9,7 @@ use Rattle.file_check.specs.declared.record_counts.RecordCounts.{RecordCounts}
 
 -- this was counted of the records
 pub record CountsOf (records : List Top) (c : RecordCounts) : Type 0 where
-  pub messages : c.messages ≡ count_of 5 records
+  pub messages : c.messages ≡ count_of message_opcode records
   pub times : TimesOf records (record { any = c.any; least = c.least; greatest = c.greatest })
   pub channels_of : List ℕ
   pub are_channels : AreChannels records channels_of

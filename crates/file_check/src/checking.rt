@@ -1,7 +1,6 @@
 //! The check of a file, part by part.
 ghost use Rattle.std.specs.Prelude.{◌≡◌, ◌≤◌, ◌<◌, ◌+◌, ◌-◌, ◌^◌, ℕ, List, Some, Err, length, take, drop, IfOk, IfErr};
 ghost use Rattle.mcap_io.specs.StoreAnswers.{StoreStays};
-ghost use Rattle.file_check.specs.declared.reading.SectionRefused.TheVariants as sections;
 ghost use Rattle.mcap_model.specs.Tops.{Top};
 ghost use Rattle.index_check.specs.Section.{SectionOf};
 ghost use Rattle.summary_check.specs.Files.{IsOfSummary};
@@ -9,20 +8,21 @@ ghost use Rattle.file_check.specs.Checking.{CountsSection, CheckCause, IsUncheck
 ghost use Rattle.file_check.specs.CheckSteps.{SectionReads, SectionCause, SectionAsks, AsksUpTo, TellsSectionRefused, RefusedCause, TellsJudged, TellsFile, told_by};
 
 use crate::ends::tell_flaw;
-use crate::reading::{SectionRefused, read_section};
+use crate::flaws::FailedRule;
+use crate::reading::read_section;
 use index_check::Section;
-use mcap_io::{ReadRefused, Store, read_part};
+use mcap_io::{OutsideRefused, Store, read_part};
 use mcap_model::{Counts, ReadingRefused, Verdict};
 use std::alloc::Global;
 use store_front::StoreFront;
 use summary_check::judge_summary;
 
-/// Reads the data section of a store in front of that end.
+/// Reads the data section of a store in front of that end; or tells where V9 fails in it.
 pub(crate) fn read_front<T: Store>(
     alloc: Global,
     store: &mut T,
     end: u64,
-) -> Result<Section, SectionRefused>
+) -> Result<Result<Section, FailedRule>, ReadingRefused>
     requires { end ≤ (T.state store.old).known }
     ensures reads { SectionReads (T.state store.old) end result }
     ensures cause { SectionCause (T.state store.old).faults (T.state store.new).faults result }
@@ -34,15 +34,15 @@ pub(crate) fn read_front<T: Store>(
 }
 
 // What is told of a file whose records weren't all read, up to that end.
-fn tell_scan<T: Store>(
+fn tell_refusal<T: Store>(
     store: &mut T,
     end: u64,
     why: ReadingRefused,
 ) -> Result<Verdict, ReadingRefused>
     requires known { end ≤ (T.state store.old).known }
     requires long { 8 ≤ end }
-    ensures tells { TellsSectionRefused (T.state store.old).bytes end (sections.Scan why) result }
-    ensures cause { RefusedCause (T.state store.old).faults (T.state store.new).faults (sections.Scan why) result }
+    ensures tells { TellsSectionRefused (T.state store.old).bytes end why result }
+    ensures cause { RefusedCause (T.state store.old).faults (T.state store.new).faults why result }
     ensures asks { (T.state store.new).asked ≤ (T.state store.old).asked + 9 }
     ensures keeps { StoreStays (T.state store.old) (T.state store.new) }
 {
@@ -66,25 +66,6 @@ fn tell_scan<T: Store>(
         }
         ReadingRefused::Limit { offset } => return Err(ReadingRefused::Limit { offset }),
         ReadingRefused::Memory => return Err(ReadingRefused::Memory),
-    }
-}
-
-// What is told of a file whose data section was refused, in front of that end.
-fn tell_section<T: Store>(
-    store: &mut T,
-    end: u64,
-    why: SectionRefused,
-) -> Result<Verdict, ReadingRefused>
-    requires known { end ≤ (T.state store.old).known }
-    requires long { 8 ≤ end }
-    ensures tells { TellsSectionRefused (T.state store.old).bytes end why result }
-    ensures cause { RefusedCause (T.state store.old).faults (T.state store.new).faults why result }
-    ensures asks { (T.state store.new).asked ≤ (T.state store.old).asked + 9 }
-    ensures keeps { StoreStays (T.state store.old) (T.state store.new) }
-{
-    match why {
-        SectionRefused::Scan { why } => return tell_scan(store, end, why),
-        SectionRefused::Index { offset } => return Ok(Verdict::Flawed { rule: 9, offset }),
     }
 }
 
@@ -122,12 +103,12 @@ fn read_rest<T: Store>(
     }
     match read_part(alloc, store, at, end - at) {
         Ok(part) => return Ok(part),
-        Err(ReadRefused::Failed) => {
+        Err(OutsideRefused::Failed) => {
             return Err(ReadingRefused::Fault {
                 faults: store.faults(),
             });
         }
-        Err(ReadRefused::Memory) => return Err(ReadingRefused::Memory),
+        Err(OutsideRefused::Memory) => return Err(ReadingRefused::Memory),
     }
 }
 
@@ -186,7 +167,13 @@ pub(crate) fn check_records<T: Store>(
     ensures keeps { StoreStays (T.state store.old) (T.state store.new) }
 {
     match read_front(alloc, store, end) {
-        Ok(section) => return judge_behind(alloc, store, end, section),
-        Err(why) => return tell_section(store, end, why),
+        Ok(Ok(section)) => return judge_behind(alloc, store, end, section),
+        Ok(Err(failed)) => {
+            return Ok(Verdict::Flawed {
+                rule: failed.rule,
+                offset: failed.offset,
+            });
+        }
+        Err(why) => return tell_refusal(store, end, why),
     }
 }

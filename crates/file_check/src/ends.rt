@@ -9,7 +9,7 @@ ghost use Rattle.file_check.specs.CheckSteps.{HeadStands, TellsFlaw, TellsCut};
 
 use crate::flaws::{FailedRule, cut_rule, failed_rule};
 use mcap_io::{Failed, Store};
-use mcap_model::ReadingRefused;
+use mcap_model::{ReadingRefused, Rule};
 use mcap_wire::{MAGIC, take_u64};
 
 // Whether the bytes begin with the magic.
@@ -114,7 +114,7 @@ pub(crate) fn tell_flaw<T: Store>(
     store: &mut T,
     end: u64,
     offset: u64,
-    rule: u8,
+    rule: Rule,
 ) -> Result<FailedRule, ReadingRefused>
     requires { end ≤ (T.state store.old).known }
     ensures tells { IfOk result (λ f. TellsFlaw (T.state store.old).bytes end offset rule f) }
@@ -134,7 +134,7 @@ pub(crate) fn tell_cut<T: Store>(
     store: &mut T,
     len: u64,
     offset: u64,
-    rule: u8,
+    rule: Rule,
 ) -> Result<FailedRule, ReadingRefused>
     requires { len ≤ (T.state store.old).known }
     ensures tells { IfOk result (λ f. TellsCut (T.state store.old).bytes len offset rule f) }

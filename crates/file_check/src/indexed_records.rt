@@ -8,13 +8,10 @@ ghost use Rattle.index_check.specs.Chunks.{HasMessage, EndsWithChunk};
 ghost use Rattle.file_check.specs.IndexedRecords.{IndexedOf};
 
 use index_check::{Attachments, Chunks, MetadataList};
-use mcap_wire::Memory;
+use mcap_wire::{HEAD_LENGTH, Memory};
 use rec_data::{ATTACHMENT, Attachment, METADATA, Metadata};
 use rec_index::{CHUNK, Chunk, MESSAGE_INDEX, MessageIndex};
 use std::alloc::Global;
-
-/// The length of a record's head: the opcode and the content's length.
-const HEAD_LENGTH: u64 = 9;
 
 /// The chunks of a data section with the Message Indexes behind them, its Attachments and its Metadata records.
 #[derive(Drop)]

@@ -1,109 +1,84 @@
 //! Reading a data section.
-ghost use Rattle.std.specs.Prelude.{◌≡◌, []};
-ghost use Rattle.record_walk.specs.Walking.{FlatStands};
-ghost use Rattle.file_check.specs.Gathering.{GatheredTo};
-ghost use Rattle.file_check.specs.Reading.{memory_refusal, ReadsSection, TakesSection, ReadsCounted};
+ghost use Rattle.std.specs.Prelude.{◌≡◌, List, IfOk};
+ghost use Rattle.mcap_model.specs.Tops.{Top};
+ghost use Rattle.mcap_model.specs.declared.refusals.ReadingRefused.{ReadingRefused as Refusal};
+ghost use Rattle.mcap_scan.specs.declared.reader.Stage.TheVariants as stages;
+ghost use Rattle.index_check.specs.Section.{SectionOf};
+ghost use Rattle.file_check.specs.Reading.{IsTakenToEnd, ReadsSection};
 
+use crate::flaws::FailedRule;
 use crate::gathering::{DataEnd, Gathering};
 use index_check::Section;
 use mcap_io::Source;
-use mcap_model::ReadingRefused;
+use mcap_model::{ReadingRefused, Rule, Tables};
+use mcap_wire::Memory;
 use record_walk::{FlatReader, FlatStep};
 use std::alloc::Global;
 
-/// Why a data section isn't read to its end.
-#[derive(Drop)]
-pub(crate) enum SectionRefused {
-    /// The reading of its records was refused, or memory lacked.
-    Scan { why: ReadingRefused },
-    /// V9 fails at that offset: the Message Index there is wrong, or the chunk there lacks one.
-    Index { offset: u64 },
-}
-
-// Memory lacked.
-fn lacked() -> SectionRefused
-    ensures { result ≡ memory_refusal }
+// Why a reading was refused.
+fn refusal_of(reader: FlatReader) -> ReadingRefused
+    ensures { (why : Refusal) → reader.reader.stage ≡ stages.Stopped why → result ≡ why }
 {
-    SectionRefused::Scan {
-        why: ReadingRefused::Memory,
+    match reader.into_refusal() {
+        Some(why) => return why,
+        None => return ReadingRefused::Memory,
     }
 }
 
-// Takes the records of a source, those inside chunks in their places, and gives the offset behind the Data End; or none where the
-// reader keeps a refusal.
-fn take_records<S: Source>(
+// What is kept of a section whose records were taken up to the Data End, behind which this is the offset.
+fn section_of(
+    alloc: Global,
+    gathering: Gathering,
+    tables: Tables,
+    behind: u64,
+) -> Result<Section, Memory>
+    ensures { IfOk result (λ section. (tops : List Top) → IsTakenToEnd tops gathering tables behind → SectionOf tops section) }
+{
+    let tally = match gathering.tally(alloc) {
+        Ok(tally) => tally,
+        Err(memory) => return Err(memory),
+    };
+    return Ok(gathering.finish(DataEnd {
+        tables,
+        tally,
+        behind,
+    }));
+}
+
+/// Reads a data section up to and with its Data End (MCAP specification: Data Section), and keeps of it what the rules of the
+/// whole file ask for; or tells where V9 fails, as soon as a record settles it: at a Message Index that is wrong, or at a chunk
+/// that lacks one. Each record is checked behind those before it. Of the contents one chunk is held beside the record at hand.
+pub(crate) fn read_section<S: Source>(
     alloc: Global,
     source: &mut S,
-    reader: &mut FlatReader,
-    gathering: &mut Gathering,
-) -> Result<Option<u64>, SectionRefused>
-    requires stands { FlatStands reader.old (S.state source.old) (S.state source.old) [] [] }
-    requires empty { GatheredTo [] gathering.old }
-    ensures takes { TakesSection (S.state source.old) (S.state source.new) reader.new gathering.new result }
+) -> Result<Result<Section, FailedRule>, ReadingRefused>
+    ensures reads { ReadsSection (S.state source.old) (S.state source.new) result }
     ensures stays { S.stays source.old source.new }
 {
+    let mut reader = match FlatReader::new(alloc) {
+        Ok(reader) => reader,
+        Err(_) => return Err(ReadingRefused::Memory),
+    };
+    let mut gathering = Gathering::new(alloc);
     'records: loop {
         match reader.advance(source) {
             FlatStep::Record { op, place } => {
                 match gathering.take(alloc, op, place, reader.content()) {
                     Ok(None) => {}
-                    Ok(Some(offset)) => return Err(SectionRefused::Index { offset }),
-                    Err(_) => return Err(lacked()),
+                    Ok(Some(offset)) => return Ok(Err(FailedRule {
+                        rule: Rule::V9,
+                        offset,
+                    })),
+                    Err(_) => return Err(ReadingRefused::Memory),
                 }
             }
-            FlatStep::End { offset } => return Ok(Some(offset)),
-            FlatStep::Refused => return Ok(None),
-        }
-    }
-}
-
-// Takes the records of a source up to and with its Data End, and counts them.
-fn read_records<S: Source>(
-    alloc: Global,
-    source: &mut S,
-    gathering: &mut Gathering,
-) -> Result<DataEnd, SectionRefused>
-    requires { GatheredTo [] gathering.old }
-    ensures reads { ReadsCounted (S.state source.old) (S.state source.new) gathering.new result }
-    ensures stays { S.stays source.old source.new }
-{
-    let mut reader = match FlatReader::new(alloc) {
-        Ok(reader) => reader,
-        Err(_) => return Err(lacked()),
-    };
-    match take_records(alloc, source, &mut reader, gathering) {
-        Ok(Some(behind)) => match gathering.tally(alloc) {
-            Ok(tally) => {
-                let tables = reader.into_tables();
-                return Ok(DataEnd {
-                    tables,
-                    tally,
-                    behind,
-                });
+            FlatStep::End { offset } => {
+                match section_of(alloc, gathering, reader.into_tables(), offset) {
+                    Ok(section) => return Ok(Ok(section)),
+                    Err(_) => return Err(ReadingRefused::Memory),
+                }
             }
-            Err(_) => return Err(lacked()),
-        },
-        Ok(None) => match reader.into_refusal() {
-            Some(why) => return Err(SectionRefused::Scan { why }),
-            None => return Err(lacked()),
-        },
-        Err(why) => return Err(why),
-    }
-}
-
-/// Reads a data section up to and with its Data End (MCAP specification: Data Section), and keeps of it what the rules of the
-/// whole file ask for. Each record is checked behind those before it, and V9 as soon as a record settles it. Of the contents
-/// one chunk is held beside the record at hand.
-pub(crate) fn read_section<S: Source>(
-    alloc: Global,
-    source: &mut S,
-) -> Result<Section, SectionRefused>
-    ensures reads { ReadsSection (S.state source.old) (S.state source.new) result }
-    ensures stays { S.stays source.old source.new }
-{
-    let mut gathering = Gathering::new(alloc);
-    match read_records(alloc, source, &mut gathering) {
-        Ok(end) => return Ok(gathering.finish(end)),
-        Err(why) => return Err(why),
+            FlatStep::Refused => return Err(refusal_of(reader)),
+        }
     }
 }

@@ -1,22 +1,21 @@
 //! The check of a file that doesn't end with the magic: where its data ends is told, if a reading halts there.
 ghost use Rattle.std.specs.Prelude.{◌≡◌, ◌≤◌, ◌<◌, ◌+◌, ◌-◌, ◌^◌};
 ghost use Rattle.mcap_io.specs.StoreAnswers.{StoreStays};
-ghost use Rattle.file_check.specs.declared.reading.SectionRefused.TheVariants as sections;
 ghost use Rattle.mcap_model.specs.declared.checked.Verdict.TheVariants as verdicts;
+ghost use Rattle.mcap_model.specs.declared.rules.Rule.TheVariants as rules;
 ghost use Rattle.file_check.specs.Checking.{CheckCause};
 ghost use Rattle.file_check.specs.CheckSteps.{AsksUpTo, RefusedCause, TellsCutSection, TellsUnended, TellsCutRefusal, TellsCutStore};
 
 use crate::checking::read_front;
 use crate::ends::tell_cut;
 use crate::flaws::magic_lacks;
-use crate::reading::SectionRefused;
 use mcap_io::Store;
 use mcap_model::{ReadingRefused, Verdict};
 use std::alloc::Global;
 
 // The last magic isn't there.
 fn lacks_end(len: u64) -> Verdict
-    ensures { result ≡ verdicts.Flawed 2 (len - 8) }
+    ensures { result ≡ verdicts.Flawed rules.V2 (len - 8) }
 {
     let lacks = magic_lacks(len);
     Verdict::Flawed {
@@ -26,16 +25,16 @@ fn lacks_end(len: u64) -> Verdict
 }
 
 // What is told of such a file whose records weren't all read.
-fn tell_scan<T: Store>(
+fn tell_refusal<T: Store>(
     store: &mut T,
     len: u64,
     why: ReadingRefused,
 ) -> Result<Verdict, ReadingRefused>
     requires known { len ≤ (T.state store.old).known }
     requires fits { len < 2 ^ 64 }
-    ensures tells { TellsCutSection (T.state store.old).bytes len (sections.Scan why) result }
-    ensures cut { TellsCutRefusal (T.state store.old).bytes len (sections.Scan why) result }
-    ensures cause { RefusedCause (T.state store.old).faults (T.state store.new).faults (sections.Scan why) result }
+    ensures tells { TellsCutSection (T.state store.old).bytes len why result }
+    ensures cut { TellsCutRefusal (T.state store.old).bytes len why result }
+    ensures cause { RefusedCause (T.state store.old).faults (T.state store.new).faults why result }
     ensures asks { (T.state store.new).asked ≤ (T.state store.old).asked + 9 }
     ensures keeps { StoreStays (T.state store.old) (T.state store.new) }
 {
@@ -66,26 +65,6 @@ fn tell_scan<T: Store>(
     }
 }
 
-// What is told of such a file whose data section was refused.
-fn tell_section<T: Store>(
-    store: &mut T,
-    len: u64,
-    why: SectionRefused,
-) -> Result<Verdict, ReadingRefused>
-    requires known { len ≤ (T.state store.old).known }
-    requires fits { len < 2 ^ 64 }
-    ensures tells { TellsCutSection (T.state store.old).bytes len why result }
-    ensures cut { TellsCutRefusal (T.state store.old).bytes len why result }
-    ensures cause { RefusedCause (T.state store.old).faults (T.state store.new).faults why result }
-    ensures asks { (T.state store.new).asked ≤ (T.state store.old).asked + 9 }
-    ensures keeps { StoreStays (T.state store.old) (T.state store.new) }
-{
-    match why {
-        SectionRefused::Scan { why } => return tell_scan(store, len, why),
-        SectionRefused::Index { offset } => return Ok(Verdict::Flawed { rule: 9, offset }),
-    }
-}
-
 /// Checks a store of that length that doesn't end with the magic.
 pub(crate) fn check_unended<T: Store>(
     alloc: Global,
@@ -101,10 +80,16 @@ pub(crate) fn check_unended<T: Store>(
     ensures keeps { StoreStays (T.state store.old) (T.state store.new) }
 {
     match read_front(alloc, store, len) {
-        Ok(_) => {
+        Ok(Ok(_)) => {
             let behind = lacks_end(len);
             return Ok(behind);
         }
-        Err(why) => return tell_section(store, len, why),
+        Ok(Err(failed)) => {
+            return Ok(Verdict::Flawed {
+                rule: failed.rule,
+                offset: failed.offset,
+            });
+        }
+        Err(why) => return tell_refusal(store, len, why),
     }
 }

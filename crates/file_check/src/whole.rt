@@ -8,7 +8,7 @@ use crate::checking::check_records;
 use crate::ends::{begins_with_magic, ends_with_magic};
 use crate::unended::check_unended;
 use mcap_io::{Failed, Store};
-use mcap_model::{ReadingRefused, Verdict};
+use mcap_model::{ReadingRefused, Rule, Verdict};
 use std::alloc::Global;
 
 /// Checks the file that a store holds by all rules of the format: whether it is valid, and fully indexed besides, or which
@@ -33,12 +33,18 @@ pub fn check<T: Store>(alloc: Global, store: &mut T) -> Result<Verdict, ReadingR
     };
     match begins_with_magic(store, len) {
         Ok(true) => {}
-        Ok(false) => return Ok(Verdict::Flawed { rule: 1, offset: 0 }),
+        Ok(false) => return Ok(Verdict::Flawed {
+            rule: Rule::V1,
+            offset: 0,
+        }),
         Err(why) => return Err(why),
     }
     if len < 16 {
         let offset = len.saturating_sub(8);
-        return Ok(Verdict::Flawed { rule: 2, offset });
+        return Ok(Verdict::Flawed {
+            rule: Rule::V2,
+            offset,
+        });
     }
     match ends_with_magic(store, len) {
         Ok(true) => return check_records(alloc, store, len - 8),

@@ -3,6 +3,7 @@ use Rattle.std.proofs.Common.{ℕ, Ok, subst, sym, ◌∙◌, arith}
 use Rattle.std.proofs.lemmas.Bool.{both_ways}
 use Rattle.mcap_model.specs.Valid.{Flaw, flaw_1}
 use Rattle.mcap_model.specs.declared.checked.Verdict.TheVariants as verdicts
+use Rattle.mcap_model.specs.declared.rules.Rule.TheVariants as rules
 use Rattle.file_check.specs.Checking.{CheckCause}
 use Rattle.file_check.specs.CutFiles.{NamesCut}
 use Rattle.file_check.proofs.Refusing.{too_short}
@@ -19,7 +20,7 @@ pub returns-in-Ok-false-clause-cause : goal.returns-in-Ok-false-clause-cause
 returns-in-Ok-false-clause-cause g c = c.in-Ok-false.ensures.cause ∙ c.in-Ok.ensures.cause.still
 
 pub returns-then-len-lt16-clause-checks : goal.returns-then-len-lt16-clause-checks
-returns-then-len-lt16-clause-checks g c = λ file told. subst (λ (n : ℕ). Flaw file 2 n) (sym c.saturating_sub-offset.ensures) (too_short file c.in-Ok.len (c.in-Ok.ensures.tells file told) c.if-len-lt16.true)
+returns-then-len-lt16-clause-checks g c = λ file told. subst (λ (n : ℕ). Flaw file rules.V2 n) (sym c.saturating_sub-offset.ensures) (too_short file c.in-Ok.len (c.in-Ok.ensures.tells file told) c.if-len-lt16.true)
 
 pub returns-then-len-lt16-clause-cause : goal.returns-then-len-lt16-clause-cause
 returns-then-len-lt16-clause-cause g c = c.in-Ok-true.ensures.cause ∙ c.in-Ok.ensures.cause.still
@@ -94,4 +95,4 @@ returns-in-Ok-false-ends_with_magic-clause-begun g c = λ file told unbegun.
 
 pub returns-then-len-lt16-clause-cut : goal.returns-then-len-lt16-clause-cut
 returns-then-len-lt16-clause-cut g c = λ file told v1 v2.
-    subst (λ (n : ℕ). NamesCut file (Ok (verdicts.Flawed 2 n))) (sym c.saturating_sub-offset.ensures) (short_told file c.in-Ok.len v1 (sym (c.in-Ok.ensures.tells file told)) c.if-len-lt16.true)
+    subst (λ (n : ℕ). NamesCut file (Ok (verdicts.Flawed rules.V2 n))) (sym c.saturating_sub-offset.ensures) (short_told file c.in-Ok.len v1 (sym (c.in-Ok.ensures.tells file told)) c.if-len-lt16.true)

@@ -7,7 +7,7 @@ use Rattle.file_check.specs.CheckSteps.{checked_front, TellsCut}
 use Rattle.file_check.specs.CutFiles.{NamesCut}
 use Rattle.file_check.proofs.Refusing.{halted_at, cut_told, lacks_last, fault_unchecked}
 use Rattle.file_check.proofs.CutTold.{halted_all, halt_told, magic_told, fault_cut}
-use Rattle.file_check.proofs.unended.tell_scan.Goals as goal
+use Rattle.file_check.proofs.unended.tell_refusal.Goals as goal
 
 pub returns-in-Ok-clause-tells : goal.returns-in-Ok-clause-tells
 returns-in-Ok-clause-tells g c = λ old now same reads file told ended.

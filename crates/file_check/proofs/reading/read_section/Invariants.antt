@@ -2,7 +2,7 @@ use Rattle.std.proofs.Common.{List}
 use Rattle.mcap_model.specs.Tops.{Top, Placed}
 use Rattle.record_walk.specs.Walking.{FlatStands, flat_left}
 use Rattle.file_check.specs.Gathering.{GatheredTo}
-use Rattle.file_check.proofs.reading.take_records.Given as goal
+use Rattle.file_check.proofs.reading.read_section.Given as goal
 
 abbrev pub decreases-records : goal.decreases-records
 decreases-records g l = flat_left l.reader

@@ -4,7 +4,7 @@ use Rattle.mcap_model.specs.declared.refusals.ReadingRefused.{ReadingRefused}
 use Rattle.mcap_scan.specs.RefusedReadings.{RefusalStands}
 use Rattle.file_check.specs.CheckSteps.{checked_front, TellsFlaw}
 use Rattle.file_check.proofs.Refusing.{halted_at, halts_before, grammar_told, fault_unchecked}
-use Rattle.file_check.proofs.checking.tell_scan.Goals as goal
+use Rattle.file_check.proofs.checking.tell_refusal.Goals as goal
 
 pub returns-in-Ok-clause-tells : goal.returns-in-Ok-clause-tells
 returns-in-Ok-clause-tells g c = λ old now same reads file told ended.
