@@ -56,7 +56,7 @@ ghost use Rattle.record_core.specs.Sights.{DefFits};
 use mcap_wire::{Memory, Pairs, PairsRef, Text};
 use rec_data::ChannelDef;
 use record_cache::Cache;
-use record_core::{Desk, NewMessage, PublishRefused};
+use record_core::{CallRefused, Desk, NewMessage};
 use std::alloc::Global;
 
 // A channel without a topic, a schema and metadata.
@@ -81,7 +81,7 @@ fn publish(desk: &mut Desk, spare: Cache, message: &NewMessage<'_>) -> Result<Ca
 {
     match desk.publish(message) {
         Ok(_) => return Ok(spare),
-        Err(PublishRefused::Full { .. }) => {}
+        Err(CallRefused::Full { .. }) => {}
         Err(_) => return Err(Memory),
     }
     match desk.swap(spare) {

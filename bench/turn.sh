@@ -68,7 +68,7 @@ use buffer_swap::{Drain, Publisher, Turn};
 use mcap_wire::{Memory, Pairs, PairsRef, Text};
 use rec_data::ChannelDef;
 use record_cache::Cache;
-use record_core::{Desk, NewMessage, PublishRefused};
+use record_core::{CallRefused, Desk, NewMessage};
 use std::alloc::Global;
 use std::env;
 use std::process::ExitCode;
@@ -100,7 +100,7 @@ fn publish(desk: &mut Desk, spare: Cache, message: &NewMessage<'_>) -> Result<Ca
 {
     match desk.publish(message) {
         Ok(_) => return Ok(spare),
-        Err(PublishRefused::Full { .. }) => {}
+        Err(CallRefused::Full { .. }) => {}
         Err(_) => return Err(Memory),
     }
     match desk.swap(spare) {
@@ -145,7 +145,7 @@ fn publish_shared<R: Wait>(
 {
     match publisher.publish(rt, message) {
         Ok(_) => return Ok(spare),
-        Err(PublishRefused::Full { .. }) => {}
+        Err(CallRefused::Full { .. }) => {}
         Err(_) => return Err(Memory),
     }
     match drain.swap(rt, spare) {

@@ -6,7 +6,7 @@ use Rattle.record_core.specs.Desk.{DeskView, accepted}
 use Rattle.feed_lane.specs.Pass.{with_places}
 use Rattle.buffer_swap.specs.Turns.{view}
 use Rattle.record_core.specs.declared.answers.Declared.{Declared}
-use Rattle.record_core.specs.declared.answers.DeclareRefused.{DeclareRefused}
+use Rattle.record_core.specs.declared.answers.CallRefused.{CallRefused}
 use Rattle.buffer_swap.specs.Plays.{counts, fresh_records}
 use Rattle.buffer_swap.specs.Calls.{counts_declared}
 use Rattle.buffer_swap.specs.declared.view.View.{View}
@@ -20,5 +20,5 @@ counts_none v d holds is =
     subst (λ (z : DeskView). v ≡ counts v z) (sym is) (λ i. view (holds i) v.hand v.missed (record v.pass { own = sym own i }) v.post)
 
 -- a refusal counts nothing
-pub refused_hand : (v : View) (d : DeskView) (result : Result Declared DeclareRefused) (refusal : DeclareRefused) → result ≡ Err refusal → (counts_declared v d result).hand ≡ v.hand
-refused_hand v d result refusal is = ap (λ (r : Result Declared DeclareRefused). (counts_declared v d r).hand) is
+pub refused_hand : (v : View) (d : DeskView) (result : Result Declared CallRefused) (refusal : CallRefused) → result ≡ Err refusal → (counts_declared v d result).hand ≡ v.hand
+refused_hand v d result refusal is = ap (λ (r : Result Declared CallRefused). (counts_declared v d r).hand) is

@@ -17,9 +17,8 @@ use Rattle.record_core.specs.Desk.{DeskView, accepted, with_more_records, swappe
 use Rattle.record_core.specs.Machine.{State, desk_of, publish, declare, accept, end_with, unless}
 use Rattle.record_core.specs.Stands.{DeskStandsFor, DeskSteps, PublishSteps, DeclareSteps}
 use Rattle.record_core.specs.declared.answers.Declared.{Declared}
-use Rattle.record_core.specs.declared.answers.PublishRefused.{PublishRefused}
-use Rattle.record_core.specs.declared.answers.DeclareRefused.{DeclareRefused}
-use Rattle.record_core.specs.declared.answers.DeclareRefused.TheVariants as declaring
+use Rattle.record_core.specs.declared.answers.CallRefused.{CallRefused}
+use Rattle.record_core.specs.declared.answers.CallRefused.TheVariants as refusing
 use Rattle.record_core.proofs.Numbering.{HasContents}
 use Rattle.record_core.proofs.Searches.{schemas_counted, channels_counted, schemas_more, channels_more}
 use Rattle.feed_lane.specs.Pass.{full_at}
@@ -102,13 +101,13 @@ pub published_state : (d after : DeskView) (s : State) (channel : ℕ) (m : Mess
     → DeskStandsFor after (accept 0 (message_of channel m ∷ []) s)
 published_state d after s channel m none steps stands =
     let open_there : publish_refusal (desk_of d.limit s) channel (length m.payload) ≡ None = ap (λ (x : DeskView). publish_refusal x channel (length m.payload)) stands.desk ∙ none in
-    subst (λ (r : Option PublishRefused). DeskStandsFor after (unless r 0 (message_of channel m ∷ []) s)) open_there (steps some_options s stands)
+    subst (λ (r : Option CallRefused). DeskStandsFor after (unless r 0 (message_of channel m ∷ []) s)) open_there (steps some_options s stands)
 
 pub declared_state : (d after : DeskView) (s : State) (c : ChannelDef) → declare_refusal d c ≡ None → DeskSteps d (declare 0 c) after → DeskStandsFor d s
     → DeskStandsFor after (accept 0 (new_records d.ids c) s)
 declared_state d after s c none steps stands =
     let open_there : declare_refusal (desk_of d.limit s) c ≡ None = ap (λ (x : DeskView). declare_refusal x c) stands.desk ∙ none in
-    let there = subst (λ (r : Option DeclareRefused). DeskStandsFor after (unless r 0 (new_records (ids_of s.history) c) s)) open_there (steps some_options s stands) in
+    let there = subst (λ (r : Option CallRefused). DeskStandsFor after (unless r 0 (new_records (ids_of s.history) c) s)) open_there (steps some_options s stands) in
     subst (λ (ids : Ids). DeskStandsFor after (accept 0 (new_records ids c) s)) (sym (parts d s stands).ids) there
 
 pub message_counts : (d after : DeskView) (channel : ℕ) (m : MessageFields) (place : ℕ) → Published d channel m (Ok place) after → PublishSteps d channel m after → MayCount d (message_of channel m ∷ []) after
@@ -205,15 +204,15 @@ named_after d after c given is later stands =
       omega (arith, id.1, channel, size),
     )
 
-pub lacks_schemas : (d after : DeskView) (c : ChannelDef) → DeclaredBy d c (Err declaring.TooManySchemas) after → HasFewIds after.ids → LacksIdAt d (c, declaring.TooManySchemas)
+pub lacks_schemas : (d after : DeskView) (c : ChannelDef) → DeclaredBy d c (Err refusing.TooManySchemas) after → HasFewIds after.ids → LacksIdAt d (c, refusing.TooManySchemas)
 lacks_schemas d after c is table s stands =
-    let why = declare_reason d c (Some declaring.TooManySchemas) is.0 in
+    let why = declare_reason d c (Some refusing.TooManySchemas) is.0 in
     let few : length d.ids.schemas ≤ 65535 = subst (λ (x : DeskView). length x.ids.schemas ≤ 65535) is.1 table.few_schemas in
     lacks_schema d.ids s.history c.schema (parts d s stands).contents few why.1
 
-pub lacks_channels : (d after : DeskView) (c : ChannelDef) → DeclaredBy d c (Err declaring.TooManyChannels) after → HasFewIds after.ids → LacksIdAt d (c, declaring.TooManyChannels)
+pub lacks_channels : (d after : DeskView) (c : ChannelDef) → DeclaredBy d c (Err refusing.TooManyChannels) after → HasFewIds after.ids → LacksIdAt d (c, refusing.TooManyChannels)
 lacks_channels d after c is table s stands =
-    let why = declare_reason d c (Some declaring.TooManyChannels) is.0 in
+    let why = declare_reason d c (Some refusing.TooManyChannels) is.0 in
     let few : length d.ids.channels ≤ 65535 = subst (λ (x : DeskView). length x.ids.channels ≤ 65535) is.1 table.few_channels in
     let has = (parts d s stands).contents in
     (lacks_channel d.ids s.history c has stands.numbered few why.2 why.1, schema_left d.ids s.history c.schema has stands.numbered why.3)
@@ -246,26 +245,26 @@ ended_stands d s end stands =
 
 -- ---- by the answer
 
-pub message_counts_if : (d after : DeskView) (channel : ℕ) (m : MessageFields) (result : Result ℕ PublishRefused) → Published d channel m result after → PublishSteps d channel m after
+pub message_counts_if : (d after : DeskView) (channel : ℕ) (m : MessageFields) (result : Result ℕ CallRefused) → Published d channel m result after → PublishSteps d channel m after
     → OnOk result (MayCount d (message_of channel m ∷ []) after)
 message_counts_if d after channel m (Ok place) is steps = message_counts d after channel m place is steps
 message_counts_if d after channel m (Err refusal) is steps = tt
 
-pub channel_counts_if : (d after : DeskView) (c : ChannelDef) (result : Result Declared DeclareRefused) → DeclaredBy d c result after → DeclareSteps d c result after → HasFewIds after.ids
+pub channel_counts_if : (d after : DeskView) (c : ChannelDef) (result : Result Declared CallRefused) → DeclaredBy d c result after → DeclareSteps d c result after → HasFewIds after.ids
     → OnOk result (MayCount d (new_records d.ids c) after)
 channel_counts_if d after c (Ok given) is steps table = channel_counts d after c given is steps table
 channel_counts_if d after c (Err refusal) is steps table = tt
 
-pub nothing_added_if : (d after : DeskView) (c : ChannelDef) (result : Result Declared DeclareRefused) → DeclaredBy d c result after → IfOk result (λ given. given.count ≡ 0 → after ≡ d)
+pub nothing_added_if : (d after : DeskView) (c : ChannelDef) (result : Result Declared CallRefused) → DeclaredBy d c result after → IfOk result (λ given. given.count ≡ 0 → after ≡ d)
 nothing_added_if d after c (Ok given) is = nothing_added d after c given is
 nothing_added_if d after c (Err refusal) is = tt
 
-pub named_after_if : (d after : DeskView) (c : ChannelDef) (result : Result Declared DeclareRefused) → DeclaredBy d c result after → IfOk result (λ given. NamedAt after (given.channel, c))
+pub named_after_if : (d after : DeskView) (c : ChannelDef) (result : Result Declared CallRefused) → DeclaredBy d c result after → IfOk result (λ given. NamedAt after (given.channel, c))
 named_after_if d after c (Ok given) is = named_after d after c given is
 named_after_if d after c (Err refusal) is = tt
 
-pub lacks_schemas_if : (d after : DeskView) (c : ChannelDef) (result : Result Declared DeclareRefused) → DeclaredBy d c result after → HasFewIds after.ids → result ≡ Err declaring.TooManySchemas → LacksIdAt d (c, declaring.TooManySchemas)
-lacks_schemas_if d after c result is table why = lacks_schemas d after c (subst (λ (r : Result Declared DeclareRefused). DeclaredBy d c r after) why is) table
+pub lacks_schemas_if : (d after : DeskView) (c : ChannelDef) (result : Result Declared CallRefused) → DeclaredBy d c result after → HasFewIds after.ids → result ≡ Err refusing.TooManySchemas → LacksIdAt d (c, refusing.TooManySchemas)
+lacks_schemas_if d after c result is table why = lacks_schemas d after c (subst (λ (r : Result Declared CallRefused). DeclaredBy d c r after) why is) table
 
-pub lacks_channels_if : (d after : DeskView) (c : ChannelDef) (result : Result Declared DeclareRefused) → DeclaredBy d c result after → HasFewIds after.ids → result ≡ Err declaring.TooManyChannels → LacksIdAt d (c, declaring.TooManyChannels)
-lacks_channels_if d after c result is table why = lacks_channels d after c (subst (λ (r : Result Declared DeclareRefused). DeclaredBy d c r after) why is) table
+pub lacks_channels_if : (d after : DeskView) (c : ChannelDef) (result : Result Declared CallRefused) → DeclaredBy d c result after → HasFewIds after.ids → result ≡ Err refusing.TooManyChannels → LacksIdAt d (c, refusing.TooManyChannels)
+lacks_channels_if d after c result is table why = lacks_channels d after c (subst (λ (r : Result Declared CallRefused). DeclaredBy d c r after) why is) table

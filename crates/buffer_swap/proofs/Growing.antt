@@ -12,8 +12,8 @@ use Rattle.mcap_model.proofs.Lists.{at_either}
 use Rattle.record_core.specs.Ids.{schemas_in, channels_in}
 use Rattle.record_core.specs.DeclarationFields.{fields_of_schema, fields_with}
 use Rattle.record_core.specs.declared.answers.Found.{Found}
-use Rattle.record_core.specs.declared.answers.DeclareRefused.{DeclareRefused}
-use Rattle.record_core.specs.declared.answers.DeclareRefused.TheVariants as declaring
+use Rattle.record_core.specs.declared.answers.CallRefused.{CallRefused}
+use Rattle.record_core.specs.declared.answers.CallRefused.TheVariants as refusing
 use Rattle.record_core.proofs.Searches.{schemas_counted, channels_counted, schemas_more, channels_more, schema_content, channel_content}
 use Rattle.feed_lane.specs.Pass.{FullAt, full_at, with_places}
 use Rattle.buffer_swap.specs.Shown.{SchemaStands, ChannelStands, LacksSchema, LacksChannelId, IdsLack, HeldThere, FoundThere}
@@ -126,16 +126,11 @@ lacked_schema history more None none lacks = lacks
 lacked_schema history more (Some s) none lacks =
     (sym (same_schemas history more none) ∙ lacks.0, λ id has. lacks.1 id (has_kept history more (schema_of id (fields_of_schema s)) has))
 
-pub lacks_on : (history more : List Rec) (d : ChannelDef) (refusal : DeclareRefused) → Spares history more → IdsLack history d refusal → IdsLack (history ++ more) d refusal
-lacks_on history more d (declaring.TooLarge len) spares lacks = lacks
-lacks_on history more d (declaring.Closed at) spares lacks = lacks
-lacks_on history more d (declaring.Stopped at stop) spares lacks = lacks
-lacks_on history more d (declaring.TooManyRecords count) spares lacks = lacks
-lacks_on history more d (declaring.Full held) spares lacks = lacks
-lacks_on history more d declaring.TooManySchemas spares lacks = lacks_schema_on history more d.schema spares lacks
-lacks_on history more d declaring.TooManyChannels spares lacks =
+pub lacks_on : (history more : List Rec) (d : ChannelDef) (refusal : CallRefused) → Spares history more → IdsLack history d refusal → IdsLack (history ++ more) d refusal
+lacks_on history more d refusing.TooManySchemas spares lacks = lacks_schema_on history more d.schema spares lacks
+lacks_on history more d refusing.TooManyChannels spares lacks =
     (lacks_channel_on history more d spares lacks.0, λ there. lacks.1 (lacked_schema history more d.schema (spares.channels lacks.0.0).0 there))
-lacks_on history more d declaring.Memory spares lacks = lacks
+lacks_on history more d refusal spares lacks = lacks
 
 -- ---- full buffers
 

@@ -25,7 +25,7 @@ use Rattle.record_core.specs.Ids.{channels_in}
 use Rattle.record_core.specs.Desk.{DeskView, new_desk, accepted, with_more_records, swapped, ended, end_unless, first_of, desk_end, found_of, EndIsLast}
 use Rattle.record_core.specs.Machine.{State, start, accept, end_with}
 use Rattle.record_core.specs.Stands.{DeskStandsFor}
-use Rattle.record_core.specs.declared.answers.DeclareRefused.{DeclareRefused}
+use Rattle.record_core.specs.declared.answers.CallRefused.{CallRefused}
 use Rattle.record_core.proofs.Searches.{schemas_counted, channels_counted}
 use Rattle.feed_lane.specs.Pass.{PassState, with_places, full_at}
 use Rattle.feed_lane.specs.PassCalls.{with_found}
@@ -220,14 +220,14 @@ frees_named n id m pair desk named = let d = m.0.hand in frees_as n id m (with_n
       limit = fits.limit;
     }) refl
 
-pub frees_lacking : (n id : ℕ) (m : Sat) (pair : ChannelDef × DeclareRefused) → HasDesk m → LacksIdAt m.0.hand pair → Allows KeepsTurnRule n id m 0 (λ _. 0) (λ _. freed (with_lacking pair) (step n 0 0 0 none) m 0)
+pub frees_lacking : (n id : ℕ) (m : Sat) (pair : ChannelDef × CallRefused) → HasDesk m → LacksIdAt m.0.hand pair → Allows KeepsTurnRule n id m 0 (λ _. 0) (λ _. freed (with_lacking pair) (step n 0 0 0 none) m 0)
 frees_lacking n id m pair desk lacks = frees_as n id m (with_lacking pair) desk
     (λ s stands fits. record {
       own = fits.own;
       named = fits.named;
       named_ids = fits.named_ids;
       fulls = fits.fulls;
-      lacks = each_last (λ (x : ChannelDef × DeclareRefused). IdsLack s.history x.0 x.1) m.0.pass.lacks pair fits.lacks (lacks s stands);
+      lacks = each_last (λ (x : ChannelDef × CallRefused). IdsLack s.history x.0 x.1) m.0.pass.lacks pair fits.lacks (lacks s stands);
       found = fits.found;
       there = fits.there;
       limit = fits.limit;

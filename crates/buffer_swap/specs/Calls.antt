@@ -14,11 +14,9 @@ use Rattle.record_core.specs.declared.answers.Declared.{Declared}
 use Rattle.record_core.specs.declared.answers.Empty.{Empty}
 use Rattle.record_core.specs.declared.answers.Found.{Found}
 use Rattle.record_core.specs.declared.answers.NewMessage.{NewMessage}
-use Rattle.record_core.specs.declared.answers.PublishRefused.{PublishRefused}
-use Rattle.record_core.specs.declared.answers.PublishRefused.TheVariants as publishing
-use Rattle.record_core.specs.declared.answers.DeclareRefused.{DeclareRefused}
-use Rattle.record_core.specs.declared.answers.DeclareRefused.TheVariants as declaring
-use Rattle.feed_lane.specs.Pass.{PassState, Reason}
+use Rattle.record_core.specs.declared.answers.CallRefused.{CallRefused}
+use Rattle.record_core.specs.declared.answers.CallRefused.TheVariants as refusing
+use Rattle.feed_lane.specs.Pass.{PassState}
 use Rattle.feed_lane.specs.PassCalls.{with_found, IsLater, Finds, FitsDataLimit, PublishedBy, DeclaredInto}
 use Rattle.atomic_table.specs.Seated.{TableId}
 use Rattle.atomic_table.specs.declared.shared.Seat.{Seat}
@@ -26,48 +24,46 @@ use Rattle.buffer_swap.specs.Posts.{Post, first_post, drain_post}
 use Rattle.buffer_swap.specs.Plays.{Sat, counts, frees, with_full_hand, with_name, with_lacking, hands_over, closes, stops}
 use Rattle.buffer_swap.specs.Turns.{newcomer}
 use Rattle.buffer_swap.specs.declared.view.View.{View}
-use Rattle.buffer_swap.specs.declared.answers.TryRefused.{TryRefused}
-use Rattle.buffer_swap.specs.declared.answers.TryRefused.TheVariants.{Busy, Refused}
 
 -- ---- parts of a call
 
 -- how a seat counts what a message added
-abbrev pub counts_message : View → DeskView → Result ℕ PublishRefused → View
+abbrev pub counts_message : View → DeskView → Result ℕ CallRefused → View
 counts_message v d (Ok place) = counts v d
 counts_message v d (Err refusal) = v
 
 -- what a pass shows as the turn is freed behind a message
-abbrev pub pass_published : View → Result ℕ PublishRefused → PassState
+abbrev pub pass_published : View → Result ℕ CallRefused → PassState
 pass_published v (Ok place) = v.pass
-pass_published v (Err (publishing.Full held)) = with_full_hand v
+pass_published v (Err (refusing.Full held from to)) = with_full_hand v
 pass_published v (Err refusal) = v.pass
 
 -- the seat's view as the turn is freed behind a message, and where it shows nothing of a full buffer
-abbrev pub frees_published : View → DeskView → Result ℕ PublishRefused → View
+abbrev pub frees_published : View → DeskView → Result ℕ CallRefused → View
 frees_published v d result = frees (counts_message v d result) (pass_published (counts_message v d result) result)
 
-abbrev pub frees_behind : View → DeskView → Result ℕ PublishRefused → View
+abbrev pub frees_behind : View → DeskView → Result ℕ CallRefused → View
 frees_behind v d result = frees (counts_message v d result) (counts_message v d result).pass
 
-abbrev pub counts_declared : View → DeskView → Result Declared DeclareRefused → View
+abbrev pub counts_declared : View → DeskView → Result Declared CallRefused → View
 counts_declared v d (Ok given) = counts v d
 counts_declared v d (Err refusal) = v
 
-abbrev pub pass_declared : View → ChannelDef → Result Declared DeclareRefused → PassState
+abbrev pub pass_declared : View → ChannelDef → Result Declared CallRefused → PassState
 pass_declared v c (Ok given) = with_name (given.channel, c) v
-pass_declared v c (Err (declaring.Full held)) = with_full_hand v
-pass_declared v c (Err declaring.TooManySchemas) = with_lacking (c, declaring.TooManySchemas) v
-pass_declared v c (Err declaring.TooManyChannels) = with_lacking (c, declaring.TooManyChannels) v
+pass_declared v c (Err (refusing.Full held from to)) = with_full_hand v
+pass_declared v c (Err refusing.TooManySchemas) = with_lacking (c, refusing.TooManySchemas) v
+pass_declared v c (Err refusing.TooManyChannels) = with_lacking (c, refusing.TooManyChannels) v
 pass_declared v c (Err refusal) = v.pass
 
 -- the seat behind a turn in which a message was published
-pub record PublishedInTurn (m : Sat) (message : NewMessage) (result : Result ℕ PublishRefused) (n : Sat) : Type 0 where
+pub record PublishedInTurn (m : Sat) (message : NewMessage) (result : Result ℕ CallRefused) (n : Sat) : Type 0 where
   pub after : DeskView
   pub published : Published m.0.hand message.channel (fields_of_message message) result after
   pub is : n ≡ (frees_published m.0 after result, [])
 
 -- the same of a declaration
-pub record DeclaredInTurn (m : Sat) (c : ChannelDef) (result : Result Declared DeclareRefused) (n : Sat) : Type 0 where
+pub record DeclaredInTurn (m : Sat) (c : ChannelDef) (result : Result Declared CallRefused) (n : Sat) : Type 0 where
   pub after : DeskView
   pub declared : DeclaredBy m.0.hand c result after
   pub few : HasFewIds after.ids
@@ -103,18 +99,18 @@ pub record StoppedInTurn (m : Sat) (stop : Stop) (at : ℕ) (n : Sat) : Type 0 w
   pub is : n ≡ (frees (stops_if m.0 (desk_end m.0.hand) stop) (stops_if m.0 (desk_end m.0.hand) stop).pass, [])
 
 -- the same behind a turn that shows nothing of a full buffer
-pub record TriedInTurn (m : Sat) (message : NewMessage) (result : Result ℕ PublishRefused) (n : Sat) : Type 0 where
+pub record TriedInTurn (m : Sat) (message : NewMessage) (result : Result ℕ CallRefused) (n : Sat) : Type 0 where
   pub after : DeskView
   pub published : Published m.0.hand message.channel (fields_of_message message) result after
   pub is : n ≡ (frees_behind m.0 after result, [])
 
-abbrev pub pass_named : View → ChannelDef → Result Declared DeclareRefused → PassState
+abbrev pub pass_named : View → ChannelDef → Result Declared CallRefused → PassState
 pass_named v c (Ok given) = with_name (given.channel, c) v
-pass_named v c (Err declaring.TooManySchemas) = with_lacking (c, declaring.TooManySchemas) v
-pass_named v c (Err declaring.TooManyChannels) = with_lacking (c, declaring.TooManyChannels) v
+pass_named v c (Err refusing.TooManySchemas) = with_lacking (c, refusing.TooManySchemas) v
+pass_named v c (Err refusing.TooManyChannels) = with_lacking (c, refusing.TooManyChannels) v
 pass_named v c (Err refusal) = v.pass
 
-pub record NamedInTurn (m : Sat) (c : ChannelDef) (result : Result Declared DeclareRefused) (n : Sat) : Type 0 where
+pub record NamedInTurn (m : Sat) (c : ChannelDef) (result : Result Declared CallRefused) (n : Sat) : Type 0 where
   pub after : DeskView
   pub declared : DeclaredBy m.0.hand c result after
   pub few : HasFewIds after.ids
@@ -123,16 +119,16 @@ pub record NamedInTurn (m : Sat) (c : ChannelDef) (result : Result Declared Decl
 -- ---- a publisher's calls
 
 -- the same pass, where its calls were refused for these reasons
-abbrev pub reasoned : PassState → List Reason → PassState
+abbrev pub reasoned : PassState → List CallRefused → PassState
 reasoned p reasons = record p { reasons = reasons }
 
 -- A message was published or refused as a pass says it. Why earlier calls were refused is no part of a seat's pass, since a
 -- message that is too large is refused without a step.
-abbrev pub PublishesMessage : PassState → PassState → NewMessage → Result ℕ PublishRefused → Type 0
-PublishesMessage before after m result = (reasons : List Reason) → (more : List Reason) × PublishedBy (reasoned before reasons) (reasoned after more) m result
+abbrev pub PublishesMessage : PassState → PassState → NewMessage → Result ℕ CallRefused → Type 0
+PublishesMessage before after m result = (reasons : List CallRefused) → (more : List CallRefused) × PublishedBy (reasoned before reasons) (reasoned after more) m result
 
-abbrev pub DeclaresChannel : PassState → PassState → ChannelDef → Result Declared DeclareRefused → Type 0
-DeclaresChannel before after c result = (reasons : List Reason) → (more : List Reason) × DeclaredInto (reasoned before reasons) (reasoned after more) c result
+abbrev pub DeclaresChannel : PassState → PassState → ChannelDef → Result Declared CallRefused → Type 0
+DeclaresChannel before after c result = (reasons : List CallRefused) → (more : List CallRefused) × DeclaredInto (reasoned before reasons) (reasoned after more) c result
 
 -- the pass has that id for a channel with this schema, or with none where this is none
 abbrev pub NamesSchema : PassState → ℕ → Option SchemaDef → Type 0
@@ -144,7 +140,7 @@ MayName pass None schema = Unit {0}
 MayName pass (Some id) schema = NamesSchema pass id schema
 
 -- the last id that a channel got, behind a declaration
-abbrev pub last_of : ℕ → Result Declared DeclareRefused → ℕ
+abbrev pub last_of : ℕ → Result Declared CallRefused → ℕ
 last_of last (Ok given) = given.channel
 last_of last (Err refusal) = last
 
@@ -154,20 +150,14 @@ pub record LooksOn (before after : PassState) : Type 0 where
   pub later : (last : Found) → before.found ≡ Some last → (now : Found) × (after.found ≡ Some now) × IsLater last now
 
 -- the buffer wasn't full for a message, or for a declaration
-abbrev pub NotFull : Result ℕ PublishRefused → Type 0
-NotFull result = (h : ℕ) → result ≡ Err (publishing.Full h) → ⊥
+abbrev pub NotFull : Result ℕ CallRefused → Type 0
+NotFull result = (held from to : ℕ) → result ≡ Err (refusing.Full held from to) → ⊥
 
-abbrev pub NeverFull : Result Declared DeclareRefused → Type 0
-NeverFull result = (h : ℕ) → result ≡ Err (declaring.Full h) → ⊥
-
--- the answer of a call that may find the turn taken
-abbrev pub answer_of : Result ℕ TryRefused → Option (Result ℕ PublishRefused)
-answer_of (Ok place) = Some (Ok place)
-answer_of (Err Busy) = None
-answer_of (Err (Refused refusal)) = Some (Err refusal)
+abbrev pub NeverFull : Result Declared CallRefused → Type 0
+NeverFull result = (held from to : ℕ) → result ≡ Err (refusing.Full held from to) → ⊥
 
 -- Where the turn was another's, the pass missed it once more and shows nothing else; else it never missed it.
-abbrev pub TriesBy : PassState → ℕ → PassState → ℕ → NewMessage → Option (Result ℕ PublishRefused) → Type 0
+abbrev pub TriesBy : PassState → ℕ → PassState → ℕ → NewMessage → Option (Result ℕ CallRefused) → Type 0
 TriesBy before missed after now m None = FitsDataLimit m × (now ≡ missed + 1) × (after ≡ before)
 TriesBy before missed after now m (Some answer) = (now ≡ missed) × PublishesMessage before after m answer
 

@@ -11,7 +11,7 @@ use Rattle.mcap_model.specs.History.{Numbered}
 use Rattle.record_core.specs.Desk.{DeskView, new_desk, accepted, with_more_records, desk_end, found_of, EndIsLast}
 use Rattle.record_core.specs.Machine.{State, accept}
 use Rattle.record_core.specs.Stands.{DeskStandsFor}
-use Rattle.record_core.specs.declared.answers.DeclareRefused.{DeclareRefused}
+use Rattle.record_core.specs.declared.answers.CallRefused.{CallRefused}
 use Rattle.record_core.specs.declared.answers.Found.{Found}
 use Rattle.feed_lane.specs.Pass.{PassState, with_places, full_at}
 use Rattle.feed_lane.specs.PassCalls.{with_found}
@@ -168,14 +168,14 @@ abbrev pub with_name : ℕ × ChannelDef → View → PassState
 with_name pair v = record v.pass { named = v.pass.named ++ pair ∷ [] }
 
 -- a channel and why it got no id
-abbrev pub with_lacking : ChannelDef × DeclareRefused → View → PassState
+abbrev pub with_lacking : ChannelDef × CallRefused → View → PassState
 with_lacking pair v = record v.pass { lacks = v.pass.lacks ++ pair ∷ [] }
 
 -- the channel stands under that id, in whatever state the desk stands
 abbrev pub NamedAt : DeskView → ℕ × ChannelDef → Type 0
 NamedAt d pair = (s : State) → DeskStandsFor d s → ChannelStands s.history pair.0 pair.1 × (1 ≤ pair.0) × (pair.0 ≤ length d.ids.channels)
 
-abbrev pub LacksIdAt : DeskView → ChannelDef × DeclareRefused → Type 0
+abbrev pub LacksIdAt : DeskView → ChannelDef × CallRefused → Type 0
 LacksIdAt d pair = (s : State) → DeskStandsFor d s → IdsLack s.history pair.0 pair.1
 
 -- ---- seats that are made and spent

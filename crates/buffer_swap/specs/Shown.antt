@@ -9,8 +9,8 @@ use Rattle.mcap_model.specs.declared.ends.End.TheVariants as ends
 use Rattle.mcap_model.specs.Places.{At, Has, Each}
 use Rattle.mcap_model.specs.History.{schema_of, channel_of, schema_count, channel_count, history_bytes}
 use Rattle.record_core.specs.DeclarationFields.{fields_of_schema, fields_with}
-use Rattle.record_core.specs.declared.answers.DeclareRefused.{DeclareRefused}
-use Rattle.record_core.specs.declared.answers.DeclareRefused.TheVariants as declaring
+use Rattle.record_core.specs.declared.answers.CallRefused.{CallRefused}
+use Rattle.record_core.specs.declared.answers.CallRefused.TheVariants as refusing
 use Rattle.record_core.specs.declared.answers.Found.{Found}
 use Rattle.feed_lane.specs.Pass.{FullAt, full_at, PassState}
 
@@ -37,15 +37,10 @@ abbrev pub LacksChannelId : List Rec → ChannelDef → Type 0
 LacksChannelId history d = (channel_count history ≡ id_limit) × ((id : ℕ) → ChannelStands history id d → ⊥)
 
 -- Why a declaration got no id: where ids of both lacked, that is told of schemas.
-abbrev pub IdsLack : List Rec → ChannelDef → DeclareRefused → Type 0
-IdsLack history d (declaring.TooLarge len) = ⊥
-IdsLack history d (declaring.Closed at) = ⊥
-IdsLack history d (declaring.Stopped at stop) = ⊥
-IdsLack history d (declaring.TooManyRecords count) = ⊥
-IdsLack history d (declaring.Full held) = ⊥
-IdsLack history d declaring.TooManySchemas = LacksSchema history d.schema
-IdsLack history d declaring.TooManyChannels = LacksChannelId history d × (LacksSchema history d.schema → ⊥)
-IdsLack history d declaring.Memory = ⊥
+abbrev pub IdsLack : List Rec → ChannelDef → CallRefused → Type 0
+IdsLack history d refusing.TooManySchemas = LacksSchema history d.schema
+IdsLack history d refusing.TooManyChannels = LacksChannelId history d × (LacksSchema history d.schema → ⊥)
+IdsLack history d refusal = ⊥
 
 -- ---- a pass
 

@@ -6,7 +6,7 @@ ghost use Rattle.mcap_model.specs.History.{Numbered};
 ghost use Rattle.record_core.specs.Ids.{new_records};
 ghost use Rattle.record_core.specs.Tables.{HasFewIds, MayShare};
 ghost use Rattle.record_core.specs.Sights.{DefFits};
-ghost use Rattle.record_core.specs.declared.answers.DeclareRefused.TheVariants.{TooManySchemas, TooManyChannels};
+ghost use Rattle.record_core.specs.declared.answers.CallRefused.TheVariants.{TooManySchemas, TooManyChannels};
 ghost use Rattle.record_core.specs.Desk.{DeskView, new_desk, found_of, swapped, ended, desk_end, fields_of_message, Published, DeclaredBy, SwapAnswered, EndIsSetAt, IsCause, EndIsLast};
 ghost use Rattle.feed_lane.specs.PassCalls.{message_record, with_found};
 ghost use Rattle.buffer_swap.specs.Posts.{first_post, drain_post};
@@ -24,9 +24,7 @@ use mcap_model::{End, Stop as Why};
 use mcap_wire::Memory;
 use rec_data::ChannelDef;
 use record_cache::Cache;
-use record_core::{
-    DeclareRefused, Declared, Desk, Empty, Found, NewMessage, PublishRefused, declared_size,
-};
+use record_core::{CallRefused, Declared, Desk, Empty, Found, NewMessage, declared_size};
 use std::alloc::Global;
 use std::hint::spin_loop;
 use std::marker::Brand;
@@ -164,7 +162,7 @@ impl Board {
     }
 
     // The desk's answer to a message.
-    fn publish_out(&self, seat: &mut Seat, m: &NewMessage<'_>) -> Result<u64, PublishRefused>
+    fn publish_out(&self, seat: &mut Seat, m: &NewMessage<'_>) -> Result<u64, CallRefused>
         requires id { seat.old.table_id ≡ self.now.table.shared.table_id }
         requires desk { HasDesk seat.old.me }
         ensures id { seat.new.table_id ≡ seat.old.table_id }
@@ -184,7 +182,7 @@ impl Board {
         seat: &mut Seat,
         channel: &ChannelDef,
         like: Option<u16>,
-    ) -> Result<Declared, DeclareRefused>
+    ) -> Result<Declared, CallRefused>
         requires id { seat.old.table_id ≡ self.now.table.shared.table_id }
         requires desk { HasDesk seat.old.me }
         requires fits { DefFits channel.now }
@@ -349,7 +347,7 @@ impl Board {
     }
 
     // Shows that no id was left for a channel.
-    fn free_lacking<N: Said>(&self, seat: &mut Seat, _def: &ChannelDef, _why: DeclareRefused)
+    fn free_lacking<N: Said>(&self, seat: &mut Seat, _def: &ChannelDef, _why: CallRefused)
         requires said { N.lacking ≡ (_def.now, _why) }
         requires id { seat.old.table_id ≡ self.now.table.shared.table_id }
         requires desk { HasDesk seat.old.me }
@@ -368,7 +366,7 @@ impl Board {
         &self,
         seat: &mut Seat,
         _m: &NewMessage<'_>,
-        answer: &Result<u64, PublishRefused>,
+        answer: &Result<u64, CallRefused>,
     )
         requires id { seat.old.table_id ≡ self.now.table.shared.table_id }
         requires desk { (seat.old.me.0.holds ≡ true) × (seat.old.me.1 ≡ (0, desk_out seat.old.me.1) ∷ []) }
@@ -380,7 +378,7 @@ impl Board {
     {
         match answer {
             Ok(_) => self.free_counting(seat),
-            Err(PublishRefused::Full { .. }) => self.free_full(seat),
+            Err(CallRefused::Full { .. }) => self.free_full(seat),
             Err(_) => self.free(seat),
         }
     }
@@ -391,7 +389,7 @@ impl Board {
         seat: &mut Seat,
         m: &NewMessage<'_>,
         held: u64,
-    ) -> Result<u64, PublishRefused>
+    ) -> Result<u64, CallRefused>
         requires id { seat.old.table_id ≡ self.now.table.shared.table_id }
         requires desk { HasDesk seat.old.me }
         requires publisher { seat.old.me.0.post.publishes ≡ true }
@@ -409,7 +407,7 @@ impl Board {
         &self,
         seat: &mut Seat,
         _channel: &ChannelDef,
-        answer: &Result<Declared, DeclareRefused>,
+        answer: &Result<Declared, CallRefused>,
     )
         requires id { seat.old.table_id ≡ self.now.table.shared.table_id }
         requires desk { (seat.old.me.0.holds ≡ true) × (seat.old.me.1 ≡ (0, desk_out seat.old.me.1) ∷ []) }
@@ -448,7 +446,7 @@ impl Board {
         &self,
         seat: &mut Seat,
         channel: &ChannelDef,
-        answer: &Result<Declared, DeclareRefused>,
+        answer: &Result<Declared, CallRefused>,
     )
         requires id { seat.old.table_id ≡ self.now.table.shared.table_id }
         requires desk { HasDesk seat.old.me }
@@ -460,12 +458,12 @@ impl Board {
     {
         match answer {
             Ok(given) => self.free_named::<Brand>(seat, given.channel, channel),
-            Err(DeclareRefused::Full { .. }) => self.free_full(seat),
-            Err(DeclareRefused::TooManySchemas) => {
-                self.free_lacking::<Brand>(seat, channel, DeclareRefused::TooManySchemas);
+            Err(CallRefused::Full { .. }) => self.free_full(seat),
+            Err(CallRefused::TooManySchemas) => {
+                self.free_lacking::<Brand>(seat, channel, CallRefused::TooManySchemas);
             }
-            Err(DeclareRefused::TooManyChannels) => {
-                self.free_lacking::<Brand>(seat, channel, DeclareRefused::TooManyChannels);
+            Err(CallRefused::TooManyChannels) => {
+                self.free_lacking::<Brand>(seat, channel, CallRefused::TooManyChannels);
             }
             _ => self.free(seat),
         }
@@ -478,7 +476,7 @@ impl Board {
         channel: &ChannelDef,
         like: Option<u16>,
         held: u64,
-    ) -> Result<Declared, DeclareRefused>
+    ) -> Result<Declared, CallRefused>
         requires id { seat.old.table_id ≡ self.now.table.shared.table_id }
         requires desk { HasDesk seat.old.me }
         requires publisher { seat.old.me.0.post.publishes ≡ true }
@@ -601,12 +599,7 @@ impl Board {
     // ---- a turn that shows nothing of a full buffer
 
     // Frees the turn behind the answer to a message. One that was accepted is counted.
-    fn free_behind(
-        &self,
-        seat: &mut Seat,
-        _m: &NewMessage<'_>,
-        answer: &Result<u64, PublishRefused>,
-    )
+    fn free_behind(&self, seat: &mut Seat, _m: &NewMessage<'_>, answer: &Result<u64, CallRefused>)
         requires id { seat.old.table_id ≡ self.now.table.shared.table_id }
         requires desk { (seat.old.me.0.holds ≡ true) × (seat.old.me.1 ≡ (0, desk_out seat.old.me.1) ∷ []) }
         requires publisher { seat.old.me.0.post.publishes ≡ true }
@@ -627,7 +620,7 @@ impl Board {
         seat: &mut Seat,
         m: &NewMessage<'_>,
         held: u64,
-    ) -> Result<u64, PublishRefused>
+    ) -> Result<u64, CallRefused>
         requires id { seat.old.table_id ≡ self.now.table.shared.table_id }
         requires desk { HasDesk seat.old.me }
         requires publisher { seat.old.me.0.post.publishes ≡ true }
@@ -645,7 +638,7 @@ impl Board {
         &self,
         seat: &mut Seat,
         channel: &ChannelDef,
-        answer: &Result<Declared, DeclareRefused>,
+        answer: &Result<Declared, CallRefused>,
     )
         requires id { seat.old.table_id ≡ self.now.table.shared.table_id }
         requires desk { HasDesk seat.old.me }
@@ -656,7 +649,7 @@ impl Board {
         ensures me { seat.new.me ≡ (frees seat.old.me.0 (pass_named seat.old.me.0 channel.now answer.now), []) }
     {
         match answer {
-            Err(DeclareRefused::Full { .. }) => self.free(seat),
+            Err(CallRefused::Full { .. }) => self.free(seat),
             _ => self.free_declared(seat, channel, answer),
         }
     }
@@ -668,7 +661,7 @@ impl Board {
         channel: &ChannelDef,
         like: Option<u16>,
         held: u64,
-    ) -> Result<Declared, DeclareRefused>
+    ) -> Result<Declared, CallRefused>
         requires id { seat.old.table_id ≡ self.now.table.shared.table_id }
         requires desk { HasDesk seat.old.me }
         requires publisher { seat.old.me.0.post.publishes ≡ true }

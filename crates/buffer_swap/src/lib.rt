@@ -2,7 +2,6 @@
 //! the end what all publishers did.
 #![tactic(auto)]
 
-mod answers;
 mod board;
 mod control;
 mod doorbell;
@@ -17,7 +16,6 @@ mod seats;
 mod turn;
 mod view;
 
-pub use answers::TryRefused;
 pub use lane_pass::LanePass;
 pub use meeting::meet;
 pub use seats::{Control, Drain, EndedPass, Publisher, Rouser};

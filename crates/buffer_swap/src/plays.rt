@@ -75,16 +75,16 @@ impl Play<Desk, View> for FreeFull {
 pub(crate) trait Said {
     ghost use Rattle.std.specs.Prelude.{ℕ};
     ghost use Rattle.rec_data.specs.declared.channel.ChannelDef.{ChannelDef};
-    ghost use Rattle.record_core.specs.declared.answers.DeclareRefused.{DeclareRefused};
+    ghost use Rattle.record_core.specs.declared.answers.CallRefused.{CallRefused};
 
     ghost name: { ℕ × ChannelDef };
 
-    ghost lacking: { ChannelDef × DeclareRefused };
+    ghost lacking: { ChannelDef × CallRefused };
 }
 
 impl Said for Brand {
     ghost use Rattle.std.specs.Prelude.{[], None};
-    ghost use Rattle.record_core.specs.declared.answers.DeclareRefused.TheVariants.{Memory};
+    ghost use Rattle.record_core.specs.declared.answers.CallRefused.TheVariants.{Memory};
 
     ghost name = { (0, record { topic = []; message_encoding = []; metadata = []; schema = None }) };
 

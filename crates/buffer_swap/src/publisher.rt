@@ -3,35 +3,33 @@
 ghost use Rattle.std.specs.Prelude.{◌≡◌, ◌≤◌, ℕ, Ok, Err, Some, length, true, false};
 ghost use Rattle.mcap_wire.specs.Limits.{data_limit, declaration_limit};
 ghost use Rattle.record_core.specs.DeclarationFields.{declared_size};
-ghost use Rattle.record_core.specs.declared.answers.PublishRefused.TheVariants.{Full};
-ghost use Rattle.record_core.specs.declared.answers.DeclareRefused.TheVariants.{Full as DeclareFull};
+ghost use Rattle.record_core.specs.declared.answers.CallRefused.TheVariants.{Full};
 ghost use Rattle.record_core.specs.Sights.{DefFits};
-ghost use Rattle.buffer_swap.specs.Calls.{PublishesMessage, DeclaresChannel, MayName, last_of, TriesBy, answer_of, LooksOn, NotFull, NeverFull};
+ghost use Rattle.buffer_swap.specs.Calls.{PublishesMessage, DeclaresChannel, MayName, last_of, TriesBy, LooksOn, NotFull, NeverFull};
 
-use crate::answers::TryRefused;
 use crate::seats::{EndedPass, Publisher, Rouser};
 use rec_data::ChannelDef;
-use record_core::{DeclareRefused, Declared, Found, NewMessage, PublishRefused, declared_size};
+use record_core::{CallRefused, Declared, Found, NewMessage, declared_size};
 use std::sync::Wait;
 
 // Whether the buffer was full for a message.
-fn met_full(answer: &Result<u64, PublishRefused>) -> bool
+fn met_full(answer: &Result<u64, CallRefused>) -> bool
     ensures none { result ≡ false → NotFull answer.now }
-    ensures full { result ≡ true → (h : ℕ) × (answer.now ≡ Err (Full h)) }
+    ensures full { result ≡ true → (held : ℕ) × (from : ℕ) × (to : ℕ) × (answer.now ≡ Err (Full held from to)) }
 {
-    matches!(answer, Err(PublishRefused::Full { .. }))
+    matches!(answer, Err(CallRefused::Full { .. }))
 }
 
 // Whether it was for a declaration.
-fn found_full(answer: &Result<Declared, DeclareRefused>) -> bool
+fn found_full(answer: &Result<Declared, CallRefused>) -> bool
     ensures none { result ≡ false → NeverFull answer.now }
-    ensures full { result ≡ true → (h : ℕ) × (answer.now ≡ Err (DeclareFull h)) }
+    ensures full { result ≡ true → (held : ℕ) × (from : ℕ) × (to : ℕ) × (answer.now ≡ Err (Full held from to)) }
 {
-    matches!(answer, Err(DeclareRefused::Full { .. }))
+    matches!(answer, Err(CallRefused::Full { .. }))
 }
 
 // The last id that a channel got, behind a declaration.
-fn last_of(last: u16, answer: &Result<Declared, DeclareRefused>) -> u16
+fn last_of(last: u16, answer: &Result<Declared, CallRefused>) -> u16
     ensures { result ≡ last_of last answer.now }
 {
     match answer {
@@ -62,32 +60,27 @@ impl<'t> Publisher<'t> {
         self.last
     }
 
-    /// Publishes a message, and answers its place. It waits for nobody: where the turn is another's nothing is tried. Where the
-    /// drain is behind it lets the system run another thread first.
-    pub fn try_publish(&mut self, m: &NewMessage<'_>) -> Result<u64, TryRefused>
+    /// Publishes a message, and answers its place. It waits for nobody: where the turn is another's nothing is tried, and there is
+    /// no answer. Where the drain is behind it lets the system run another thread first.
+    pub fn try_publish(&mut self, m: &NewMessage<'_>) -> Option<Result<u64, CallRefused>>
         ensures turn { self.new.seat.table_id ≡ self.old.seat.table_id }
         ensures number { self.new.number ≡ self.old.number }
-        ensures answer { TriesBy self.old.seat.me.0.pass self.old.seat.me.0.missed self.new.seat.me.0.pass self.new.seat.me.0.missed m.now (answer_of result) }
+        ensures answer { TriesBy self.old.seat.me.0.pass self.old.seat.me.0.missed self.new.seat.me.0.pass self.new.seat.me.0.missed m.now result }
     {
         let len = m.payload.len() as u64;
         if len > 33_554_432 {
-            return Err(TryRefused::Refused {
-                why: PublishRefused::TooLarge { len },
-            });
+            return Some(Err(CallRefused::TooLarge { len }));
         }
         if !self.board.take(&mut self.seat) {
-            return Err(TryRefused::Busy);
+            return None;
         }
         let found = self.board.found_out(&mut self.seat);
         self.found = Some(found);
-        match self.board.publish_in_turn(&mut self.seat, m, found.held) {
-            Ok(place) => return Ok(place),
-            Err(why) => return Err(TryRefused::Refused { why }),
-        }
+        Some(self.board.publish_in_turn(&mut self.seat, m, found.held))
     }
 
     /// Publishes a message, and answers its place. It may wait for the turn.
-    pub fn publish<R: Wait>(&mut self, rt: &R, m: &NewMessage<'_>) -> Result<u64, PublishRefused>
+    pub fn publish<R: Wait>(&mut self, rt: &R, m: &NewMessage<'_>) -> Result<u64, CallRefused>
         ensures turn { self.new.seat.table_id ≡ self.old.seat.table_id }
         ensures number { self.new.number ≡ self.old.number }
         ensures last { self.new.last ≡ self.old.last }
@@ -95,7 +88,7 @@ impl<'t> Publisher<'t> {
     {
         let len = m.payload.len() as u64;
         if len > 33_554_432 {
-            return Err(PublishRefused::TooLarge { len });
+            return Err(CallRefused::TooLarge { len });
         }
         self.board.wait(rt, &mut self.seat);
         let found = self.board.found_out(&mut self.seat);
@@ -109,7 +102,7 @@ impl<'t> Publisher<'t> {
         &mut self,
         rt: &R,
         channel: &ChannelDef,
-    ) -> Result<Declared, DeclareRefused>
+    ) -> Result<Declared, CallRefused>
         requires { DefFits channel.now }
         ensures turn { self.new.seat.table_id ≡ self.old.seat.table_id }
         ensures number { self.new.number ≡ self.old.number }
@@ -125,7 +118,7 @@ impl<'t> Publisher<'t> {
         rt: &R,
         channel: &ChannelDef,
         like: Option<u16>,
-    ) -> Result<Declared, DeclareRefused>
+    ) -> Result<Declared, CallRefused>
         requires fits { DefFits channel.now }
         requires names { MayName self.old.seat.me.0.pass like channel.now.schema }
         ensures turn { self.new.seat.table_id ≡ self.old.seat.table_id }
@@ -135,7 +128,7 @@ impl<'t> Publisher<'t> {
     {
         let len = declared_size(channel);
         if len > 1_048_576 {
-            return Err(DeclareRefused::TooLarge { len });
+            return Err(CallRefused::TooLarge { len });
         }
         self.board.wait(rt, &mut self.seat);
         let found = self.board.found_out(&mut self.seat);
@@ -148,13 +141,13 @@ impl<'t> Publisher<'t> {
     }
 
     // One turn of a call that waits while the buffer is full.
-    fn publish_once<R: Wait>(&mut self, rt: &R, m: &NewMessage<'_>) -> Result<u64, PublishRefused>
+    fn publish_once<R: Wait>(&mut self, rt: &R, m: &NewMessage<'_>) -> Result<u64, CallRefused>
         requires { length m.now.payload.now ≤ data_limit }
         ensures turn { self.new.seat.table_id ≡ self.old.seat.table_id }
         ensures number { self.new.number ≡ self.old.number }
         ensures last { self.new.last ≡ self.old.last }
         ensures answer { NotFull result → PublishesMessage self.old.seat.me.0.pass self.new.seat.me.0.pass m.now result }
-        ensures full { (h : ℕ) → result ≡ Err (Full h) → LooksOn self.old.seat.me.0.pass self.new.seat.me.0.pass }
+        ensures full { (held from to : ℕ) → result ≡ Err (Full held from to) → LooksOn self.old.seat.me.0.pass self.new.seat.me.0.pass }
     {
         self.board.wait(rt, &mut self.seat);
         let found = self.board.found_out(&mut self.seat);
@@ -167,7 +160,7 @@ impl<'t> Publisher<'t> {
         &mut self,
         rt: &R,
         m: &NewMessage<'_>,
-    ) -> Result<u64, PublishRefused>
+    ) -> Result<u64, CallRefused>
         ensures turn { self.new.seat.table_id ≡ self.old.seat.table_id }
         ensures number { self.new.number ≡ self.old.number }
         ensures last { self.new.last ≡ self.old.last }
@@ -176,7 +169,7 @@ impl<'t> Publisher<'t> {
     {
         let len = m.payload.len() as u64;
         if len > 33_554_432 {
-            return Err(PublishRefused::TooLarge { len });
+            return Err(CallRefused::TooLarge { len });
         }
         'tries: for _ in rt.forever() {
             let events = self.board.events();
@@ -195,7 +188,7 @@ impl<'t> Publisher<'t> {
         rt: &R,
         channel: &ChannelDef,
         like: Option<u16>,
-    ) -> Result<Declared, DeclareRefused>
+    ) -> Result<Declared, CallRefused>
         requires fits { DefFits channel.now }
         requires small { declared_size channel.now ≤ declaration_limit }
         requires names { MayName self.old.seat.me.0.pass like channel.now.schema }
@@ -203,7 +196,7 @@ impl<'t> Publisher<'t> {
         ensures number { self.new.number ≡ self.old.number }
         ensures last { self.new.last ≡ last_of self.old.last result }
         ensures answer { NeverFull result → DeclaresChannel self.old.seat.me.0.pass self.new.seat.me.0.pass channel.now result }
-        ensures full { (h : ℕ) → result ≡ Err (DeclareFull h) → LooksOn self.old.seat.me.0.pass self.new.seat.me.0.pass }
+        ensures full { (held from to : ℕ) → result ≡ Err (Full held from to) → LooksOn self.old.seat.me.0.pass self.new.seat.me.0.pass }
     {
         self.board.wait(rt, &mut self.seat);
         let found = self.board.found_out(&mut self.seat);
@@ -221,7 +214,7 @@ impl<'t> Publisher<'t> {
         &mut self,
         rt: &R,
         channel: &ChannelDef,
-    ) -> Result<Declared, DeclareRefused>
+    ) -> Result<Declared, CallRefused>
         requires { DefFits channel.now }
         ensures turn { self.new.seat.table_id ≡ self.old.seat.table_id }
         ensures number { self.new.number ≡ self.old.number }
@@ -238,7 +231,7 @@ impl<'t> Publisher<'t> {
         rt: &R,
         channel: &ChannelDef,
         like: Option<u16>,
-    ) -> Result<Declared, DeclareRefused>
+    ) -> Result<Declared, CallRefused>
         requires fits { DefFits channel.now }
         requires names { MayName self.old.seat.me.0.pass like channel.now.schema }
         ensures turn { self.new.seat.table_id ≡ self.old.seat.table_id }
@@ -249,7 +242,7 @@ impl<'t> Publisher<'t> {
     {
         let len = declared_size(channel);
         if len > 1_048_576 {
-            return Err(DeclareRefused::TooLarge { len });
+            return Err(CallRefused::TooLarge { len });
         }
         'tries: for _ in rt.forever() {
             let events = self.board.events();

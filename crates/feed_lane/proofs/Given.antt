@@ -2,17 +2,17 @@
 use Rattle.std.proofs.Common.{◌≡◌, ℕ, zero, suc, ◌+◌, ◌<◌, ◌≤◌, List, [], ◌∷◌, length, refl, sym, subst, inl, inr, arith}
 use Rattle.std.proofs.lemmas.Bool.{cases_lt}
 use Rattle.rec_data.specs.declared.owned.Rec.{Rec}
-use Rattle.mcap_model.specs.Places.{At}
+use Rattle.mcap_model.specs.Places.{At, Each}
 use Rattle.mcap_model.specs.Tops.{Top}
 use Rattle.mcap_model.proofs.Places.{at_none}
 use Rattle.mcap_model.proofs.Lists.{at_either, pairs_at}
 use Rattle.feed_lane.specs.declared.report.Accepted.{Accepted}
 use Rattle.feed_lane.specs.declared.report.DeclaredAt.{DeclaredAt}
 use Rattle.feed_lane.specs.declared.report.Refused.{Refused}
-use Rattle.feed_lane.specs.declared.report.Cause.{Cause}
-use Rattle.feed_lane.specs.declared.report.Cause.TheVariants as causes
-use Rattle.feed_lane.specs.Pass.{Reason, for_channel, PassState, with_places}
-use Rattle.feed_lane.specs.Lanes.{ReportLists, IsGiven, reason_in, reasons_of, LaneFits}
+use Rattle.record_core.specs.declared.answers.CallRefused.{CallRefused}
+use Rattle.record_core.specs.declared.answers.CallRefused.TheVariants as refusing
+use Rattle.feed_lane.specs.Pass.{PassState, with_places}
+use Rattle.feed_lane.specs.Lanes.{ReportLists, CauseFits, IsGiven, reason_in, reasons_of, LaneFits}
 use Rattle.feed_lane.specs.Laws.{GivenOnce, GotPlace, PlacesAreGiven, ChannelsAreKnown}
 
 -- each place of some records is there
@@ -58,29 +58,25 @@ places_are_given records handled lists pass fits =
 
 -- ---- channels are known
 
-unlike : (cause : Cause) (n : ℕ) → At (reason_in cause) n for_channel → ⊥
-unlike (causes.Full held from to) zero at = cc
-unlike (causes.Full held from to) (suc n) at = at_none n for_channel at
-unlike (causes.TooLarge len) zero at = cc
-unlike (causes.TooLarge len) (suc n) at = at_none n for_channel at
-unlike (causes.Closed place) zero at = cc
-unlike (causes.Closed place) (suc n) at = at_none n for_channel at
-unlike (causes.Stopped place stop) zero at = cc
-unlike (causes.Stopped place stop) (suc n) at = at_none n for_channel at
-unlike causes.TooManySchemas zero at = cc
-unlike causes.TooManySchemas (suc n) at = at_none n for_channel at
-unlike causes.TooManyChannels zero at = cc
-unlike causes.TooManyChannels (suc n) at = at_none n for_channel at
-unlike (causes.TooManyRecords count) zero at = cc
-unlike (causes.TooManyRecords count) (suc n) at = at_none n for_channel at
-unlike causes.Memory n at = at_none n for_channel at
+unlike : (records : List Top) (handled : ℕ) (pass : PassState) (index : ℕ) (cause : CallRefused) (n : ℕ) → CauseFits records handled pass index cause → At (reason_in cause) n refusing.UnknownChannel → ⊥
+unlike records handled pass index (refusing.Full held from to) zero fits at = cc
+unlike records handled pass index (refusing.TooLarge len) zero fits at = cc
+unlike records handled pass index (refusing.Closed place) zero fits at = cc
+unlike records handled pass index (refusing.Stopped place stop) zero fits at = cc
+unlike records handled pass index refusing.TooManySchemas zero fits at = cc
+unlike records handled pass index refusing.TooManyChannels zero fits at = cc
+unlike records handled pass index (refusing.TooManyRecords count) zero fits at = cc
+unlike records handled pass index refusing.UnknownChannel n fits at = fits
+unlike records handled pass index refusing.Memory n fits at = at_none n refusing.UnknownChannel at
+unlike records handled pass index cause (suc n) fits at = at_none n refusing.UnknownChannel at
 
-none_among : (refused : List Refused) (n : ℕ) → At (reasons_of refused) n for_channel → ⊥
-none_among [] n at = at_none n for_channel at
-none_among (r ∷ rs) n at = elim (at_either (reason_in r.cause) (reasons_of rs) n for_channel at) [
-  | inl one ↦ unlike r.cause n one
-  | inr more ↦ none_among rs more.0 more.2
+none_among : (records : List Top) (handled : ℕ) (pass : PassState) (refused : List Refused) → Each (λ r. CauseFits records handled pass r.index r.cause) refused → (n : ℕ) → At (reasons_of refused) n refusing.UnknownChannel → ⊥
+none_among records handled pass [] fits n at = at_none n refusing.UnknownChannel at
+none_among records handled pass (r ∷ rs) fits n at = elim (at_either (reason_in r.cause) (reasons_of rs) n refusing.UnknownChannel at) [
+  | inl one ↦ unlike records handled pass r.index r.cause n (fits 0 r refl) one
+  | inr more ↦ none_among records handled pass rs (λ k x at_k. fits (suc k) x at_k) more.0 more.2
 ]
 
 pub channels_are_known : ChannelsAreKnown
-channels_are_known records handled lists pass fits has = none_among lists.refused has.0 (subst (λ (l : List Reason). At l has.0 for_channel) (sym fits.reasons) has.1)
+channels_are_known records handled lists pass fits has =
+    none_among records handled pass lists.refused fits.refuses has.0 (subst (λ (l : List CallRefused). At l has.0 refusing.UnknownChannel) (sym fits.reasons) has.1)

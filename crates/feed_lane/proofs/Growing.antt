@@ -11,13 +11,11 @@ use Rattle.mcap_model.specs.Written.{SourceShows}
 use Rattle.mcap_model.proofs.Places.{at_within, at_one, at_kept}
 use Rattle.mcap_model.proofs.Lists.{at_either}
 use Rattle.mcap_model.proofs.Maps.{message_once}
-use Rattle.record_core.specs.declared.answers.DeclareRefused.{DeclareRefused}
-use Rattle.record_core.specs.declared.answers.DeclareRefused.TheVariants as declaring
+use Rattle.record_core.specs.declared.answers.CallRefused.{CallRefused}
+use Rattle.record_core.specs.declared.answers.CallRefused.TheVariants as refusing
 use Rattle.feed_lane.specs.declared.report.Accepted.{Accepted}
 use Rattle.feed_lane.specs.declared.report.DeclaredAt.{DeclaredAt}
 use Rattle.feed_lane.specs.declared.report.Refused.{Refused}
-use Rattle.feed_lane.specs.declared.report.Cause.{Cause}
-use Rattle.feed_lane.specs.declared.report.Cause.TheVariants as causes
 use Rattle.feed_lane.specs.declared.ids.KeptSchema.{KeptSchema}
 use Rattle.feed_lane.specs.declared.lane.Lane.{Lane}
 use Rattle.feed_lane.specs.Pass.{PassState}
@@ -163,7 +161,7 @@ pub undeclared_yet : (records : List Top) (handled source : ℕ) (declared : Lis
 undeclared_yet records handled source declared ids stand none on other d on_other has on_d =
     absurd (stand.fresh source d none has (subst (IsOn records d.index) (on_one records handled other source on_other on) on_d))
 
-lacks_more : (records more : List Top) (pass : PassState) (index : ℕ) (refusal : DeclareRefused) → LacksId records pass index refusal → LacksId (records ++ more) pass index refusal
+lacks_more : (records more : List Top) (pass : PassState) (index : ℕ) (refusal : CallRefused) → LacksId records pass index refusal → LacksId (records ++ more) pass index refusal
 lacks_more records more pass index refusal was = (was.0, channel_more records more index was.0 was.1, was.2)
 
 long_more : (records more : List Top) (index len : ℕ) → HasTooMuchData records index len → HasTooMuchData (records ++ more) index len
@@ -181,15 +179,16 @@ large_more : (records more : List Top) (index len : ℕ) → HasTooMuchData reco
 large_more records more index len (inl long) = inl (long_more records more index len long)
 large_more records more index len (inr wide) = inr (wide_more records more index len wide)
 
-cause_more : (records more : List Top) (handled : ℕ) (pass : PassState) (index : ℕ) (cause : Cause) → CauseFits records handled pass index cause → CauseFits (records ++ more) handled pass index cause
-cause_more records more handled pass index (causes.Full held from to) was = was
-cause_more records more handled pass index (causes.TooLarge len) was = large_more records more index len was
-cause_more records more handled pass index (causes.Closed at) was = was
-cause_more records more handled pass index (causes.Stopped at stop) was = was
-cause_more records more handled pass index causes.TooManySchemas was = lacks_more records more pass index declaring.TooManySchemas was
-cause_more records more handled pass index causes.TooManyChannels was = lacks_more records more pass index declaring.TooManyChannels was
-cause_more records more handled pass index (causes.TooManyRecords count) was = was
-cause_more records more handled pass index causes.Memory was = was
+cause_more : (records more : List Top) (handled : ℕ) (pass : PassState) (index : ℕ) (cause : CallRefused) → CauseFits records handled pass index cause → CauseFits (records ++ more) handled pass index cause
+cause_more records more handled pass index (refusing.Full held from to) was = was
+cause_more records more handled pass index (refusing.TooLarge len) was = large_more records more index len was
+cause_more records more handled pass index (refusing.Closed at) was = was
+cause_more records more handled pass index (refusing.Stopped at stop) was = was
+cause_more records more handled pass index refusing.TooManySchemas was = lacks_more records more pass index refusing.TooManySchemas was
+cause_more records more handled pass index refusing.TooManyChannels was = lacks_more records more pass index refusing.TooManyChannels was
+cause_more records more handled pass index (refusing.TooManyRecords count) was = was
+cause_more records more handled pass index refusing.UnknownChannel was = was
+cause_more records more handled pass index refusing.Memory was = was
 
 named_more : (records more : List Top) (lists : ReportLists) (pass : PassState) → InStep (ShowsDeclaration records) lists.declared pass.named → InStep (ShowsDeclaration (records ++ more)) lists.declared pass.named
 named_more records more lists pass was =
@@ -329,7 +328,7 @@ keeping records handled bound ids lists pass kept stood stands = record {
   tried = stands.tried;
 }
 
-pub found_keeping : (lane : Lane) (records : List Top) (handled source : ℕ) (pass : PassState) (kept : KeptSchema) (result : Result ℕ Cause) → KeptStands records kept → ChannelFound lane records handled source pass result
+pub found_keeping : (lane : Lane) (records : List Top) (handled source : ℕ) (pass : PassState) (kept : KeptSchema) (result : Result ℕ CallRefused) → KeptStands records kept → ChannelFound lane records handled source pass result
     → ChannelFound (record lane { ids = with_kept lane.ids kept }) records handled source pass result
 found_keeping lane records handled source pass kept (Ok id) stood found = (found.0, keeping records handled (handled + 1) lane.ids (lists_of lane) pass kept stood found.1)
 found_keeping lane records handled source pass kept (Err cause) stood due = record {

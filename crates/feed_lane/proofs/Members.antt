@@ -9,12 +9,10 @@ use Rattle.mcap_model.specs.Tops.{Top}
 use Rattle.mcap_model.proofs.Places.{at_none, at_within, has_kept}
 use Rattle.mcap_model.proofs.Lists.{at_either}
 use Rattle.record_core.specs.declared.answers.Found.{Found}
-use Rattle.record_core.specs.declared.answers.DeclareRefused.{DeclareRefused}
-use Rattle.record_core.specs.declared.answers.DeclareRefused.TheVariants as declaring
+use Rattle.record_core.specs.declared.answers.CallRefused.{CallRefused}
+use Rattle.record_core.specs.declared.answers.CallRefused.TheVariants as refusing
 use Rattle.feed_lane.specs.declared.report.Accepted.{Accepted}
 use Rattle.feed_lane.specs.declared.report.DeclaredAt.{DeclaredAt}
-use Rattle.feed_lane.specs.declared.report.Cause.{Cause}
-use Rattle.feed_lane.specs.declared.report.Cause.TheVariants as causes
 use Rattle.feed_lane.specs.Pass.{FullAt, PassState, with_places, FoundAtLeast}
 use Rattle.feed_lane.specs.PassCalls.{Finds}
 use Rattle.feed_lane.specs.Lanes.{DeclarationAdds, Accepts, LacksId, CauseFits, full_in, InStep}
@@ -140,34 +138,29 @@ has_id_listed records declared more source id was = record {
   is = was.is;
 }
 
-lacks_on : (records : List Top) (before after : PassState) (index : ℕ) (refusal : DeclareRefused) → Extends before after → LacksId records before index refusal → LacksId records after index refusal
+lacks_on : (records : List Top) (before after : PassState) (index : ℕ) (refusal : CallRefused) → Extends before after → LacksId records before index refusal → LacksId records after index refusal
 lacks_on records before after index refusal extends was = (was.0, was.1, extends.lacks (was.0, refusal) was.2)
 
 -- a cause behind which the lane goes on
-pub cause_on : (records : List Top) (handled later : ℕ) (before after : PassState) (index : ℕ) (cause : Cause) → goes_on cause ≡ true → Extends before after → CauseFits records handled before index cause → CauseFits records later after index cause
-cause_on records handled later before after index (causes.Full held from to) on extends was = (extends.fulls _ was.0, subst (λ (n : ℕ). n ≤ held) (sym extends.limit) was.1, was.2)
-cause_on records handled later before after index (causes.TooLarge len) on extends was = was
-cause_on records handled later before after index (causes.Closed at) on extends was = absurd (false_true on)
-cause_on records handled later before after index (causes.Stopped at stop) on extends was = absurd (false_true on)
-cause_on records handled later before after index causes.TooManySchemas on extends was = lacks_on records before after index declaring.TooManySchemas extends was
-cause_on records handled later before after index causes.TooManyChannels on extends was = lacks_on records before after index declaring.TooManyChannels extends was
-cause_on records handled later before after index (causes.TooManyRecords count) on extends was = (was.0, extends.seen count was.1)
-cause_on records handled later before after index causes.Memory on extends was = was
+pub cause_on : (records : List Top) (handled later : ℕ) (before after : PassState) (index : ℕ) (cause : CallRefused) → goes_on cause ≡ true → Extends before after → CauseFits records handled before index cause → CauseFits records later after index cause
+cause_on records handled later before after index (refusing.Full held from to) on extends was = (extends.fulls _ was.0, subst (λ (n : ℕ). n ≤ held) (sym extends.limit) was.1, was.2)
+cause_on records handled later before after index (refusing.TooLarge len) on extends was = was
+cause_on records handled later before after index (refusing.Closed at) on extends was = absurd (false_true on)
+cause_on records handled later before after index (refusing.Stopped at stop) on extends was = absurd (false_true on)
+cause_on records handled later before after index refusing.TooManySchemas on extends was = lacks_on records before after index refusing.TooManySchemas extends was
+cause_on records handled later before after index refusing.TooManyChannels on extends was = lacks_on records before after index refusing.TooManyChannels extends was
+cause_on records handled later before after index (refusing.TooManyRecords count) on extends was = (was.0, extends.seen count was.1)
+cause_on records handled later before after index refusing.UnknownChannel on extends was = was
+cause_on records handled later before after index refusing.Memory on extends was = was
 
 -- the pass shows the full buffer of a cause
-pub full_shown : (records : List Top) (handled : ℕ) (pass : PassState) (index : ℕ) (cause : Cause) (n : ℕ) (full : FullAt) → CauseFits records handled pass index cause → At (full_in cause) n full → Has pass.fulls full
-full_shown records handled pass index (causes.Full held from to) zero full was at = subst (Has pass.fulls) (some_same at) was.0
+pub full_shown : (records : List Top) (handled : ℕ) (pass : PassState) (index : ℕ) (cause : CallRefused) (n : ℕ) (full : FullAt) → CauseFits records handled pass index cause → At (full_in cause) n full → Has pass.fulls full
+full_shown records handled pass index (refusing.Full held from to) zero full was at = subst (Has pass.fulls) (some_same at) was.0
   where
     some_same : {x y : FullAt} → Some x ≡ Some y → x ≡ y
     some_same e = cc
-full_shown records handled pass index (causes.Full held from to) (suc n) full was at = absurd (at_none n full at)
-full_shown records handled pass index (causes.TooLarge len) n full was at = absurd (at_none n full at)
-full_shown records handled pass index (causes.Closed place) n full was at = absurd (at_none n full at)
-full_shown records handled pass index (causes.Stopped place stop) n full was at = absurd (at_none n full at)
-full_shown records handled pass index causes.TooManySchemas n full was at = absurd (at_none n full at)
-full_shown records handled pass index causes.TooManyChannels n full was at = absurd (at_none n full at)
-full_shown records handled pass index (causes.TooManyRecords count) n full was at = absurd (at_none n full at)
-full_shown records handled pass index causes.Memory n full was at = absurd (at_none n full at)
+full_shown records handled pass index (refusing.Full held from to) (suc n) full was at = absurd (at_none n full at)
+full_shown records handled pass index cause n full was at = absurd (at_none n full at)
 
 -- ---- places
 

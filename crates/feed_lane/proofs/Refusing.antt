@@ -9,17 +9,16 @@ use Rattle.mcap_model.specs.Places.{At, Has, Each}
 use Rattle.mcap_model.specs.Tops.{Top}
 use Rattle.mcap_model.proofs.Places.{at_kept, at_last, at_more, pairs_more}
 use Rattle.mcap_model.proofs.Lists.{at_either}
-use Rattle.record_core.specs.declared.answers.DeclareRefused.{DeclareRefused}
+use Rattle.record_core.specs.declared.answers.CallRefused.{CallRefused}
 use Rattle.feed_lane.specs.declared.report.Refused.{Refused}
-use Rattle.feed_lane.specs.declared.report.Cause.{Cause}
-use Rattle.feed_lane.specs.Pass.{FullAt, Reason, PassState}
+use Rattle.feed_lane.specs.Pass.{FullAt, PassState}
 use Rattle.feed_lane.specs.Lanes.{ReportLists, messages, CauseFits, IsTried, full_in, fulls_of, lack_in, lacks_of, reason_in, reasons_of, ShowsDeclaration, IsLacking, InStep, InTurnWith, ListsFit}
 use Rattle.feed_lane.specs.Kept.{LaneIds}
 use Rattle.feed_lane.specs.Steps.{RefusalLeaves, ListsStand, LastEnds, ListsTell}
 use Rattle.feed_lane.specs.Causes.{goes_on}
 use Rattle.feed_lane.proofs.Members.{in_step_joined, declares_on, accepts_on, cause_on, declared_above, accepted_above}
 
-abbrev pub refused_at : ℕ → Cause → Refused
+abbrev pub refused_at : ℕ → CallRefused → Refused
 refused_at index cause = record { index = index; cause = cause }
 
 -- the lists with one more refusal
@@ -32,7 +31,7 @@ at_in xs ys n x at = elim (at_either xs ys n x at) [
   | inr later ↦ inr (later.0, later.2)
 ]
 
-pub refused_fits : (records : List Top) (handled : ℕ) (ids : LaneIds) (lists : ReportLists) (before after : PassState) (cause : Cause) → ListsStand records handled (handled + 1) ids lists before → RefusalLeaves records handled before after cause → handled < length (messages records) → ListsFit records (handled + 1) (handled + 1) (with_refused lists (refused_at handled cause)) after
+pub refused_fits : (records : List Top) (handled : ℕ) (ids : LaneIds) (lists : ReportLists) (before after : PassState) (cause : CallRefused) → ListsStand records handled (handled + 1) ids lists before → RefusalLeaves records handled before after cause → handled < length (messages records) → ListsFit records (handled + 1) (handled + 1) (with_refused lists (refused_at handled cause)) after
 refused_fits records handled ids lists before after cause stands is some =
     let was = stands.fits in
     let new = refused_at handled cause in
@@ -51,14 +50,14 @@ refused_fits records handled ids lists before after cause stands is some =
       refused_rise = pairs_more (λ (r s : Refused). r.index < s.index) lists.refused new was.refused_rise (λ k s at. was.refused_below k s at);
       in_turn = was.in_turn;
       named = subst (InStep (ShowsDeclaration records) lists.declared) (sym is.named) was.named;
-      lacks = subst (λ (l : List (ℕ × DeclareRefused)). InStep (IsLacking records) l after.lacks)
-          (sym (flat_map-append (λ (r : Refused). lack_in r.index r.cause) lists.refused (new ∷ []) ∙ ap (λ (l : List (ℕ × DeclareRefused)). lacks_of lists.refused ++ l) (append-nil (lack_in handled cause))))
+      lacks = subst (λ (l : List (ℕ × CallRefused)). InStep (IsLacking records) l after.lacks)
+          (sym (flat_map-append (λ (r : Refused). lack_in r.index r.cause) lists.refused (new ∷ []) ∙ ap (λ (l : List (ℕ × CallRefused)). lacks_of lists.refused ++ l) (append-nil (lack_in handled cause))))
           (subst (InStep (IsLacking records) (lacks_of lists.refused ++ lack_in handled cause)) (sym is.lacks)
           (in_step_joined (IsLacking records) (lacks_of lists.refused) (lack_in handled cause) before.lacks is.lacking was.lacks is.are));
       reasons =
           flat_map-append (λ (r : Refused). reason_in r.cause) lists.refused (new ∷ [])
-          ∙ ap (λ (l : List Reason). reasons_of lists.refused ++ l) (append-nil (reason_in cause))
-          ∙ ap (λ (l : List Reason). l ++ reason_in cause) was.reasons
+          ∙ ap (λ (l : List CallRefused). reasons_of lists.refused ++ l) (append-nil (reason_in cause))
+          ∙ ap (λ (l : List CallRefused). l ++ reason_in cause) was.reasons
           ∙ sym is.reasons;
       fulls =
           flat_map-append (λ (r : Refused). full_in r.cause) lists.refused (new ∷ [])
@@ -103,14 +102,14 @@ tried_more records lists new was now = λ k r at. elim (at_more lists.refused ne
 ]
 
 -- what the lists tell with one more refusal
-pub refused_tells : (records : List Top) (handled : ℕ) (ids : LaneIds) (lists : ReportLists) (before after : PassState) (cause : Cause) → ListsStand records handled (handled + 1) ids lists before → RefusalLeaves records handled before after cause → IsTried records lists.declared (refused_at handled cause) → ListsTell records (with_refused lists (refused_at handled cause)) after
+pub refused_tells : (records : List Top) (handled : ℕ) (ids : LaneIds) (lists : ReportLists) (before after : PassState) (cause : CallRefused) → ListsStand records handled (handled + 1) ids lists before → RefusalLeaves records handled before after cause → IsTried records lists.declared (refused_at handled cause) → ListsTell records (with_refused lists (refused_at handled cause)) after
 refused_tells records handled ids lists before after cause stands is tried = record {
   firsts = λ k d at. is.extends.seen d.first (stands.firsts k d at);
   tried = tried_more records lists (refused_at handled cause) stands.tried tried;
 }
 
 -- the lane goes on
-pub refused_stands : (records : List Top) (handled : ℕ) (ids : LaneIds) (lists : ReportLists) (before after : PassState) (cause : Cause) → ListsStand records handled (handled + 1) ids lists before → RefusalLeaves records handled before after cause → handled < length (messages records) → IsTried records lists.declared (refused_at handled cause) → goes_on cause ≡ true → ListsStand records (handled + 1) (handled + 1) ids (with_refused lists (refused_at handled cause)) after
+pub refused_stands : (records : List Top) (handled : ℕ) (ids : LaneIds) (lists : ReportLists) (before after : PassState) (cause : CallRefused) → ListsStand records handled (handled + 1) ids lists before → RefusalLeaves records handled before after cause → handled < length (messages records) → IsTried records lists.declared (refused_at handled cause) → goes_on cause ≡ true → ListsStand records (handled + 1) (handled + 1) ids (with_refused lists (refused_at handled cause)) after
 refused_stands records handled ids lists before after cause stands is some tried on =
     let new = refused_at handled cause in
     record {
@@ -130,5 +129,5 @@ refused_stands records handled ids lists before after cause stands is some tried
     }
 
 -- the lane is over
-pub refused_last : (handled : ℕ) (lists : ReportLists) (cause : Cause) → goes_on cause ≡ false → LastEnds (handled + 1) (lists.refused ++ refused_at handled cause ∷ [])
+pub refused_last : (handled : ℕ) (lists : ReportLists) (cause : CallRefused) → goes_on cause ≡ false → LastEnds (handled + 1) (lists.refused ++ refused_at handled cause ∷ [])
 refused_last handled lists cause off = (refused_at handled cause, (length lists.refused, at_last lists.refused (refused_at handled cause) []), refl, off)

@@ -8,7 +8,8 @@ use Rattle.mcap_model.specs.Places.{At}
 use Rattle.mcap_model.proofs.Places.{at_none}
 use Rattle.record_core.specs.declared.answers.Found.{Found}
 use Rattle.record_core.specs.declared.answers.NewMessage.{NewMessage}
-use Rattle.feed_lane.specs.Pass.{Reason, PassState, with_places}
+use Rattle.record_core.specs.declared.answers.CallRefused.{CallRefused}
+use Rattle.feed_lane.specs.Pass.{PassState, with_places}
 use Rattle.feed_lane.specs.PassCalls.{IsLater, Finds, with_published, with_declared, message_record}
 use Rattle.feed_lane.specs.Tapes.{numbered_from, end_when, found_now, found_when, tape_pass}
 use Rattle.feed_lane.proofs.Members.{placed_at}
@@ -57,7 +58,7 @@ later true was ended count channels a b stays last is = subst (λ (f : Found). I
     by true on = record { taken = omega arith; count = omega arith; schemas = omega arith; channels = omega arith; end = λ e same. subst (λ (x : Bool). end_when x ≡ Some e) (sym (on refl)) same }
     by false on = record { taken = omega arith; count = omega arith; schemas = omega arith; channels = omega arith; end = λ e same. absurd (none_end same) }
 
-pub finds : (records : List Rec) (channels : List ChannelDef) (reasons : List Reason) (asked was ended : Bool) (a b : ℕ) → (was ≡ true → ended ≡ true) → Finds (tape_pass records channels reasons (found_when asked (length records - a) (length channels - b) was)) (found_now (length records) (length channels) ended)
+pub finds : (records : List Rec) (channels : List ChannelDef) (reasons : List CallRefused) (asked was ended : Bool) (a b : ℕ) → (was ≡ true → ended ≡ true) → Finds (tape_pass records channels reasons (found_when asked (length records - a) (length channels - b) was)) (found_now (length records) (length channels) ended)
 finds records channels reasons asked was ended a b stays = record {
   places = λ k pair at. let t = placed_at 0 records k pair at in omega (arith, t.0, t.1);
   ids = λ k pair at. let t = numbered_at 1 channels k pair at in (omega (arith, t.0), omega (arith, t.0, t.1));
@@ -67,16 +68,16 @@ finds records channels reasons asked was ended a b stays = record {
 
 -- ---- what its calls make of what it shows
 
-abbrev made : List Reason → List (ℕ × Rec) → List (ℕ × ChannelDef) → ℕ → ℕ → Bool → PassState
+abbrev made : List CallRefused → List (ℕ × Rec) → List (ℕ × ChannelDef) → ℕ → ℕ → Bool → PassState
 made reasons own named count channels ended = record { own = own; named = named; fulls = []; lacks = []; reasons = reasons; found = Some (found_now count channels ended); limit = 1 }
 
 -- it was looked at, and shows these reasons
-pub looked : (records : List Rec) (channels : List ChannelDef) (reasons : List Reason) (ended : Bool) → tape_pass records channels reasons (found_when true (length records - 0) (length channels - 0) ended) ≡ tape_pass records channels reasons (Some (found_now (length records) (length channels) ended))
+pub looked : (records : List Rec) (channels : List ChannelDef) (reasons : List CallRefused) (ended : Bool) → tape_pass records channels reasons (found_when true (length records - 0) (length channels - 0) ended) ≡ tape_pass records channels reasons (Some (found_now (length records) (length channels) ended))
 looked records channels reasons ended =
     ap (λ (n : ℕ). made reasons (with_places 0 records) (numbered_from 1 channels) n (length channels - 0) ended) (omega arith)
     ∙ ap (λ (n : ℕ). made reasons (with_places 0 records) (numbered_from 1 channels) (length records) n ended) (omega arith)
 
-pub told : (records : List Rec) (channels : List ChannelDef) (reasons : List Reason) (before : Option Found) (ended : Bool) (r : Rec) (m : NewMessage) → r ≡ message_record m
+pub told : (records : List Rec) (channels : List ChannelDef) (reasons : List CallRefused) (before : Option Found) (ended : Bool) (r : Rec) (m : NewMessage) → r ≡ message_record m
     → tape_pass (records ++ r ∷ []) channels reasons (found_when true (length (records ++ r ∷ []) - 1) (length channels - 0) ended) ≡ with_published (tape_pass records channels reasons before) (found_now (length records) (length channels) ended) m
 told records channels reasons before ended r m is =
     let one : with_places 0 (records ++ r ∷ []) ≡ with_places 0 records ++ (length records, message_record m) ∷ [] =
@@ -88,7 +89,7 @@ told records channels reasons before ended r m is =
     pair : ℕ → Rec → ℕ × Rec
     pair n x = (n, x)
 
-pub named : (records : List Rec) (channels : List ChannelDef) (reasons : List Reason) (before : Option Found) (ended : Bool) (r : Rec) (c d : ChannelDef) (id : ℕ) → c ≡ d → id ≡ length channels + 1
+pub named : (records : List Rec) (channels : List ChannelDef) (reasons : List CallRefused) (before : Option Found) (ended : Bool) (r : Rec) (c d : ChannelDef) (id : ℕ) → c ≡ d → id ≡ length channels + 1
     → tape_pass (records ++ r ∷ []) (channels ++ c ∷ []) reasons (found_when true (length (records ++ r ∷ []) - 1) (length (channels ++ c ∷ []) - 1) ended) ≡ with_declared (tape_pass records channels reasons before) (found_now (length records) (length channels) ended) d id (r ∷ [])
 named records channels reasons before ended r c d id same is =
     let own : with_places 0 (records ++ r ∷ []) ≡ with_places 0 records ++ (length records, r) ∷ [] =

@@ -5,6 +5,7 @@ use Rattle.mcap_wire.specs.Limits.{data_limit, declaration_limit, record_count_l
 use Rattle.rec_data.specs.declared.owned.Rec.{Rec}
 use Rattle.rec_data.specs.declared.channel.ChannelDef.{ChannelDef}
 use Rattle.rec_data.specs.declared.schema.SchemaDef.{SchemaDef}
+use Rattle.rec_data.specs.Records.{message_opcode}
 use Rattle.mcap_model.specs.declared.ends.End.{End}
 use Rattle.mcap_model.specs.declared.ends.End.TheVariants as ends
 use Rattle.mcap_model.specs.Places.{At, Has, Each}
@@ -14,14 +15,12 @@ use Rattle.mcap_model.specs.History.{message_of}
 use Rattle.mcap_model.specs.Written.{SourceShows}
 use Rattle.record_core.specs.DeclarationFields.{fields_of_schema, declared_size}
 use Rattle.record_core.specs.declared.answers.Found.{Found}
-use Rattle.record_core.specs.declared.answers.DeclareRefused.{DeclareRefused}
-use Rattle.record_core.specs.declared.answers.DeclareRefused.TheVariants as declaring
+use Rattle.record_core.specs.declared.answers.CallRefused.{CallRefused}
+use Rattle.record_core.specs.declared.answers.CallRefused.TheVariants as refusing
 use Rattle.feed_lane.specs.declared.report.Accepted.{Accepted}
 use Rattle.feed_lane.specs.declared.report.DeclaredAt.{DeclaredAt}
 use Rattle.feed_lane.specs.declared.report.Refused.{Refused}
-use Rattle.feed_lane.specs.declared.report.Cause.{Cause}
-use Rattle.feed_lane.specs.declared.report.Cause.TheVariants as causes
-use Rattle.feed_lane.specs.Pass.{FullAt, Reason, for_size, for_close, for_stop, for_count, for_room, for_id, PassState, FoundAtLeast, with_places, AreAdded}
+use Rattle.feed_lane.specs.Pass.{FullAt, filled, PassState, FoundAtLeast, with_places, AreAdded}
 
 -- the lists of a report
 pub record ReportLists : Type 0 where
@@ -31,7 +30,7 @@ pub record ReportLists : Type 0 where
 
 -- the messages among flat records, in their order: the first one has index 0
 abbrev pub messages : List Top → List Top
-messages records = filter (λ t. t.op == 5) records
+messages records = filter (λ t. t.op == message_opcode) records
 
 -- the message of that index is on the feed's channel of that id
 pub record IsOn (records : List Top) (index channel : ℕ) : Type 0 where
@@ -114,7 +113,7 @@ abbrev pub IsWide : List Top → ℕ → ℕ → Type 0
 IsWide records index len = (content : ChannelDef) × IsChannelOf records index content × (len ≡ declared_size content) × (declaration_limit < len)
 
 -- no id was left for that message's channel
-abbrev pub LacksId : List Top → PassState → ℕ → DeclareRefused → Type 0
+abbrev pub LacksId : List Top → PassState → ℕ → CallRefused → Type 0
 LacksId records pass index refusal = (content : ChannelDef) × IsChannelOf records index content × Has pass.lacks (content, refusal)
 
 -- The last of the handled messages was refused since the intake had ended.
@@ -126,15 +125,16 @@ pub record LastFindsEnd (handled : ℕ) (pass : PassState) (index at : ℕ) (end
   pub at_count : at ≡ found.count
 
 -- what the cause of a refusal says of the message of that index, of its channel and of the pass
-abbrev pub CauseFits : List Top → ℕ → PassState → ℕ → Cause → Type 0
-CauseFits records handled pass index (causes.Full held from to) = Has pass.fulls (record { from = from; to = to; held = held }) × (pass.limit ≤ held) × (from ≤ to)
-CauseFits records handled pass index (causes.TooLarge len) = HasTooMuchData records index len ⊎ IsWide records index len
-CauseFits records handled pass index (causes.Closed at) = LastFindsEnd handled pass index at ends.Closed
-CauseFits records handled pass index (causes.Stopped at stop) = LastFindsEnd handled pass index at (ends.Stopped stop)
-CauseFits records handled pass index causes.TooManySchemas = LacksId records pass index declaring.TooManySchemas
-CauseFits records handled pass index causes.TooManyChannels = LacksId records pass index declaring.TooManyChannels
-CauseFits records handled pass index (causes.TooManyRecords count) = (record_count_limit ≤ count) × FoundAtLeast pass count
-CauseFits records handled pass index causes.Memory = Unit {0}
+abbrev pub CauseFits : List Top → ℕ → PassState → ℕ → CallRefused → Type 0
+CauseFits records handled pass index (refusing.Full held from to) = Has pass.fulls (filled held from to) × (pass.limit ≤ held) × (from ≤ to)
+CauseFits records handled pass index (refusing.TooLarge len) = HasTooMuchData records index len ⊎ IsWide records index len
+CauseFits records handled pass index (refusing.Closed at) = LastFindsEnd handled pass index at ends.Closed
+CauseFits records handled pass index (refusing.Stopped at stop) = LastFindsEnd handled pass index at (ends.Stopped stop)
+CauseFits records handled pass index refusing.UnknownChannel = ⊥
+CauseFits records handled pass index refusing.TooManySchemas = LacksId records pass index refusing.TooManySchemas
+CauseFits records handled pass index refusing.TooManyChannels = LacksId records pass index refusing.TooManyChannels
+CauseFits records handled pass index (refusing.TooManyRecords count) = (record_count_limit ≤ count) × FoundAtLeast pass count
+CauseFits records handled pass index refusing.Memory = Unit {0}
 
 -- a declaration for that message's channel was made at the message or an earlier one
 pub record IsDeclared (records : List Top) (declared : List DeclaredAt) (index : ℕ) : Type 0 where
@@ -152,56 +152,39 @@ IsUndeclared records declared index = (source : ℕ) (d : DeclaredAt) → IsOn r
 -- A message that was refused as too large was declared a channel for, unless that is too large itself. Memory lacks only for
 -- declaring a channel.
 pub record IsTried (records : List Top) (declared : List DeclaredAt) (r : Refused) : Type 0 where
-  pub large : (len : ℕ) → r.cause ≡ causes.TooLarge len → IsWide records r.index len ⊎ IsDeclared records declared r.index
-  pub lacking : r.cause ≡ causes.Memory → IsUndeclared records declared r.index
+  pub large : (len : ℕ) → r.cause ≡ refusing.TooLarge len → IsWide records r.index len ⊎ IsDeclared records declared r.index
+  pub lacking : r.cause ≡ refusing.Memory → IsUndeclared records declared r.index
 
 -- where the buffer was full, if that is the cause
-abbrev pub full_in : Cause → List FullAt
-full_in (causes.Full held from to) = (record { from = from; to = to; held = held }) ∷ []
-full_in (causes.TooLarge len) = []
-full_in (causes.Closed at) = []
-full_in (causes.Stopped at stop) = []
-full_in causes.TooManySchemas = []
-full_in causes.TooManyChannels = []
-full_in (causes.TooManyRecords count) = []
-full_in causes.Memory = []
+abbrev pub full_in : CallRefused → List FullAt
+full_in (refusing.Full held from to) = filled held from to ∷ []
+full_in cause = []
 
 abbrev pub fulls_of : List Refused → List FullAt
 fulls_of refused = flat_map (λ r. full_in r.cause) refused
 
 -- the message's index and the reason for which no id was left, if that is the cause
-abbrev pub lack_in : ℕ → Cause → List (ℕ × DeclareRefused)
-lack_in index (causes.Full held from to) = []
-lack_in index (causes.TooLarge len) = []
-lack_in index (causes.Closed at) = []
-lack_in index (causes.Stopped at stop) = []
-lack_in index causes.TooManySchemas = (index, declaring.TooManySchemas) ∷ []
-lack_in index causes.TooManyChannels = (index, declaring.TooManyChannels) ∷ []
-lack_in index (causes.TooManyRecords count) = []
-lack_in index causes.Memory = []
+abbrev pub lack_in : ℕ → CallRefused → List (ℕ × CallRefused)
+lack_in index refusing.TooManySchemas = (index, refusing.TooManySchemas) ∷ []
+lack_in index refusing.TooManyChannels = (index, refusing.TooManyChannels) ∷ []
+lack_in index cause = []
 
-abbrev pub lacks_of : List Refused → List (ℕ × DeclareRefused)
+abbrev pub lacks_of : List Refused → List (ℕ × CallRefused)
 lacks_of refused = flat_map (λ r. lack_in r.index r.cause) refused
 
 -- why the message was refused, unless memory lacked
-abbrev pub reason_in : Cause → List Reason
-reason_in (causes.Full held from to) = for_room (record { from = from; to = to; held = held }) ∷ []
-reason_in (causes.TooLarge len) = for_size len ∷ []
-reason_in (causes.Closed at) = for_close at ∷ []
-reason_in (causes.Stopped at stop) = for_stop at stop ∷ []
-reason_in causes.TooManySchemas = for_id declaring.TooManySchemas ∷ []
-reason_in causes.TooManyChannels = for_id declaring.TooManyChannels ∷ []
-reason_in (causes.TooManyRecords count) = for_count count ∷ []
-reason_in causes.Memory = []
+abbrev pub reason_in : CallRefused → List CallRefused
+reason_in refusing.Memory = []
+reason_in cause = cause ∷ []
 
-abbrev pub reasons_of : List Refused → List Reason
+abbrev pub reasons_of : List Refused → List CallRefused
 reasons_of refused = flat_map (λ r. reason_in r.cause) refused
 
 -- what the pass shows of a declaration, and of a refusal for which no id was left
 abbrev pub ShowsDeclaration : List Top → DeclaredAt → ℕ × ChannelDef → Type 0
 ShowsDeclaration records d pair = (pair.0 ≡ d.channel) × IsChannelOf records d.index pair.1
 
-abbrev pub IsLacking : List Top → ℕ × DeclareRefused → ChannelDef × DeclareRefused → Type 0
+abbrev pub IsLacking : List Top → ℕ × CallRefused → ChannelDef × CallRefused → Type 0
 IsLacking records lack pair = (pair.1 ≡ lack.1) × IsChannelOf records lack.0 pair.0
 
 -- the lists have as many members, and it holds of those of each place

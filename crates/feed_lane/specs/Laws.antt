@@ -5,7 +5,8 @@ use Rattle.mcap_model.specs.Places.{At, Has}
 use Rattle.mcap_model.specs.Tops.{Top}
 use Rattle.feed_lane.specs.declared.report.Accepted.{Accepted}
 use Rattle.feed_lane.specs.declared.report.DeclaredAt.{DeclaredAt}
-use Rattle.feed_lane.specs.Pass.{for_channel, PassState}
+use Rattle.record_core.specs.declared.answers.CallRefused.TheVariants.{UnknownChannel}
+use Rattle.feed_lane.specs.Pass.{PassState}
 use Rattle.feed_lane.specs.Lanes.{ReportLists, IsGiven, LaneFits}
 
 -- the place is that of a record which the declaration added
@@ -29,4 +30,4 @@ PlacesAreGiven = (records : List Top) (handled : ℕ) (lists : ReportLists) (pas
 
 -- No call of a lane on its pass was refused since its channel has no id: the pass gave it, so that the intake knows it.
 abbrev pub ChannelsAreKnown : Type 0
-ChannelsAreKnown = (records : List Top) (handled : ℕ) (lists : ReportLists) (pass : PassState) → LaneFits records handled lists pass → Has pass.reasons for_channel → ⊥
+ChannelsAreKnown = (records : List Top) (handled : ℕ) (lists : ReportLists) (pass : PassState) → LaneFits records handled lists pass → Has pass.reasons UnknownChannel → ⊥

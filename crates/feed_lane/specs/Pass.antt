@@ -2,11 +2,10 @@
 use Rattle.std.specs.Prelude.{◌≡◌, ◌⊎◌, ℕ, ◌+◌, ◌≤◌, List, [], ◌∷◌, Option, Some}
 use Rattle.rec_data.specs.declared.owned.Rec.{Rec}
 use Rattle.rec_data.specs.declared.channel.ChannelDef.{ChannelDef}
-use Rattle.mcap_model.specs.declared.ends.Stop.{Stop}
 use Rattle.mcap_model.specs.History.{schema_of, channel_of}
 use Rattle.record_core.specs.DeclarationFields.{fields_of_schema, fields_with}
 use Rattle.record_core.specs.declared.answers.Found.{Found}
-use Rattle.record_core.specs.declared.answers.DeclareRefused.{DeclareRefused}
+use Rattle.record_core.specs.declared.answers.CallRefused.{CallRefused}
 
 -- where a buffer was full: it held the records from one place to before another, of so many bytes
 pub record FullAt : Type 0 where
@@ -14,15 +13,8 @@ pub record FullAt : Type 0 where
   pub to : ℕ
   pub held : ℕ
 
--- why a call was refused, but for want of memory in a declaration
-pub data Reason : Type 0 where
-  for_size : ℕ → Reason
-  for_close : ℕ → Reason
-  for_stop : ℕ → Stop → Reason
-  for_channel : Reason
-  for_count : ℕ → Reason
-  for_room : FullAt → Reason
-  for_id : DeclareRefused → Reason
+abbrev pub filled : ℕ → ℕ → ℕ → FullAt
+filled held from to = record { from = from; to = to; held = held }
 
 -- The records that the pass added, each with its place; the ids that its declarations got; where it was
 -- answered that the buffer is full; the declarations that no id was left for; the reasons of all refusals but want of memory,
@@ -32,8 +24,8 @@ pub record PassState : Type 0 where
   pub own : List (ℕ × Rec)
   pub named : List (ℕ × ChannelDef)
   pub fulls : List FullAt
-  pub lacks : List (ChannelDef × DeclareRefused)
-  pub reasons : List Reason
+  pub lacks : List (ChannelDef × CallRefused)
+  pub reasons : List CallRefused
   pub found : Option Found
   pub limit : ℕ
 

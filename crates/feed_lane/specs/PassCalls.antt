@@ -12,11 +12,12 @@ use Rattle.record_core.specs.Desk.{fields_of_message}
 use Rattle.record_core.specs.declared.answers.Declared.{Declared}
 use Rattle.record_core.specs.declared.answers.Found.{Found}
 use Rattle.record_core.specs.declared.answers.NewMessage.{NewMessage}
-use Rattle.record_core.specs.declared.answers.PublishRefused.{PublishRefused}
-use Rattle.record_core.specs.declared.answers.PublishRefused.TheVariants as publishing
-use Rattle.record_core.specs.declared.answers.DeclareRefused.{DeclareRefused}
-use Rattle.record_core.specs.declared.answers.DeclareRefused.TheVariants as declaring
-use Rattle.feed_lane.specs.Pass.{Reason, for_channel, for_close, for_count, for_id, for_room, for_size, for_stop, PassState, with_places, full_at, AreAdded}
+use Rattle.record_core.specs.declared.answers.CallRefused.{CallRefused}
+use Rattle.record_core.specs.declared.answers.CallRefused.TheVariants as refusing
+use Rattle.feed_lane.specs.Pass.{FullAt, filled, PassState, with_places, full_at, AreAdded}
+
+abbrev pub refused_full : FullAt → CallRefused
+refused_full full = refusing.Full full.held full.from full.to
 
 abbrev pub no_calls : ℕ → PassState
 no_calls limit = record { own = []; named = []; fulls = []; lacks = []; reasons = []; found = None; limit = limit }
@@ -44,15 +45,15 @@ abbrev pub with_found : PassState → Found → PassState
 with_found before found = record before { found = Some found }
 
 -- and but for why the call was refused
-abbrev pub with_refused : PassState → Found → Reason → PassState
+abbrev pub with_refused : PassState → Found → CallRefused → PassState
 with_refused before found reason = record before { reasons = before.reasons ++ reason ∷ []; found = Some found }
 
 -- the same without a look at the intake
-abbrev pub with_reason : PassState → Reason → PassState
+abbrev pub with_reason : PassState → CallRefused → PassState
 with_reason before reason = record before { reasons = before.reasons ++ reason ∷ [] }
 
 abbrev pub with_full : PassState → Found → PassState
-with_full before found = record before { fulls = before.fulls ++ full_at found ∷ []; reasons = before.reasons ++ for_room (full_at found) ∷ []; found = Some found }
+with_full before found = record before { fulls = before.fulls ++ full_at found ∷ []; reasons = before.reasons ++ refused_full (full_at found) ∷ []; found = Some found }
 
 -- ---- publishing
 
@@ -83,28 +84,31 @@ abbrev pub FitsDataLimit : NewMessage → Type 0
 FitsDataLimit m = length m.payload.now ≤ data_limit
 
 -- A message was accepted at a place, or refused for the first reason that held of how the intake was found. A message of too
--- much data is refused without a look at the intake.
-abbrev pub PublishedBy : PassState → PassState → NewMessage → Result ℕ PublishRefused → Type 0
+-- much data is refused without a look at the intake. No id and no memory lacks for one.
+abbrev pub PublishedBy : PassState → PassState → NewMessage → Result ℕ CallRefused → Type 0
 PublishedBy before after m (Ok place) = (found : Found) × FitsDataLimit m × MayTakeMessage before found m.channel × (place ≡ found.count) × (after ≡ with_published before found m)
-PublishedBy before after m (Err (publishing.TooLarge len)) = (len ≡ length m.payload.now) × (data_limit < len) × (after ≡ with_reason before (for_size len))
-PublishedBy before after m (Err (publishing.Closed at)) = (found : Found) × FitsDataLimit m × Finds before found × (found.end ≡ Some Closed) × (at ≡ found.count)
-    × (after ≡ with_refused before found (for_close at))
-PublishedBy before after m (Err (publishing.Stopped at stop)) = (found : Found) × FitsDataLimit m × Finds before found × (found.end ≡ Some (Stopped stop)) × (at ≡ found.count)
-    × (after ≡ with_refused before found (for_stop at stop))
-PublishedBy before after m (Err publishing.UnknownChannel) = (found : Found) × FitsDataLimit m × Finds before found × (found.end ≡ None)
-    × ((m.channel ≡ 0) ⊎ (found.channels < m.channel)) × (after ≡ with_refused before found for_channel)
-PublishedBy before after m (Err (publishing.TooManyRecords count)) = (found : Found) × FitsDataLimit m × Finds before found × (found.end ≡ None) × IsGivenChannel found m.channel
-    × (count ≡ found.count) × (record_count_limit ≤ count) × (after ≡ with_refused before found (for_count count))
-PublishedBy before after m (Err (publishing.Full held)) = (found : Found) × FitsDataLimit m × Finds before found × (found.end ≡ None) × IsGivenChannel found m.channel × (found.count < record_count_limit)
-    × (held ≡ found.held) × (before.limit ≤ held) × (after ≡ with_full before found)
+PublishedBy before after m (Err (refusing.TooLarge len)) = (len ≡ length m.payload.now) × (data_limit < len) × (after ≡ with_reason before (refusing.TooLarge len))
+PublishedBy before after m (Err (refusing.Closed at)) = (found : Found) × FitsDataLimit m × Finds before found × (found.end ≡ Some Closed) × (at ≡ found.count)
+    × (after ≡ with_refused before found (refusing.Closed at))
+PublishedBy before after m (Err (refusing.Stopped at stop)) = (found : Found) × FitsDataLimit m × Finds before found × (found.end ≡ Some (Stopped stop)) × (at ≡ found.count)
+    × (after ≡ with_refused before found (refusing.Stopped at stop))
+PublishedBy before after m (Err refusing.UnknownChannel) = (found : Found) × FitsDataLimit m × Finds before found × (found.end ≡ None)
+    × ((m.channel ≡ 0) ⊎ (found.channels < m.channel)) × (after ≡ with_refused before found refusing.UnknownChannel)
+PublishedBy before after m (Err (refusing.TooManyRecords count)) = (found : Found) × FitsDataLimit m × Finds before found × (found.end ≡ None) × IsGivenChannel found m.channel
+    × (count ≡ found.count) × (record_count_limit ≤ count) × (after ≡ with_refused before found (refusing.TooManyRecords count))
+PublishedBy before after m (Err (refusing.Full held from to)) = (found : Found) × FitsDataLimit m × Finds before found × (found.end ≡ None) × IsGivenChannel found m.channel × (found.count < record_count_limit)
+    × (filled held from to ≡ full_at found) × (before.limit ≤ held) × (after ≡ with_full before found)
+PublishedBy before after m (Err refusing.TooManySchemas) = ⊥
+PublishedBy before after m (Err refusing.TooManyChannels) = ⊥
+PublishedBy before after m (Err refusing.Memory) = ⊥
 
 -- ---- declaring
 
 abbrev pub with_declared : PassState → Found → ChannelDef → ℕ → List Rec → PassState
 with_declared before found d channel records = record before { own = before.own ++ with_places found.count records; named = before.named ++ (channel, d) ∷ []; found = Some found }
 
-abbrev pub with_lack : PassState → Found → ChannelDef → DeclareRefused → PassState
-with_lack before found d refusal = record before { lacks = before.lacks ++ (d, refusal) ∷ []; reasons = before.reasons ++ for_id refusal ∷ []; found = Some found }
+abbrev pub with_lack : PassState → Found → ChannelDef → CallRefused → PassState
+with_lack before found d refusal = record before { lacks = before.lacks ++ (d, refusal) ∷ []; reasons = before.reasons ++ refusal ∷ []; found = Some found }
 
 -- the records of a declaration are no longer than they may be
 abbrev pub IsNarrow : ChannelDef → Type 0
@@ -130,21 +134,22 @@ GetsId before found channel records = ((records ≡ []) × IsGivenChannel found 
 -- intake was found. Records that are too long are refused without a look at the intake. No other reason than an end refuses a
 -- content for which the pass has an id; memory may lack only where none of the others is seen. Whether an id is needed for its
 -- schema isn't seen here, since another may have declared that.
-abbrev pub DeclaredInto : PassState → PassState → ChannelDef → Result Declared DeclareRefused → Type 0
+abbrev pub DeclaredInto : PassState → PassState → ChannelDef → Result Declared CallRefused → Type 0
 DeclaredInto before after d (Ok given) = (found : Found) × (records : List Rec) × IsNarrow d × Finds before found × (found.end ≡ None) × (given.first ≡ found.count)
     × (given.count ≡ length records) × AreAdded d given.channel records × GetsId before found given.channel records × (after ≡ with_declared before found d given.channel records)
-DeclaredInto before after d (Err (declaring.TooLarge len)) = (len ≡ declared_size d) × (declaration_limit < len) × (after ≡ with_reason before (for_size len))
-DeclaredInto before after d (Err (declaring.Closed at)) = (found : Found) × IsNarrow d × Finds before found × (found.end ≡ Some Closed) × (at ≡ found.count)
-    × (after ≡ with_refused before found (for_close at))
-DeclaredInto before after d (Err (declaring.Stopped at stop)) = (found : Found) × IsNarrow d × Finds before found × (found.end ≡ Some (Stopped stop)) × (at ≡ found.count)
-    × (after ≡ with_refused before found (for_stop at stop))
-DeclaredInto before after d (Err (declaring.TooManyRecords count)) = (found : Found) × IsNarrow d × Finds before found × (found.end ≡ None) × IsUnnamed before d
-    × (count ≡ found.count) × (record_count_limit ≤ count) × (after ≡ with_refused before found (for_count count))
-DeclaredInto before after d (Err (declaring.Full held)) = (found : Found) × IsNarrow d × Finds before found × (found.end ≡ None) × IsUnnamed before d × (found.count < record_count_limit)
-    × (held ≡ found.held) × (before.limit ≤ held) × (after ≡ with_full before found)
-DeclaredInto before after d (Err declaring.TooManySchemas) = (found : Found) × IsNarrow d × Finds before found × (found.end ≡ None) × IsUnnamed before d × HasPlace before found
-    × (found.schemas ≡ id_limit) × (after ≡ with_lack before found d declaring.TooManySchemas)
-DeclaredInto before after d (Err declaring.TooManyChannels) = (found : Found) × IsNarrow d × Finds before found × (found.end ≡ None) × IsUnnamed before d × HasPlace before found
-    × (found.channels ≡ id_limit) × (after ≡ with_lack before found d declaring.TooManyChannels)
-DeclaredInto before after d (Err declaring.Memory) = (found : Found) × IsNarrow d × Finds before found × (found.end ≡ None) × IsUnnamed before d × HasPlace before found
+DeclaredInto before after d (Err (refusing.TooLarge len)) = (len ≡ declared_size d) × (declaration_limit < len) × (after ≡ with_reason before (refusing.TooLarge len))
+DeclaredInto before after d (Err (refusing.Closed at)) = (found : Found) × IsNarrow d × Finds before found × (found.end ≡ Some Closed) × (at ≡ found.count)
+    × (after ≡ with_refused before found (refusing.Closed at))
+DeclaredInto before after d (Err (refusing.Stopped at stop)) = (found : Found) × IsNarrow d × Finds before found × (found.end ≡ Some (Stopped stop)) × (at ≡ found.count)
+    × (after ≡ with_refused before found (refusing.Stopped at stop))
+DeclaredInto before after d (Err refusing.UnknownChannel) = ⊥
+DeclaredInto before after d (Err (refusing.TooManyRecords count)) = (found : Found) × IsNarrow d × Finds before found × (found.end ≡ None) × IsUnnamed before d
+    × (count ≡ found.count) × (record_count_limit ≤ count) × (after ≡ with_refused before found (refusing.TooManyRecords count))
+DeclaredInto before after d (Err (refusing.Full held from to)) = (found : Found) × IsNarrow d × Finds before found × (found.end ≡ None) × IsUnnamed before d × (found.count < record_count_limit)
+    × (filled held from to ≡ full_at found) × (before.limit ≤ held) × (after ≡ with_full before found)
+DeclaredInto before after d (Err refusing.TooManySchemas) = (found : Found) × IsNarrow d × Finds before found × (found.end ≡ None) × IsUnnamed before d × HasPlace before found
+    × (found.schemas ≡ id_limit) × (after ≡ with_lack before found d refusing.TooManySchemas)
+DeclaredInto before after d (Err refusing.TooManyChannels) = (found : Found) × IsNarrow d × Finds before found × (found.end ≡ None) × IsUnnamed before d × HasPlace before found
+    × (found.channels ≡ id_limit) × (after ≡ with_lack before found d refusing.TooManyChannels)
+DeclaredInto before after d (Err refusing.Memory) = (found : Found) × IsNarrow d × Finds before found × (found.end ≡ None) × IsUnnamed before d × HasPlace before found
     × (found.channels < id_limit) × (after ≡ with_found before found)

@@ -1,6 +1,6 @@
 -- A lane between its steps: for which records it stands, what a call on its pass leaves to be listed, what becomes of the
 -- message at hand, and what it takes of a feed, record by record.
-use Rattle.std.specs.Prelude.{◌≡◌, Bool, ℕ, List, ◌+◌, ◌^◌, ◌<◌, ◌≤◌, ◌++◌, length, filter, true, false, vec_len, vec_capacity, Option, Some, None, Result, Ok, Err, OnOk}
+use Rattle.std.specs.Prelude.{◌≡◌, Bool, ℕ, List, ◌+◌, ◌^◌, ◌<◌, ◌≤◌, ◌++◌, length, filter, true, false, vec_len, vec_capacity, Some, None, Result, Ok, Err, OnOk}
 use Rattle.feed_lane.specs.declared.report.FeedReport.{FeedReport}
 use Rattle.rec_data.specs.declared.schema.SchemaDef.{SchemaDef}
 use Rattle.mcap_wire.specs.Limits.{declaration_limit}
@@ -11,20 +11,16 @@ use Rattle.mcap_model.specs.Tops.{Top}
 use Rattle.mcap_model.specs.Made.{top}
 use Rattle.mcap_model.specs.Fields.{MessageFields}
 use Rattle.rec_data.specs.declared.message.Message.{Message}
+use Rattle.rec_data.specs.Records.{message_opcode}
 use Rattle.mcap_model.specs.Rules.{V6}
 use Rattle.mcap_model.specs.Written.{is_passed_over}
 use Rattle.mcap_model.specs.declared.tables.Tables.{Tables}
 use Rattle.mcap_model.specs.Declarations.{TablesOf}
 use Rattle.mcap_model.specs.declared.refusals.ReadingRefused.TheVariants as refusals
 use Rattle.record_core.specs.declared.answers.Found.{Found}
-use Rattle.record_core.specs.declared.answers.PublishRefused.{PublishRefused}
-use Rattle.record_core.specs.declared.answers.PublishRefused.TheVariants as publishing
-use Rattle.record_core.specs.declared.answers.DeclareRefused.{DeclareRefused}
-use Rattle.record_core.specs.declared.answers.DeclareRefused.TheVariants as declaring
+use Rattle.record_core.specs.declared.answers.CallRefused.{CallRefused}
 use Rattle.feed_lane.specs.declared.report.DeclaredAt.{DeclaredAt}
 use Rattle.feed_lane.specs.declared.report.Refused.{Refused}
-use Rattle.feed_lane.specs.declared.report.Cause.{Cause}
-use Rattle.feed_lane.specs.declared.report.Cause.TheVariants as causes
 use Rattle.feed_lane.specs.declared.report.FeedEnd.{FeedEnd}
 use Rattle.feed_lane.specs.declared.report.FeedEnd.TheVariants as feed_ends
 use Rattle.feed_lane.specs.declared.lane.Lane.{Lane}
@@ -48,7 +44,7 @@ pub record Extends (before after : PassState) : Type 0 where
   pub own : (pair : ℕ × Rec) → Has before.own pair → Has after.own pair
   pub named : (pair : ℕ × ChannelDef) → Has before.named pair → Has after.named pair
   pub fulls : (full : FullAt) → Has before.fulls full → Has after.fulls full
-  pub lacks : (pair : ChannelDef × DeclareRefused) → Has before.lacks pair → Has after.lacks pair
+  pub lacks : (pair : ChannelDef × CallRefused) → Has before.lacks pair → Has after.lacks pair
   pub limit : after.limit ≡ before.limit
   pub seen : (n : ℕ) → FoundAtLeast before n → FoundAtLeast after n
 
@@ -102,15 +98,15 @@ pub record AreKnown (records : List Top) (tables : Tables) : Type 0 where
 
 -- that message stands at its place among the records
 abbrev pub AtHand : List Top → ℕ → List ℕ → Type 0
-AtHand records handled content = At (messages records) handled (top 5 content)
+AtHand records handled content = At (messages records) handled (top message_opcode content)
 
 -- what a refused call leaves to be listed, for that cause
-pub record RefusalLeaves (records : List Top) (handled : ℕ) (before after : PassState) (cause : Cause) : Type 0 where
+pub record RefusalLeaves (records : List Top) (handled : ℕ) (before after : PassState) (cause : CallRefused) : Type 0 where
   pub extends : Extends before after
   pub own : after.own ≡ before.own
   pub named : after.named ≡ before.named
   pub fulls : after.fulls ≡ before.fulls ++ full_in cause
-  pub lacking : List (ChannelDef × DeclareRefused)
+  pub lacking : List (ChannelDef × CallRefused)
   pub lacks : after.lacks ≡ before.lacks ++ lacking
   pub are : InStep (IsLacking records) (lack_in handled cause) lacking
   pub reasons : after.reasons ≡ before.reasons ++ reason_in cause
@@ -120,7 +116,7 @@ pub record RefusalLeaves (records : List Top) (handled : ℕ) (before after : Pa
   pub is_open : goes_on cause ≡ true → IsOpen before → IsOpen after
 
 -- the lane stood before the call, with declarations up to the message at hand
-pub record RefusalIsDue (lane : Lane) (records : List Top) (handled : ℕ) (after : PassState) (cause : Cause) : Type 0 where
+pub record RefusalIsDue (lane : Lane) (records : List Top) (handled : ℕ) (after : PassState) (cause : CallRefused) : Type 0 where
   pub before : PassState
   pub stands : ListsStand records handled (handled + 1) lane.ids (lists_of lane) before
   pub refusal : RefusalLeaves records handled before after cause
@@ -128,7 +124,7 @@ pub record RefusalIsDue (lane : Lane) (records : List Top) (handled : ℕ) (afte
   pub tried : IsTried records lane.declared.items (record { index = handled; cause = cause })
 
 -- what the channel of the message at hand came to: an id, or the message is refused
-abbrev pub ChannelFound : Lane → List Top → ℕ → ℕ → PassState → Result ℕ Cause → Type 0
+abbrev pub ChannelFound : Lane → List Top → ℕ → ℕ → PassState → Result ℕ CallRefused → Type 0
 ChannelFound lane records handled source pass (Ok id) = DeclaredWithId records lane.declared.items source id × ListsStand records handled (handled + 1) lane.ids (lists_of lane) pass
 ChannelFound lane records handled source pass (Err cause) = RefusalIsDue lane records handled pass cause
 
@@ -161,33 +157,6 @@ MessageTaken lane records handled pass (Err over) = LaneOver lane records handle
 -- what a Message shows but for its channel
 abbrev pub fields_of : Message → MessageFields
 fields_of m = record { sequence = m.sequence; log_time = m.log_time; publish_time = m.publish_time; payload = m.payload.now }
-
--- ---- causes
-
--- where the buffer was full, as the pass found the intake; a call that answers so found it
-abbrev pub full_cause : ℕ → Option Found → Cause
-full_cause held None = causes.Memory
-full_cause held (Some found) = causes.Full held found.taken found.count
-
--- The cause of a refusal. That a channel isn't known never comes, since the pass gave the id; it would be told as no cause, and
--- the lists wouldn't fit.
-abbrev pub publish_cause : PublishRefused → Option Found → Cause
-publish_cause (publishing.TooLarge len) found = causes.TooLarge len
-publish_cause (publishing.Closed at) found = causes.Closed at
-publish_cause (publishing.Stopped at stop) found = causes.Stopped at stop
-publish_cause publishing.UnknownChannel found = causes.Memory
-publish_cause (publishing.TooManyRecords count) found = causes.TooManyRecords count
-publish_cause (publishing.Full held) found = full_cause held found
-
-abbrev pub declare_cause : DeclareRefused → Option Found → Cause
-declare_cause (declaring.TooLarge len) found = causes.TooLarge len
-declare_cause (declaring.Closed at) found = causes.Closed at
-declare_cause (declaring.Stopped at stop) found = causes.Stopped at stop
-declare_cause (declaring.TooManyRecords count) found = causes.TooManyRecords count
-declare_cause (declaring.Full held) found = full_cause held found
-declare_cause declaring.TooManySchemas found = causes.TooManySchemas
-declare_cause declaring.TooManyChannels found = causes.TooManyChannels
-declare_cause declaring.Memory found = causes.Memory
 
 -- ---- a lane's own steps
 

@@ -6,7 +6,8 @@ use Rattle.mcap_model.specs.declared.ends.End.{End}
 use Rattle.mcap_model.specs.declared.ends.End.TheVariants.{Stopped}
 use Rattle.mcap_model.specs.declared.ends.Stop.TheVariants.{Memory}
 use Rattle.record_core.specs.declared.answers.Found.{Found}
-use Rattle.feed_lane.specs.Pass.{Reason, PassState, with_places}
+use Rattle.record_core.specs.declared.answers.CallRefused.{CallRefused}
+use Rattle.feed_lane.specs.Pass.{PassState, with_places}
 
 -- channels, each with its id
 abbrev pub numbered_from : ℕ → List ChannelDef → List (ℕ × ChannelDef)
@@ -26,5 +27,5 @@ abbrev pub found_when : Bool → ℕ → ℕ → Bool → Option Found
 found_when true count channels ended = Some (found_now count channels ended)
 found_when false count channels ended = None
 
-abbrev pub tape_pass : List Rec → List ChannelDef → List Reason → Option Found → PassState
+abbrev pub tape_pass : List Rec → List ChannelDef → List CallRefused → Option Found → PassState
 tape_pass records channels reasons found = record { own = with_places 0 records; named = numbered_from 1 channels; fulls = []; lacks = []; reasons = reasons; found = found; limit = 1 }

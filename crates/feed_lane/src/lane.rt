@@ -11,19 +11,19 @@ ghost use Rattle.feed_lane.specs.Kept.{no_schema, IsKnown, KnownBehind};
 ghost use Rattle.feed_lane.specs.Lanes.{messages, IsOn, DeclaresContent};
 ghost use Rattle.record_core.specs.Sights.{DefFits};
 ghost use Rattle.feed_lane.specs.Sizes.{IsLength};
-ghost use Rattle.feed_lane.specs.Steps.{lists_of, IdsStand, LaneStands, ListsStand, Roomy, KeepsLists, KeepsAs, AreKnown, AtHand, RefusalIsDue, DeclaredWithId, ThenShows, ChannelFound, MessageTaken, publish_cause as cause_of_publishing, declare_cause as cause_of_declaring, full_cause as cause_of_full, fields_of};
+ghost use Rattle.feed_lane.specs.Steps.{lists_of, IdsStand, LaneStands, ListsStand, Roomy, KeepsLists, KeepsAs, AreKnown, AtHand, RefusalIsDue, DeclaredWithId, ThenShows, ChannelFound, MessageTaken, fields_of};
 ghost use Rattle.feed_lane.specs.Causes.{goes_on as goes_on_behind};
 
 use crate::describing::{definition_over, excess};
 use crate::ids::Ids;
 use crate::pass::Pass;
 use crate::refused_list::Refusals;
-use crate::report::{Accepted, Cause, DeclaredAt, Refused};
+use crate::report::{Accepted, DeclaredAt, Refused};
 use listing::Listing;
 use mcap_model::Tables;
 use mcap_wire::Memory;
 use rec_data::{ChannelDef, Message};
-use record_core::{DeclareRefused, Declared, Found, NewMessage, PublishRefused};
+use record_core::{CallRefused, Declared, NewMessage};
 use std::alloc::Global;
 
 /// What a lane has done: the ids that the feed's channels got, what became of each message, and how many records were passed
@@ -47,57 +47,13 @@ pub(crate) enum Over {
 }
 
 // Whether the lane goes on behind a message that was refused for that.
-fn goes_on(cause: Cause) -> bool
+fn goes_on(cause: CallRefused) -> bool
     ensures { result ≡ goes_on_behind cause }
 {
-    !matches!(cause, Cause::Closed { .. } | Cause::Stopped { .. })
-}
-
-// A full buffer as it was found.
-fn full_cause(held: u64, found: Option<Found>) -> Cause
-    ensures { result ≡ cause_of_full held found }
-{
-    match found {
-        None => return Cause::Memory,
-        Some(found) => {
-            return Cause::Full {
-                held,
-                from: found.taken,
-                to: found.count,
-            };
-        }
-    }
-}
-
-// Why a message is refused that wasn't accepted. That its channel isn't known never comes, since the pass gave the id
-// (`laws::channels_are_known`).
-fn publish_cause(refusal: PublishRefused, found: Option<Found>) -> Cause
-    ensures { result ≡ cause_of_publishing refusal found }
-{
-    match refusal {
-        PublishRefused::TooLarge { len } => return Cause::TooLarge { len },
-        PublishRefused::Closed { at } => return Cause::Closed { at },
-        PublishRefused::Stopped { at, stop } => return Cause::Stopped { at, stop },
-        PublishRefused::UnknownChannel => return Cause::Memory,
-        PublishRefused::TooManyRecords { count } => return Cause::TooManyRecords { count },
-        PublishRefused::Full { held } => return full_cause(held, found),
-    }
-}
-
-// Why a message is refused whose channel wasn't declared.
-fn declare_cause(refusal: DeclareRefused, found: Option<Found>) -> Cause
-    ensures { result ≡ cause_of_declaring refusal found }
-{
-    match refusal {
-        DeclareRefused::TooLarge { len } => return Cause::TooLarge { len },
-        DeclareRefused::Closed { at } => return Cause::Closed { at },
-        DeclareRefused::Stopped { at, stop } => return Cause::Stopped { at, stop },
-        DeclareRefused::TooManyRecords { count } => return Cause::TooManyRecords { count },
-        DeclareRefused::Full { held } => return full_cause(held, found),
-        DeclareRefused::TooManySchemas => return Cause::TooManySchemas,
-        DeclareRefused::TooManyChannels => return Cause::TooManyChannels,
-        DeclareRefused::Memory => return Cause::Memory,
-    }
+    !matches!(
+        cause,
+        CallRefused::Closed { .. } | CallRefused::Stopped { .. }
+    )
 }
 
 // Lists one more, for which there is room.
@@ -116,7 +72,7 @@ fn declare_to<P: Pass>(
     pass: &mut P,
     channel: &ChannelDef,
     known: bool,
-) -> Result<Declared, DeclareRefused>
+) -> Result<Declared, CallRefused>
     requires fits { DefFits channel.now }
     requires known { known ≡ true → P.knows pass.old channel.now.schema }
     ensures shows { (begun : P) (before : PassState) → P.since begun pass.old before
@@ -130,7 +86,7 @@ fn declare_to<P: Pass>(
 }
 
 // Whether the pass knows a channel's schema behind its declaration.
-fn knows_behind(known: bool, answer: &Result<u16, Cause>) -> bool
+fn knows_behind(known: bool, answer: &Result<u16, CallRefused>) -> bool
     ensures { result ≡ true → KnownBehind known answer.now }
 {
     match answer {
@@ -190,7 +146,7 @@ impl Lane {
     }
 
     // Lists the message at hand as refused. That the intake has ended ends the lane.
-    fn refuse(&mut self, cause: Cause) -> Result<(), Over>
+    fn refuse(&mut self, cause: CallRefused) -> Result<(), Over>
         requires { length self.old.refused.items + 1 ≤ self.old.refused.capacity }
         ensures taken { (records : List Top) (handled : ℕ) (pass : PassState) → RefusalIsDue self.old records handled pass cause
             → MessageTaken self.new records handled pass result }
@@ -206,7 +162,8 @@ impl Lane {
         return Err(Over::Ended);
     }
 
-    // Publishes the message at hand on the channel that got that id.
+    // Publishes the message at hand on the channel that got that id, so that its channel is known
+    // (`laws::channels_are_known`).
     fn publish<P: Pass>(&mut self, id: u16, m: &Message<'_>, pass: &mut P) -> Result<(), Over>
         requires accepted { length self.old.accepted.items + 1 ≤ self.old.accepted.capacity }
         requires refused { length self.old.refused.items + 1 ≤ self.old.refused.capacity }
@@ -231,10 +188,7 @@ impl Lane {
                 self.accepted.push(Accepted { index, place });
                 return Ok(());
             }
-            Err(refusal) => {
-                let cause = publish_cause(refusal, pass.found());
-                return self.refuse(cause);
-            }
+            Err(refusal) => return self.refuse(refusal),
         }
     }
 
@@ -268,7 +222,7 @@ impl Lane {
         tables: &Tables,
         source: u16,
         pass: &mut P,
-    ) -> Result<u16, Cause>
+    ) -> Result<u16, CallRefused>
         requires room { vec_len self.old.declared + 1 ≤ vec_capacity self.old.declared }
         requires knows { IsKnown (P.knows pass.old) self.old.ids.kept }
         ensures knows { IsKnown (P.knows pass.new) self.new.ids.kept }
@@ -280,7 +234,7 @@ impl Lane {
         ensures refused { self.new.refused ≡ self.old.refused }
     {
         match self.excess_of(tables, source) {
-            Some(len) => return Err(Cause::TooLarge { len }),
+            Some(len) => return Err(CallRefused::TooLarge { len }),
             None => {}
         }
         let kept = self.ids.take_schema();
@@ -292,7 +246,7 @@ impl Lane {
                 self.ids.keep_schema(described.into_schema(known));
                 return found;
             }
-            Err(_) => return Err(Cause::Memory),
+            Err(_) => return Err(CallRefused::Memory),
         }
     }
 
@@ -304,7 +258,7 @@ impl Lane {
         channel: &ChannelDef,
         known: bool,
         pass: &mut P,
-    ) -> Result<u16, Cause>
+    ) -> Result<u16, CallRefused>
         requires room { vec_len self.old.declared + 1 ≤ vec_capacity self.old.declared }
         requires fits { DefFits channel.now }
         requires known { known ≡ true → P.knows pass.old channel.now.schema }
@@ -328,7 +282,7 @@ impl Lane {
                 self.ids.set(source, given.channel);
                 return Ok(given.channel);
             }
-            Err(refusal) => return Err(declare_cause(refusal, pass.found())),
+            Err(refusal) => return Err(refusal),
         }
     }
 
@@ -339,7 +293,7 @@ impl Lane {
         tables: &Tables,
         source: u16,
         pass: &mut P,
-    ) -> Result<u16, Cause>
+    ) -> Result<u16, CallRefused>
         requires room { vec_len self.old.declared + 1 ≤ vec_capacity self.old.declared }
         requires knows { IsKnown (P.knows pass.old) self.old.ids.kept }
         ensures knows { IsKnown (P.knows pass.new) self.new.ids.kept }

@@ -16,4 +16,4 @@ pub use describing::definition;
 pub use feed::publish_feed;
 pub use pass::Pass;
 pub use refused_list::Refusals;
-pub use report::{Accepted, Cause, DeclaredAt, FeedEnd, FeedReport, Refused};
+pub use report::{Accepted, DeclaredAt, FeedEnd, FeedReport, Refused};

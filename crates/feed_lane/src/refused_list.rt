@@ -4,9 +4,10 @@ ghost use Rattle.std.specs.List.{list_any};
 ghost use Rattle.listing.specs.Listings.{most_counted};
 ghost use Rattle.feed_lane.specs.Causes.{is_over, is_memory, is_memory_stop};
 
-use crate::report::{Cause, Refused};
+use crate::report::Refused;
 use listing::Listing;
 use mcap_model::Stop;
+use record_core::CallRefused;
 use std::alloc::{AllocError, Global};
 use std::marker::Model;
 
@@ -35,15 +36,19 @@ impl Model for Refusals {
 }
 
 // Whether that is a limit of what is recorded.
-fn is_limit(cause: Cause) -> bool
+fn is_limit(cause: CallRefused) -> bool
     ensures { result ≡ is_over cause }
 {
     match cause {
-        Cause::TooLarge { .. }
-        | Cause::TooManySchemas
-        | Cause::TooManyChannels
-        | Cause::TooManyRecords { .. } => true,
-        Cause::Full { .. } | Cause::Closed { .. } | Cause::Stopped { .. } | Cause::Memory => false,
+        CallRefused::TooLarge { .. }
+        | CallRefused::TooManySchemas
+        | CallRefused::TooManyChannels
+        | CallRefused::TooManyRecords { .. } => true,
+        CallRefused::Full { .. }
+        | CallRefused::Closed { .. }
+        | CallRefused::Stopped { .. }
+        | CallRefused::UnknownChannel
+        | CallRefused::Memory => false,
     }
 }
 
@@ -58,18 +63,19 @@ fn is_stop_for_memory(stop: Stop) -> bool
 }
 
 // Whether that is a want of memory.
-fn is_lack(cause: Cause) -> bool
+fn is_lack(cause: CallRefused) -> bool
     ensures { result ≡ is_memory cause }
 {
     match cause {
-        Cause::Memory => true,
-        Cause::Stopped { stop, .. } => is_stop_for_memory(stop),
-        Cause::Full { .. }
-        | Cause::TooLarge { .. }
-        | Cause::Closed { .. }
-        | Cause::TooManySchemas
-        | Cause::TooManyChannels
-        | Cause::TooManyRecords { .. } => false,
+        CallRefused::Memory => true,
+        CallRefused::Stopped { stop, .. } => is_stop_for_memory(stop),
+        CallRefused::Full { .. }
+        | CallRefused::TooLarge { .. }
+        | CallRefused::Closed { .. }
+        | CallRefused::UnknownChannel
+        | CallRefused::TooManySchemas
+        | CallRefused::TooManyChannels
+        | CallRefused::TooManyRecords { .. } => false,
     }
 }
 

@@ -1,7 +1,8 @@
 //! What the lane of a feed came to.
 use crate::refused_list::Refusals;
 use listing::Listing;
-use mcap_model::{ReadingRefused, Stop};
+use mcap_model::ReadingRefused;
+use record_core::CallRefused;
 
 /// A message that was recorded: its number in the feed, and its place among the recorded records.
 #[derive(Clone, Copy)]
@@ -20,32 +21,11 @@ pub struct DeclaredAt {
     pub count: u8,
 }
 
-/// Why a message was not recorded.
-#[derive(Clone, Copy, Debug)]
-pub enum Cause {
-    /// The buffer was full: it held these bytes, the records at the places from `from` to before `to`.
-    Full { held: u64, from: u64, to: u64 },
-    /// The message's data is longer than a message may have, or its channel's records than a declaration may have.
-    TooLarge { len: u64 },
-    /// The intake was closed at that place.
-    Closed { at: u64 },
-    /// The intake was stopped at that place.
-    Stopped { at: u64, stop: Stop },
-    /// No more schemas get an id.
-    TooManySchemas,
-    /// No more channels get an id.
-    TooManyChannels,
-    /// No more records are accepted.
-    TooManyRecords { count: u64 },
-    /// Memory lacked.
-    Memory,
-}
-
 /// A message that was not recorded: its number in the feed, and why.
 #[derive(Clone, Copy)]
 pub struct Refused {
     pub index: u64,
-    pub cause: Cause,
+    pub cause: CallRefused,
 }
 
 /// How the reading of a feed ended. Offsets count from the feed's first byte.

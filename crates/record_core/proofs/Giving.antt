@@ -17,8 +17,8 @@ use Rattle.id_table.specs.declared.given.Given.TheVariants.{Known, New}
 use Rattle.id_table.specs.declared.given.GivenIds.{GivenIds}
 use Rattle.id_table.specs.declared.given.IdRefused.{IdRefused}
 use Rattle.id_table.specs.declared.given.IdRefused.TheVariants.{TooManySchemas, TooManyChannels, Memory}
-use Rattle.record_core.specs.declared.answers.DeclareRefused.{DeclareRefused}
-use Rattle.record_core.specs.declared.answers.DeclareRefused.TheVariants as declaring
+use Rattle.record_core.specs.declared.answers.CallRefused.{CallRefused}
+use Rattle.record_core.specs.declared.answers.CallRefused.TheVariants as refusing
 use Rattle.record_core.specs.Ids.{Ids, schemas_in, channels_in, with_ids, same_schema, fields_of_channel, schema_place, id_at, schema_id, channel_place, channel_id, new_schema_at, new_schema, new_at, new_records}
 use Rattle.record_core.specs.DeclarationFields.{fields_of_schema, fields_with}
 use Rattle.record_core.specs.Tables.{content_in, ids_in, SchemaHasId, HasSchemas, GivesAt, GivesSchema, GivesIds, schemas_lack, ids_lack, IdsDeclared, id_given, id_of, schema_with}
@@ -236,8 +236,8 @@ channels_enough t c true is none enough =
     let many = leb-true 65535 (length (contents t)) is in
     absurd (enough (channel_missed t c none, omega (arith, many, length-map t.channels (content_in (map fields_of_schema t.schemas)))))
 
-abbrev lack_by : Bool → Bool → Option DeclareRefused
-lack_by schemas channels = if schemas then Some declaring.TooManySchemas else (if channels then Some declaring.TooManyChannels else None)
+abbrev lack_by : Bool → Bool → Option CallRefused
+lack_by schemas channels = if schemas then Some refusing.TooManySchemas else (if channels then Some refusing.TooManyChannels else None)
 
 lack_is : (ids : Ids) (c : ChannelDef) (a b : Bool) → schemas_lack ids c.schema ≡ a → nat_le 65535 (length ids.channels) ≡ b → ids_lack ids c ≡ lack_by a b
 lack_is ids c a b one other = ap (λ (x : Bool). lack_by x (nat_le 65535 (length ids.channels))) one ∙ ap (lack_by a) other

@@ -11,15 +11,13 @@ use Rattle.mcap_model.specs.Fields.{MessageFields}
 use Rattle.mcap_model.specs.History.{message_of, history_bytes}
 use Rattle.record_core.specs.Ids.{Ids, no_ids, with_ids, is_known_channel, channel_place, channel_id, new_records}
 use Rattle.record_core.specs.Tables.{ids_lack}
-use Rattle.record_core.specs.declared.answers.PublishRefused.{PublishRefused}
-use Rattle.record_core.specs.declared.answers.PublishRefused.TheVariants as publishing
+use Rattle.record_core.specs.declared.answers.CallRefused.{CallRefused}
+use Rattle.record_core.specs.declared.answers.CallRefused.TheVariants as refusing
 use Rattle.record_core.specs.declared.answers.Declared.{Declared}
 use Rattle.record_core.specs.declared.answers.Empty.{Empty}
 use Rattle.record_core.specs.declared.answers.Found.{Found}
 use Rattle.record_core.specs.declared.answers.NewMessage.{NewMessage}
 use Rattle.record_cache.specs.Buffers.{Buffer}
-use Rattle.record_core.specs.declared.answers.DeclareRefused.{DeclareRefused}
-use Rattle.record_core.specs.declared.answers.DeclareRefused.TheVariants as declaring
 use Rattle.record_core.specs.DeclarationFields.{declared_size}
 
 -- ---- the desk
@@ -63,58 +61,70 @@ ended d end = record d { end = end_unless d.end end (accepted d) }
 -- ---- publishing
 
 -- why a message is refused where nothing before these reasons refuses it
-abbrev pub publish_open : DeskView → ℕ → Option PublishRefused
+abbrev pub publish_open : DeskView → ℕ → Option CallRefused
 publish_open d channel =
     if is_known_channel d.ids channel
-    then (if nat_le record_count_limit (accepted d) then Some (publishing.TooManyRecords (accepted d))
-    else (if nat_le d.limit (bytes_held d) then Some (publishing.Full (bytes_held d)) else None))
-    else Some publishing.UnknownChannel
+    then (if nat_le record_count_limit (accepted d) then Some (refusing.TooManyRecords (accepted d))
+    else (if nat_le d.limit (bytes_held d) then Some (refusing.Full (bytes_held d) d.taken (accepted d)) else None))
+    else Some refusing.UnknownChannel
 
-abbrev pub publish_ended : Option (End × ℕ) → DeskView → ℕ → Option PublishRefused
+abbrev pub publish_ended : Option (End × ℕ) → DeskView → ℕ → Option CallRefused
 publish_ended None d channel = publish_open d channel
-publish_ended (Some (Closed, at)) d channel = Some (publishing.Closed at)
-publish_ended (Some (Stopped reason, at)) d channel = Some (publishing.Stopped at reason)
+publish_ended (Some (Closed, at)) d channel = Some (refusing.Closed at)
+publish_ended (Some (Stopped reason, at)) d channel = Some (refusing.Stopped at reason)
 
 -- the first reason to refuse a message with so many bytes of data
-abbrev pub publish_refusal : DeskView → ℕ → ℕ → Option PublishRefused
-publish_refusal d channel len = if nat_lt data_limit len then Some (publishing.TooLarge len) else publish_ended d.end d channel
+abbrev pub publish_refusal : DeskView → ℕ → ℕ → Option CallRefused
+publish_refusal d channel len = if nat_lt data_limit len then Some (refusing.TooLarge len) else publish_ended d.end d channel
 
 -- ---- declaring
 
-abbrev pub declare_new : DeskView → ChannelDef → Option DeclareRefused
+abbrev pub declare_new : DeskView → ChannelDef → Option CallRefused
 declare_new d c =
-    if nat_le record_count_limit (accepted d) then Some (declaring.TooManyRecords (accepted d))
-    else (if nat_le d.limit (bytes_held d) then Some (declaring.Full (bytes_held d)) else ids_lack d.ids c)
+    if nat_le record_count_limit (accepted d) then Some (refusing.TooManyRecords (accepted d))
+    else (if nat_le d.limit (bytes_held d) then Some (refusing.Full (bytes_held d) d.taken (accepted d)) else ids_lack d.ids c)
 
-abbrev pub declare_at : Option ℕ → DeskView → ChannelDef → Option DeclareRefused
+abbrev pub declare_at : Option ℕ → DeskView → ChannelDef → Option CallRefused
 declare_at (Some place) d c = None
 declare_at None d c = declare_new d c
 
-abbrev pub declare_ended : Option (End × ℕ) → DeskView → ChannelDef → Option DeclareRefused
+abbrev pub declare_ended : Option (End × ℕ) → DeskView → ChannelDef → Option CallRefused
 declare_ended None d c = declare_at (channel_place d.ids c) d c
-declare_ended (Some (Closed, at)) d c = Some (declaring.Closed at)
-declare_ended (Some (Stopped reason, at)) d c = Some (declaring.Stopped at reason)
+declare_ended (Some (Closed, at)) d c = Some (refusing.Closed at)
+declare_ended (Some (Stopped reason, at)) d c = Some (refusing.Stopped at reason)
 
 -- the first reason to refuse a declaration
-abbrev pub declare_refusal : DeskView → ChannelDef → Option DeclareRefused
-declare_refusal d c = if nat_lt declaration_limit (declared_size c) then Some (declaring.TooLarge (declared_size c)) else declare_ended d.end d c
+abbrev pub declare_refusal : DeskView → ChannelDef → Option CallRefused
+declare_refusal d c = if nat_lt declaration_limit (declared_size c) then Some (refusing.TooLarge (declared_size c)) else declare_ended d.end d c
 
 -- ---- what the calls answer
+
+-- why a message may be refused: no id is given to it, and no memory needed for it
+abbrev pub IsForMessage : CallRefused → Type 0
+IsForMessage refusing.TooManySchemas = ⊥
+IsForMessage refusing.TooManyChannels = ⊥
+IsForMessage refusing.Memory = ⊥
+IsForMessage refusal = Unit {0}
+
+-- why a declaration may be refused: it names no channel by its id
+abbrev pub IsForDeclaration : CallRefused → Type 0
+IsForDeclaration refusing.UnknownChannel = ⊥
+IsForDeclaration refusal = Unit {0}
 
 abbrev pub fields_of_message : NewMessage → MessageFields
 fields_of_message m = record { sequence = m.sequence; log_time = m.log_time; publish_time = m.publish_time; payload = m.payload.now }
 
 -- A message is refused for the first reason that there is, and then nothing changes, or it is added and its place answered.
-abbrev pub Published : DeskView → ℕ → MessageFields → Result ℕ PublishRefused → DeskView → Type 0
+abbrev pub Published : DeskView → ℕ → MessageFields → Result ℕ CallRefused → DeskView → Type 0
 Published d channel m (Ok place) after = (publish_refusal d channel (length m.payload) ≡ None) × (place ≡ accepted d) × (after ≡ with_more_records d (message_of channel m ∷ []))
 Published d channel m (Err refusal) after = (publish_refusal d channel (length m.payload) ≡ Some refusal) × (after ≡ d)
 
 -- The same of a declaration, which answers the channel's id and the places of the records that are added. Memory for the ids
 -- of a new content may lack, only where there is no other reason, and then too nothing changes.
-abbrev pub DeclaredBy : DeskView → ChannelDef → Result Declared DeclareRefused → DeskView → Type 0
+abbrev pub DeclaredBy : DeskView → ChannelDef → Result Declared CallRefused → DeskView → Type 0
 DeclaredBy d c (Ok given) after = (declare_refusal d c ≡ None) × (given.channel ≡ channel_id d.ids c) × (given.first ≡ accepted d)
     × (given.count ≡ length (new_records d.ids c)) × (after ≡ with_more_records d (new_records d.ids c))
-DeclaredBy d c (Err declaring.Memory) after = (declare_refusal d c ≡ None) × (channel_place d.ids c ≡ None) × (after ≡ d)
+DeclaredBy d c (Err refusing.Memory) after = (declare_refusal d c ≡ None) × (channel_place d.ids c ≡ None) × (after ≡ d)
 DeclaredBy d c (Err refusal) after = (declare_refusal d c ≡ Some refusal) × (after ≡ d)
 
 -- the end, if one stands

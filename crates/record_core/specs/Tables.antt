@@ -9,8 +9,8 @@ use Rattle.mcap_model.specs.Fields.{SchemaFields, ChannelFields}
 use Rattle.mcap_model.specs.Places.{At, Has, Each}
 use Rattle.record_core.specs.Ids.{Ids, with_ids, fields_of_channel, schema_place, channel_place, new_schema, new_records}
 use Rattle.record_core.specs.DeclarationFields.{fields_of_schema}
-use Rattle.record_core.specs.declared.answers.DeclareRefused.{DeclareRefused}
-use Rattle.record_core.specs.declared.answers.DeclareRefused.TheVariants as declaring
+use Rattle.record_core.specs.declared.answers.CallRefused.{CallRefused}
+use Rattle.record_core.specs.declared.answers.CallRefused.TheVariants as refusing
 use Rattle.id_table.specs.Ids as tables
 use Rattle.id_table.specs.declared.given.Given.{Given}
 use Rattle.id_table.specs.declared.given.Given.TheVariants.{Known, New}
@@ -68,17 +68,17 @@ abbrev pub schemas_lack : Ids → Option SchemaDef → Bool
 schemas_lack ids schema = nat_lt 0 (length (new_schema ids schema)) && nat_le id_limit (length ids.schemas)
 
 -- why no ids are given to a new channel: a new one is needed and 65,535 are given
-abbrev pub ids_lack : Ids → ChannelDef → Option DeclareRefused
+abbrev pub ids_lack : Ids → ChannelDef → Option CallRefused
 ids_lack ids c =
-    if schemas_lack ids c.schema then Some declaring.TooManySchemas
-    else (if nat_le id_limit (length ids.channels) then Some declaring.TooManyChannels else None)
+    if schemas_lack ids c.schema then Some refusing.TooManySchemas
+    else (if nat_le id_limit (length ids.channels) then Some refusing.TooManyChannels else None)
 
 -- ids are given to a channel that is new, or nothing changes
 abbrev pub IdsDeclared : Ids → ChannelDef → Result GivenIds IdRefused → Ids → Type 0
 IdsDeclared ids c (Ok given) after = (ids_lack ids c ≡ None) × GivesIds ids c given × (after ≡ with_ids ids (new_records ids c))
 IdsDeclared ids c (Err Memory) after = (ids_lack ids c ≡ None) × (after ≡ ids)
-IdsDeclared ids c (Err TooManySchemas) after = (ids_lack ids c ≡ Some declaring.TooManySchemas) × (after ≡ ids)
-IdsDeclared ids c (Err TooManyChannels) after = (ids_lack ids c ≡ Some declaring.TooManyChannels) × (after ≡ ids)
+IdsDeclared ids c (Err TooManySchemas) after = (ids_lack ids c ≡ Some refusing.TooManySchemas) × (after ≡ ids)
+IdsDeclared ids c (Err TooManyChannels) after = (ids_lack ids c ≡ Some refusing.TooManyChannels) × (after ≡ ids)
 
 -- how many ids there are at most
 pub record HasFewIds (ids : Ids) : Type 0 where

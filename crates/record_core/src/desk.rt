@@ -1,18 +1,18 @@
 //! The desk: records are accepted into a buffer, and ids are given by content.
-ghost use Rattle.std.specs.Prelude.{◌≡◌, ◌≤◌, ◌<◌, ◌+◌, [], ◌∷◌, length, None, true, IfOk, OnOk};
+ghost use Rattle.std.specs.Prelude.{◌≡◌, ◌≤◌, ◌<◌, ◌+◌, [], ◌∷◌, length, None, true, IfOk, IfErr, OnOk};
 ghost use Rattle.mcap_wire.specs.Limits.{data_limit, record_count_limit};
 ghost use Rattle.mcap_wire.specs.RecordingLimits.{buffer_limit};
 ghost use Rattle.mcap_model.specs.declared.ends.End.TheVariants.{Closed, Stopped};
 ghost use Rattle.record_core.specs.Ids.{is_known_channel};
 ghost use Rattle.record_core.specs.Tables.{HasFewIds, MayShare};
-ghost use Rattle.record_core.specs.Desk.{new_desk, accepted, bytes_held, with_more_records, swapped, ended, fields_of_message, publish_refusal, Published, SwapAnswered, EndIsLast, EndIsSetAt, IsCause, desk_end, found_of, DeclaredBy};
+ghost use Rattle.record_core.specs.Desk.{new_desk, accepted, bytes_held, with_more_records, swapped, ended, fields_of_message, publish_refusal, IsForMessage, IsForDeclaration, Published, SwapAnswered, EndIsLast, EndIsSetAt, IsCause, desk_end, found_of, DeclaredBy};
 ghost use Rattle.mcap_model.specs.History.{message_of};
 ghost use Rattle.record_cache.specs.Offers.{Offered};
 ghost use Rattle.record_core.specs.Machine.{start, swap, close, stop};
 ghost use Rattle.record_core.specs.Sights.{DefFits, OnlyIdsLack, SightOf};
 ghost use Rattle.record_core.specs.Stands.{DeskStandsFor, DeskSteps, Stays, PublishSteps, DeclareSteps};
 
-use crate::answers::{DeclareRefused, Declared, Empty, Found, NewMessage, PublishRefused};
+use crate::answers::{CallRefused, Declared, Empty, Found, NewMessage};
 use crate::framing::{declared_size, offer_declared};
 use crate::ids::{give_ids_sharing, id_of_channel, number_of};
 use crate::limits::{DATA_LIMIT, DECLARATION_LIMIT, RECORD_COUNT_LIMIT};
@@ -50,7 +50,7 @@ impl Model for Desk {
 // What is seen of a declaration before ids are given.
 #[derive(Clone, Copy)]
 enum Sight {
-    Refused(DeclareRefused),
+    Refused(CallRefused),
     Known(u16),
     New,
 }
@@ -104,33 +104,38 @@ impl Desk {
     }
 
     // The first reason to refuse a message.
-    fn publish_refusal(&self, channel: u16, len: u64) -> Option<PublishRefused>
+    fn publish_refusal(&self, channel: u16, len: u64) -> Option<CallRefused>
         ensures { result ≡ publish_refusal self.now channel len }
     {
         if len > DATA_LIMIT {
-            return Some(PublishRefused::TooLarge { len });
+            return Some(CallRefused::TooLarge { len });
         }
         match self.end {
-            Some((End::Closed, at)) => return Some(PublishRefused::Closed { at }),
-            Some((End::Stopped { stop }, at)) => return Some(PublishRefused::Stopped { at, stop }),
+            Some((End::Closed, at)) => return Some(CallRefused::Closed { at }),
+            Some((End::Stopped { stop }, at)) => return Some(CallRefused::Stopped { at, stop }),
             None => {}
         }
         if channel == 0 || channel as u32 > self.ids.channels() {
-            return Some(PublishRefused::UnknownChannel);
+            return Some(CallRefused::UnknownChannel);
         }
         let count = self.count();
         if count >= RECORD_COUNT_LIMIT {
-            return Some(PublishRefused::TooManyRecords { count });
+            return Some(CallRefused::TooManyRecords { count });
         }
         let held = self.held();
         if held >= self.limit() {
-            return Some(PublishRefused::Full { held });
+            let from = self.taken;
+            return Some(CallRefused::Full {
+                held,
+                from,
+                to: count,
+            });
         }
         None
     }
 
     // Adds a message, unless it is refused.
-    fn accept(&mut self, m: &NewMessage<'_>) -> Result<u64, PublishRefused>
+    fn accept(&mut self, m: &NewMessage<'_>) -> Result<u64, CallRefused>
         ensures answer { Published self.old m.now.channel (fields_of_message m.now) result self.new }
         ensures last { EndIsLast self.old }
     {
@@ -145,9 +150,10 @@ impl Desk {
         }
     }
 
-    /// Adds a message, and answers its place. Where it is refused nothing changes.
-    pub fn publish(&mut self, m: &NewMessage<'_>) -> Result<u64, PublishRefused>
+    /// Adds a message, and answers its place. Where it is refused nothing changes; no id and no memory ever lacks for it.
+    pub fn publish(&mut self, m: &NewMessage<'_>) -> Result<u64, CallRefused>
         ensures answer { Published self.old m.now.channel (fields_of_message m.now) result self.new }
+        ensures reasons { IfErr result IsForMessage }
         ensures steps { PublishSteps self.old m.now.channel (fields_of_message m.now) self.new }
         ensures unended { OnOk result (self.old.end ≡ None) }
         ensures known { OnOk result (is_known_channel self.old.ids m.now.channel ≡ true) }
@@ -164,12 +170,12 @@ impl Desk {
     {
         let len = declared_size(channel);
         if len > DECLARATION_LIMIT {
-            return Sight::Refused(DeclareRefused::TooLarge { len });
+            return Sight::Refused(CallRefused::TooLarge { len });
         }
         match self.end {
-            Some((End::Closed, at)) => return Sight::Refused(DeclareRefused::Closed { at }),
+            Some((End::Closed, at)) => return Sight::Refused(CallRefused::Closed { at }),
             Some((End::Stopped { stop }, at)) => {
-                return Sight::Refused(DeclareRefused::Stopped { at, stop });
+                return Sight::Refused(CallRefused::Stopped { at, stop });
             }
             None => {}
         }
@@ -179,17 +185,22 @@ impl Desk {
         }
         let count = self.count();
         if count >= RECORD_COUNT_LIMIT {
-            return Sight::Refused(DeclareRefused::TooManyRecords { count });
+            return Sight::Refused(CallRefused::TooManyRecords { count });
         }
         let held = self.held();
         if held >= self.limit() {
-            return Sight::Refused(DeclareRefused::Full { held });
+            let from = self.taken;
+            return Sight::Refused(CallRefused::Full {
+                held,
+                from,
+                to: count,
+            });
         }
         Sight::New
     }
 
     // Gives ids to a channel that is new, and adds its records.
-    fn give(&mut self, channel: &ChannelDef, like: Option<u16>) -> Result<Declared, DeclareRefused>
+    fn give(&mut self, channel: &ChannelDef, like: Option<u16>) -> Result<Declared, CallRefused>
         requires fits { DefFits channel.now }
         requires shares { MayShare self.old.ids channel.now.schema like }
         requires is_open { OnlyIdsLack self.old channel.now }
@@ -198,9 +209,9 @@ impl Desk {
         let first = self.count();
         let given = match give_ids_sharing(&mut self.ids, channel, like) {
             Ok(given) => given,
-            Err(IdRefused::TooManySchemas) => return Err(DeclareRefused::TooManySchemas),
-            Err(IdRefused::TooManyChannels) => return Err(DeclareRefused::TooManyChannels),
-            Err(IdRefused::Memory) => return Err(DeclareRefused::Memory),
+            Err(IdRefused::TooManySchemas) => return Err(CallRefused::TooManySchemas),
+            Err(IdRefused::TooManyChannels) => return Err(CallRefused::TooManyChannels),
+            Err(IdRefused::Memory) => return Err(CallRefused::Memory),
         };
         let id = number_of(&given.channel);
         match offer_declared(&mut self.primary, channel, &given.schema, id) {
@@ -220,7 +231,7 @@ impl Desk {
         &mut self,
         channel: &ChannelDef,
         like: Option<u16>,
-    ) -> Result<Declared, DeclareRefused>
+    ) -> Result<Declared, CallRefused>
         requires fits { DefFits channel.now }
         requires shares { MayShare self.old.ids channel.now.schema like }
         ensures { DeclaredBy self.old channel.now result self.new }
@@ -241,9 +252,10 @@ impl Desk {
     /// Gives ids to a channel and its schema by content, adds the records of those that are new, and answers the channel's
     /// id and the places of the records. Where it is refused nothing changes; memory may lack for the ids alone, and only
     /// where there is no other reason.
-    pub fn declare(&mut self, channel: &ChannelDef) -> Result<Declared, DeclareRefused>
+    pub fn declare(&mut self, channel: &ChannelDef) -> Result<Declared, CallRefused>
         requires { DefFits channel.now }
         ensures answer { DeclaredBy self.old channel.now result self.new }
+        ensures reasons { IfErr result IsForDeclaration }
         ensures steps { DeclareSteps self.old channel.now result self.new }
         ensures unended { OnOk result (self.old.end ≡ None) }
         ensures few { HasFewIds self.new.ids }
@@ -257,10 +269,11 @@ impl Desk {
         &mut self,
         channel: &ChannelDef,
         like: Option<u16>,
-    ) -> Result<Declared, DeclareRefused>
+    ) -> Result<Declared, CallRefused>
         requires fits { DefFits channel.now }
         requires shares { MayShare self.old.ids channel.now.schema like }
         ensures answer { DeclaredBy self.old channel.now result self.new }
+        ensures reasons { IfErr result IsForDeclaration }
         ensures steps { DeclareSteps self.old channel.now result self.new }
         ensures unended { OnOk result (self.old.end ≡ None) }
         ensures few { HasFewIds self.new.ids }

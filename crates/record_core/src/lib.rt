@@ -9,7 +9,7 @@ mod ids;
 pub mod laws;
 mod limits;
 
-pub use answers::{DeclareRefused, Declared, Empty, Found, NewMessage, PublishRefused};
+pub use answers::{CallRefused, Declared, Empty, Found, NewMessage};
 pub use desk::Desk;
 pub use framing::declared_size;
 pub use ids::{give_ids, id_of, id_of_channel, number_of};

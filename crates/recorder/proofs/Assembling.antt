@@ -11,7 +11,8 @@ use Rattle.mcap_model.specs.declared.ends.Stop.{Stop}
 use Rattle.mcap_model.specs.Places.{At, Has}
 use Rattle.mcap_model.proofs.Places.{at_none}
 use Rattle.record_core.specs.declared.answers.Found.{Found}
-use Rattle.feed_lane.specs.Pass.{PassState, Reason, with_places}
+use Rattle.record_core.specs.declared.answers.CallRefused.{CallRefused}
+use Rattle.feed_lane.specs.Pass.{PassState, with_places}
 use Rattle.feed_lane.specs.Lanes.{IsGiven}
 use Rattle.feed_lane.specs.Feeds.{reported}
 use Rattle.buffer_swap.specs.Shown.{ShownBy}
@@ -45,7 +46,7 @@ same_last : (end last e : End) (p : PassState) (f : Found) → Unclosed p → p.
 same_last end last ends.Closed p f unclosed is stops ended same = absurd (unclosed f is ended)
 same_last end last (ends.Stopped stop) p f unclosed is stops ended same = sym (stops stop (sym same))
 
-shown_by : (history : List Rec) (end last : End) (p : PassState) (reasons : List Reason) → ShownTo history end p → Unclosed p → ((stop : Stop) → end ≡ ends.Stopped stop → last ≡ ends.Stopped stop)
+shown_by : (history : List Rec) (end last : End) (p : PassState) (reasons : List CallRefused) → ShownTo history end p → Unclosed p → ((stop : Stop) → end ≡ ends.Stopped stop → last ≡ ends.Stopped stop)
     → ShownBy history last (reasoned p reasons)
 shown_by history end last p reasons shown unclosed stops = record {
   own = shown.own;

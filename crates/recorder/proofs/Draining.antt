@@ -23,7 +23,7 @@ use Rattle.feed_lane.specs.Pass.{PassState}
 use Rattle.feed_lane.specs.PassCalls.{Finds, with_found}
 use Rattle.buffer_swap.specs.Posts.{Post}
 use Rattle.buffer_swap.specs.Calls.{stopped_at}
-use Rattle.recorder.specs.Recorded.{end_answer}
+use Rattle.recorder.specs.Recorded.{answer_of}
 use Rattle.recorder.specs.Writing.{MayWrite, Continues, StopsWith, StopsIntake, SeenTape, WritesOn}
 use Rattle.recorder.specs.Onto.{phase_at}
 
@@ -61,7 +61,7 @@ rose_later : (first mid last : ℕ) → mid ≡ first → one_more mid ≤ last 
 rose_later first mid last before rose = omega (arith, before, rose)
 
 -- how far a tape has come once it was ended
-pub phase_so : (phase : Phase) (end : End) (result : Result Unit Stop) → end_answer end ≡ result → OnOk result (phase ≡ phases.Ended) → IfErr result (λ stop. phase ≡ phases.Stopped stop) → phase ≡ phase_at end
+pub phase_so : (phase : Phase) (end : End) (result : Result Unit Stop) → answer_of end ≡ result → OnOk result (phase ≡ phases.Ended) → IfErr result (λ stop. phase ≡ phases.Stopped stop) → phase ≡ phase_at end
 phase_so phase ends.Closed result same ended stopped = subst (λ (r : Result Unit Stop). OnOk r (phase ≡ phases.Ended)) (sym same) ended
 phase_so phase (ends.Stopped stop) result same ended stopped = subst (λ (r : Result Unit Stop). IfErr r (λ why. phase ≡ phases.Stopped why)) (sym same) stopped
 
@@ -146,9 +146,9 @@ module _ {T : Type 0} (phase : T → Phase) (failures : T → ℕ) (limit_met : 
 
   -- a tape that was ended has the reason of all
   pub ended_for : (first : ℕ) (p : Phase) (end : End) → phase tape ≡ p → Continues (limit_met tape) p first (failures tape)
-      → (phase tape ≡ phases.Going → EndsFor {X = Unit {0}} (failures tape) (failures later) (limit_met later) (end_answer end))
-      → ((stop : Stop) → phase tape ≡ phases.Stopped stop → (end_answer end ≡ Err stop) × (later ≡ tape)) → EndsFor {X = Unit {0}} first (failures later) (limit_met later) (end_answer end)
-  ended_for first phases.Going end is before goes kept = ends_later first (failures tape) (failures later) (limit_met later) (end_answer end) before (goes is)
+      → (phase tape ≡ phases.Going → EndsFor {X = Unit {0}} (failures tape) (failures later) (limit_met later) (answer_of end))
+      → ((stop : Stop) → phase tape ≡ phases.Stopped stop → (answer_of end ≡ Err stop) × (later ≡ tape)) → EndsFor {X = Unit {0}} first (failures later) (limit_met later) (answer_of end)
+  ended_for first phases.Going end is before goes kept = ends_later first (failures tape) (failures later) (limit_met later) (answer_of end) before (goes is)
   ended_for first (phases.Stopped stop) end is before goes kept =
       let (same, stays) = kept stop is in
       subst (λ (a : Result Unit Stop). EndsFor first (failures later) (limit_met later) a) (sym same)

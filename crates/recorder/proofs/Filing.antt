@@ -18,7 +18,7 @@ use Rattle.feed_lane.specs.Steps.{ListsMessages}
 use Rattle.recorder.specs.declared.options.RecordOptions.{RecordOptions}
 use Rattle.recorder.specs.declared.report.Report.{Report}
 use Rattle.recorder.specs.declared.report.WriterReport.{WriterReport}
-use Rattle.recorder.specs.Recorded.{end_answer, Sides, sides, WriterRecorded, Recorded}
+use Rattle.recorder.specs.Recorded.{answer_of, Sides, sides, WriterRecorded, Recorded}
 use Rattle.recorder.specs.Writing.{SeenTape, seen_tape}
 use Rattle.recorder.specs.Onto.{TapeIsWritten, IsAll, IsReported, tape_sides, RecordedOnto}
 
@@ -92,7 +92,7 @@ module _ {L X : Type 0} (state : L → LiveState) (tells : X → Option (List �
       let grown = written.grown in
       let closed = written.ended in
       let ended = closed.file options.file [] live history (grown.grown options.file [] live [] stands) in
-      let cause = scribe_cause state written.mid last (state (store_of first)).faults (phase_of written.mid) (end_answer w.end) refl (grown.cause going) closed.cause
+      let cause = scribe_cause state written.mid last (state (store_of first)).faults (phase_of written.mid) (answer_of w.end) refl (grown.cause going) closed.cause
       (λ stop stopped. let all = closed.kept stop stopped in (all.0, all.2)) in
       let writer : WriterRecorded options.file live (state (store_of last)) history w = record {
         records = all.records;
@@ -100,7 +100,7 @@ module _ {L X : Type 0} (state : L → LiveState) (tells : X → Option (List �
         within = closed.within;
         begun = inl ended.1;
         through = ended.2;
-        cause = subst (λ (n : ℕ). Cause {X = Unit {0}} n (state (store_of last)).faults (end_answer w.end)) still cause;
+        cause = subst (λ (n : ℕ). Cause {X = Unit {0}} n (state (store_of last)).faults (answer_of w.end)) still cause;
       } in
       subst (Recorded options before (sides now (state store))) (same_report is)
       (subst (λ (l : L). Recorded options before (sides now (state l)) report) (sym stored)

@@ -18,6 +18,7 @@ use Rattle.mcap_model.proofs.Readings.{length-top, halts_are_last}
 use Rattle.mcap_model.proofs.Histories.{recs_agree, numbered_ids_agree}
 use Rattle.mcap_model.proofs.Edges.{header_top}
 use Rattle.mcap_model.proofs.Section.{piece_tops, piece_spelled, pieces_spelled, IsBlock, each_parts}
+use Rattle.mcap_model.specs.declared.rules.Rule.TheVariants as rules
 use Rattle.mcap_laws.proofs.Leading.{spelled_once}
 use Rattle.mcap_laws.proofs.FirstPieces.{pieces_good, header_starts}
 use Rattle.live_entry.specs.Following.{Stored, Stretch, stretch_tops, all_tops, IsStretch, AreGood, placed_in}
@@ -119,7 +120,7 @@ module _ {X : Type 0} (tells : X → Option (List ℕ)) where
       let places : placed_in stored stretches ≡ placed (header ∷ body) = ap (placed_in stored) same ∙ placed_same start pieces stored blocks there ∙ ap (λ (n : ℕ). placed_from n body) (sym head) in
       record {
         tops = header ∷ body;
-        kept = halts_are_last bytes (header ∷ body) [] (grammar (offset_behind (header ∷ body)) 4) (front_stands profile pieces) good (inr (short_head refl));
+        kept = halts_are_last bytes (header ∷ body) [] (grammar (offset_behind (header ∷ body)) rules.V4) (front_stands profile pieces) good (inr (short_head refl));
         scan = λ messages. (
           (λ scan. subst (λ (l : List Placed). ScanOf l messages) (sym places) scan),
           (λ scan. subst (λ (l : List Placed). ScanOf l messages) places scan),

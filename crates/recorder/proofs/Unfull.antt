@@ -9,7 +9,7 @@ use Rattle.mcap_model.specs.Tops.{flat}
 use Rattle.mcap_model.specs.History.{history_bytes}
 use Rattle.mcap_model.proofs.Places.{at_none}
 use Rattle.feed_lane.specs.declared.report.FeedReport.{FeedReport}
-use Rattle.feed_lane.specs.declared.report.Cause.{Cause}
+use Rattle.record_core.specs.declared.answers.CallRefused.{CallRefused}
 use Rattle.feed_lane.specs.Pass.{FullAt}
 use Rattle.feed_lane.specs.Lanes.{CauseFits}
 use Rattle.buffer_swap.specs.Shown.{HeldThere}
@@ -39,7 +39,7 @@ bytes_within history from many =
 none_full : (f : FeedRecorded) → ((full : FullAt) → Has f.pass.fulls full → f.pass.limit ≤ full.held → ⊥) → RefusesNoneAsFull f.feed
 none_full f never n x at = λ held from to is.
     let fits = f.reports.fits.refuses n x at in
-    let there = subst (λ (cause : Cause). CauseFits (flat f.reports.tops) f.reports.handled f.pass x.index cause) is fits in
+    let there = subst (λ (cause : CallRefused). CauseFits (flat f.reports.tops) f.reports.handled f.pass x.index cause) is fits in
     never (record { from = from; to = to; held = held }) there.0 there.1
 
 each_report : (options : RecordOptions) (before now : Sides) (r : Report) (it : Recorded options before now r) → ((k : ℕ) (f : FeedRecorded) → At it.feeds k f → RefusesNoneAsFull f.feed) → Each RefusesNoneAsFull r.feeds.items

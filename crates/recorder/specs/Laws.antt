@@ -21,7 +21,7 @@ use Rattle.recorder.specs.declared.options.RecordOptions.{RecordOptions}
 use Rattle.recorder.specs.declared.report.Report.{Report}
 use Rattle.recorder.specs.Assembled.{LanePart, Assembled}
 use Rattle.feed_lane.specs.declared.report.FeedReport.{FeedReport}
-use Rattle.feed_lane.specs.declared.report.Cause.TheVariants as causes
+use Rattle.record_core.specs.declared.answers.CallRefused.TheVariants as refusing
 use Rattle.recorder.specs.Recorded.{Sides, Recorded, AreReadable}
 
 -- ---- recordings are read back
@@ -105,7 +105,7 @@ RecordingsAreGiven = (all : List (List ℕ)) (one other : Account) → AreLeft o
 
 -- the report has no refusal for a full buffer
 abbrev pub RefusesNoneAsFull : FeedReport → Type 0
-RefusesNoneAsFull f = Each (λ r. (held from to : ℕ) → r.cause ≡ causes.Full held from to → ⊥) f.refused.items
+RefusesNoneAsFull f = Each (λ r. (held from to : ℕ) → r.cause ≡ refusing.Full held from to → ⊥) f.refused.items
 
 -- A message is refused for a full buffer only where the frames of all that was recorded have as many bytes as fill a buffer.
 abbrev pub FullBuffersAreNeeded : Type 0

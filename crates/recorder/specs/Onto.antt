@@ -14,7 +14,7 @@ use Rattle.chunk_writer.specs.Tapes.{EndsFor}
 use Rattle.recorder.specs.declared.report.Report.{Report}
 use Rattle.recorder.specs.declared.report.WriterReport.{WriterReport}
 use Rattle.recorder.specs.Assembled.{Assembled}
-use Rattle.recorder.specs.Recorded.{FeedRecorded, lane_of, AreFeeds, end_answer}
+use Rattle.recorder.specs.Recorded.{FeedRecorded, lane_of, AreFeeds, answer_of}
 use Rattle.recorder.specs.Writing.{SeenTape}
 
 -- how far a tape has come where a writer ended so
@@ -33,10 +33,10 @@ pub record TapeIsWritten {T X : Type 0} (seen : SeenTape T X) (first last : T) (
   pub entries : List (Entry X)
   pub closing : Option (Entry X)
   pub grown : seen.grows first mid history entries
-  pub ended : seen.ends mid last closing (written_numbers w) (end_answer w.end)
+  pub ended : seen.ends mid last closing (written_numbers w) (answer_of w.end)
   pub phase_is : seen.phase last ≡ phase_at w.end
   pub numbers_are : seen.numbers last ≡ written_numbers w
-  pub cause : EndsFor (seen.failures first) (seen.failures last) (seen.limit_met last) (end_answer w.end)
+  pub cause : EndsFor (seen.failures first) (seen.failures last) (seen.limit_met last) (answer_of w.end)
 
 -- as many records are told as the history has, and each can be framed and is read back
 pub record IsAll (history : List Rec) (w : WriterReport) : Type 0 where

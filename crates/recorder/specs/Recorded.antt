@@ -46,9 +46,9 @@ pub record AreFeeds (feeds : List FeedRecorded) (before now : List SourceState) 
 -- ---- the writer
 
 -- the end as an answer
-abbrev pub end_answer : End → Result Unit Stop
-end_answer ends.Closed = Ok tt
-end_answer (ends.Stopped stop) = Err stop
+abbrev pub answer_of : End → Result Unit Stop
+answer_of ends.Closed = Ok tt
+answer_of (ends.Stopped stop) = Err stop
 
 -- the store took the front of a file whole; or nothing whole, and then nothing was accepted
 abbrev pub TookFront : FileOptions → List Rec → ℕ → Type 0
@@ -58,12 +58,12 @@ TookFront options history bytes = (length (front options.profile) ≤ bytes) ⊎
 -- all of it is with the system; else the writer stopped at a piece of that file.
 pub record WriterRecorded (options : FileOptions) (before now : LiveState) (history : List Rec) (w : WriterReport) : Type 0 where
   pub records : w.records ≡ length history
-  pub wrote : Ends options [] before.held now.held history (numbers w.blocks w.bytes) (end_answer w.end)
+  pub wrote : Ends options [] before.held now.held history (numbers w.blocks w.bytes) (answer_of w.end)
   pub within : Holds w.blocks w.bytes
   pub begun : TookFront options history w.bytes
-  pub through : OnOk (end_answer w.end) (now.waiting ≡ 0)
+  pub through : OnOk (answer_of w.end) (now.waiting ≡ 0)
   -- the store's count rises by one where the writer stopped at a fault, which carries it, and stands still otherwise
-  pub cause : Cause before.faults now.faults (end_answer w.end)
+  pub cause : Cause before.faults now.faults (answer_of w.end)
 
 -- ---- the recording
 

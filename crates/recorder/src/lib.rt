@@ -11,9 +11,10 @@ mod rousing;
 mod unopened;
 mod writer;
 
-pub use feed_lane::{Accepted, Cause, DeclaredAt, FeedEnd, FeedReport, Refusals, Refused};
+pub use feed_lane::{Accepted, DeclaredAt, FeedEnd, FeedReport, Refusals, Refused};
 pub use listing::Listing;
 pub use options::RecordOptions;
+pub use record_core::CallRefused;
 pub use recording::{
     Onto, Ran, Ready, Recording, Room, make_ready, make_room, record, record_onto,
 };

@@ -6,7 +6,7 @@ ghost use Rattle.mcap_model.specs.declared.ends.End.TheVariants.{Stopped};
 ghost use Rattle.chunk_writer.specs.declared.phase.Phase.TheVariants as phases;
 ghost use Rattle.chunk_writer.specs.Tapes.{HasTaken};
 ghost use Rattle.buffer_swap.specs.Calls.{DrainIsOver};
-ghost use Rattle.recorder.specs.Recorded.{end_answer};
+ghost use Rattle.recorder.specs.Recorded.{answer_of};
 ghost use Rattle.recorder.specs.Writing.{empty_buffer, MayWrite, StopsWith, StopsIntake, seen_tape, WritesOn};
 ghost use Rattle.recorder.specs.Onto.{TapeIsWritten, IsAll};
 
@@ -43,7 +43,7 @@ struct Step {
 
 // The end that a tape's answer is.
 fn end_by(answer: Result<(), Stop>) -> End
-    ensures { end_answer result ≡ answer }
+    ensures { answer_of result ≡ answer }
 {
     match answer {
         Ok(()) => return End::Closed,

@@ -25,7 +25,7 @@ use Rattle.chunk_writer.specs.Scribes.{WritesHistory, GivesEntries, store_of, ph
 use Rattle.chunk_writer.specs.Tapes.{PutsFirst, IsLeft, seen_store, TakesOn, EndsOn}
 use Rattle.chunk_writer.proofs.Cuts.{pieces_grow}
 use Rattle.recorder.specs.declared.report.WriterReport.{WriterReport}
-use Rattle.recorder.specs.Recorded.{end_answer}
+use Rattle.recorder.specs.Recorded.{answer_of}
 use Rattle.recorder.specs.Onto.{written_numbers}
 use Rattle.recorder.proofs.EntriesGathered.{entries_gathered}
 use Rattle.watched_recording.specs.WatchedSteps.{AreBlockEntries}
@@ -68,21 +68,21 @@ module _ {L X : Type 0} (state : L → LiveState) (tells : X → Option (List �
 
   -- where it was closed without a last block the blocks that are sure are all
   sure_all : (p : Phase) → phase_of mid ≡ p → (it : PutsFirst (seen_before tells size (state (store_of first))) options [] history given (planned_bytes mid) (phase_of mid)) → IsLeft p it.behind
-      → EndsOn (seen_store state tells size) mid last None (written_numbers w) (end_answer w.end) → w.end ≡ ends.Closed → (cuts options.chunk it.first).pieces ≡ pieces_of options.chunk history
+      → EndsOn (seen_store state tells size) mid last None (written_numbers w) (answer_of w.end) → w.end ≡ ends.Closed → (cuts options.chunk it.first).pieces ≡ pieces_of options.chunk history
   sure_all phases.Going is it left ended closed =
       let sure = (cuts options.chunk history).pieces in
       let whole : history ≡ it.first = it.cut ∙ ap (λ (l : List Rec). it.first ++ l) left ∙ append-nil it.first in
       let writes = took.grown options [] live [] stands in
       let file = ended.file options [] live history writes in
-      let all = subst (λ (a : Result Unit Stop). Ends options [] live.held (state (store_of last)).held history (numbers w.blocks w.bytes) a) (ap end_answer closed) file.0 in
+      let all = subst (λ (a : Result Unit Stop). Ends options [] live.held (state (store_of last)).held history (numbers w.blocks w.bytes) a) (ap answer_of closed) file.0 in
       let none = no_last sure (cuts options.chunk history).waiting (sym all.1 ∙ ended.counted ∙ (writes.0.going is).0.blocks) in
       ap (λ (l : List Rec). (cuts options.chunk l).pieces) (sym whole) ∙ sym (append-nil sure) ∙ ap (λ (l : List Piece). sure ++ l) (sym none)
-  sure_all (phases.Stopped stop) is it left ended closed = absurd (subst (λ (a : Result Unit Stop). OnErr a ⊥) (sym (ap end_answer closed) ∙ (ended.kept stop is).0) tt)
+  sure_all (phases.Stopped stop) is it left ended closed = absurd (subst (λ (a : Result Unit Stop). OnErr a ⊥) (sym (ap answer_of closed) ∙ (ended.kept stop is).0) tt)
   sure_all phases.Ended is it left ended closed = absurd left
 
   -- no block was appended at the end
   sure_blocks_are : (it : PutsFirst (seen_before tells size (state (store_of first))) options [] history given (planned_bytes mid) (phase_of mid))
-      → EndsOn (seen_store state tells size) mid last None (written_numbers w) (end_answer w.end) → AreBlockEntries tells options live history w given
+      → EndsOn (seen_store state tells size) mid last None (written_numbers w) (answer_of w.end) → AreBlockEntries tells options live history w given
   sure_blocks_are it ended =
       let gives = it.entries_are in
       let grow = pieces_grow options.chunk it.first it.behind in
@@ -104,11 +104,11 @@ module _ {L X : Type 0} (state : L → LiveState) (tells : X → Option (List �
 
   -- a last block was
   last_blocks_are : (it : PutsFirst (seen_before tells size (state (store_of first))) options [] history given (planned_bytes mid) (phase_of mid)) (e : Entry X)
-      → EndsOn (seen_store state tells size) mid last (Some e) (written_numbers w) (end_answer w.end) → AreBlockEntries tells options live history w (given ++ e ∷ [])
+      → EndsOn (seen_store state tells size) mid last (Some e) (written_numbers w) (answer_of w.end) → AreBlockEntries tells options live history w (given ++ e ∷ [])
   last_blocks_are it e ended =
       let seen = seen_before tells size (state (store_of first)) in
       let writes = took.grown options [] live [] stands in
-      let on = still_going state tells size mid last e (written_numbers w) (end_answer w.end) (phase_of mid) refl writes.0.unended ended in
+      let on = still_going state tells size mid last e (written_numbers w) (answer_of w.end) (phase_of mid) refl writes.0.unended ended in
       let none : it.behind ≡ [] = subst (λ (p : Phase). IsLeft p it.behind) on it.left in
       let whole : history ≡ it.first = it.cut ∙ ap (λ (l : List Rec). it.first ++ l) none ∙ append-nil it.first in
       let all = subst (λ (l : List Rec). GivesEntries seen options [] l given) (sym whole) it.entries_are in
@@ -117,7 +117,7 @@ module _ {L X : Type 0} (state : L → LiveState) (tells : X → Option (List �
       let gives = ended.last_is options [] live history writes in
       let file = ended.file options [] live history writes in
       let waiting = (cuts options.chunk history).waiting in
-      let stand = all_stand options [] live.held (state (store_of last)).held history waiting (blocks_of mid) w.blocks w.bytes (end_answer w.end) gives.0 (writes.0.going on).0.blocks ended.counted file.0 in
+      let stand = all_stand options [] live.held (state (store_of last)).held history waiting (blocks_of mid) w.blocks w.bytes (answer_of w.end) gives.0 (writes.0.going on).0.blocks ended.counted file.0 in
       let at = length (written_of options history) in
       record {
         pieces = pieces_of options.chunk history;
@@ -138,7 +138,7 @@ module _ {L X : Type 0} (state : L → LiveState) (tells : X → Option (List �
         all = λ closed. refl;
       }
 
-  pub first_blocks_are : (closing : Option (Entry X)) → EndsOn (seen_store state tells size) mid last closing (written_numbers w) (end_answer w.end) → AreBlockEntries tells options live history w (given ++ at_most_one closing)
+  pub first_blocks_are : (closing : Option (Entry X)) → EndsOn (seen_store state tells size) mid last closing (written_numbers w) (answer_of w.end) → AreBlockEntries tells options live history w (given ++ at_most_one closing)
   first_blocks_are None ended =
       subst (λ (l : List (Entry X)). AreBlockEntries tells options live history w l) (sym (append-nil given)) (sure_blocks_are (took.front going options [] live [] stands) ended)
   first_blocks_are (Some e) ended = last_blocks_are (took.front going options [] live [] stands) e ended

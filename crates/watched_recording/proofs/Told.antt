@@ -28,7 +28,7 @@ use Rattle.chunk_writer.proofs.Planned.{length-front}
 use Rattle.recorder.specs.declared.options.RecordOptions.{RecordOptions}
 use Rattle.recorder.specs.declared.report.Report.{Report}
 use Rattle.recorder.specs.declared.report.WriterReport.{WriterReport}
-use Rattle.recorder.specs.Recorded.{end_answer, sides, WriterRecorded}
+use Rattle.recorder.specs.Recorded.{answer_of, sides, WriterRecorded}
 use Rattle.recorder.specs.Onto.{IsAll, IsReported, written_numbers}
 use Rattle.watched_recording.specs.Publishing.{GivesTo, Publishing, PublishesOn, PublishesEnd, empty_board, entries_held, gives_on}
 use Rattle.watched_recording.specs.WatchedSteps.{AreBlockEntries, RecordedBeside}
@@ -101,7 +101,7 @@ module _ {L : Type 0} (state : L → LiveState) where
 -- ---- a tape that was new
 
 module _ {L X : Type 0} (state : L → LiveState) (tells : X → Option (List ℕ)) (size : X → ℕ) (first mid last : Publishing L X) (history : List Rec) (given : List (Entry X)) (closing : Option (Entry X)) (w : WriterReport)
-    (empty : first.board ≡ empty_board) (grown : PublishesOn (seen_store state tells size) first mid history given) (ended : PublishesEnd (seen_store state tells size) mid last closing (written_numbers w) (end_answer w.end)) where
+    (empty : first.board ≡ empty_board) (grown : PublishesOn (seen_store state tells size) first mid history given) (ended : PublishesEnd (seen_store state tells size) mid last closing (written_numbers w) (answer_of w.end)) where
   gives_all : GivesTo first.board last.board (grown.given ++ at_most_one ended.given)
   gives_all = gives_on first.board mid.board last.board grown.given (at_most_one ended.given) grown.published ended.published
 
@@ -111,7 +111,7 @@ module _ {L X : Type 0} (state : L → LiveState) (tells : X → Option (List �
         let took = grown.took in
         let closed = ended.ended in
         let file = closed.file options.file [] live history (took.grown options.file [] live [] stands) in
-        let cause = cause_since state mid.scribe last.scribe (state (store_of first.scribe)).faults (phase_of mid.scribe) (end_answer w.end) refl (took.cause going) closed.cause
+        let cause = cause_since state mid.scribe last.scribe (state (store_of first.scribe)).faults (phase_of mid.scribe) (answer_of w.end) refl (took.cause going) closed.cause
         (λ stop is. let kept = closed.kept stop is in (kept.0, kept.2)) in
         record {
           records = all.records;
@@ -119,7 +119,7 @@ module _ {L X : Type 0} (state : L → LiveState) (tells : X → Option (List �
           within = closed.within;
           begun = inl file.1;
           through = file.2;
-          cause = subst (λ (n : ℕ). Cause {X = Unit {0}} n (state (store_of last.scribe)).faults (end_answer w.end)) still cause;
+          cause = subst (λ (n : ℕ). Cause {X = Unit {0}} n (state (store_of last.scribe)).faults (answer_of w.end)) still cause;
         }
 
     -- a note of the seal tells the first blocks, since none were lost
@@ -133,7 +133,7 @@ module _ {L X : Type 0} (state : L → LiveState) (tells : X → Option (List �
 module _ {L X : Type 0} (state : L → LiveState) (tells : X → Option (List ℕ)) (options : RecordOptions) (sources now : List SourceState) (live : LiveState) (store : L) (report : Report) (note : Option (List (Added X))) where
   -- the writer took a history, and the directory told its blocks at the seal
   pub tape_beside : (size : X → ℕ) (first mid last : Publishing L X) (history : List Rec) (given : List (Entry X)) (closing : Option (Entry X)) → first.board ≡ empty_board
-      → PublishesOn (seen_store state tells size) first mid history given → PublishesEnd (seen_store state tells size) mid last closing (written_numbers report.writer) (end_answer report.writer.end)
+      → PublishesOn (seen_store state tells size) first mid history given → PublishesEnd (seen_store state tells size) mid last closing (written_numbers report.writer) (answer_of report.writer.end)
       → WritesHistory state options.file [] live [] first.scribe → phase_of first.scribe ≡ phases.Going → (state (store_of first.scribe)).faults ≡ live.faults → length options.file.profile ≤ content_limit
       → IsReported options.limit options.lossless sources now history report → IsAll history report.writer → store ≡ store_of last.scribe
       → IfSome note (λ n. (entries_of n ≡ entries_held last.board.directory) × (end_of n ≡ Some report.writer.end)) → (last.board.lost ≡ true → note ≡ None)

@@ -1,4 +1,4 @@
-use Rattle.record_core.specs.declared.answers.DeclareRefused.TheVariants.{Memory}
+use Rattle.record_core.specs.declared.answers.CallRefused.TheVariants.{Memory}
 use Rattle.buffer_swap.proofs.seats.Board.free_declared.Given as goal
 
 abbrev pub ghosts-free_named : goal.ghosts-free_named

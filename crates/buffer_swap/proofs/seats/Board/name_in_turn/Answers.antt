@@ -1,6 +1,6 @@
 use Rattle.std.proofs.Common.{sym, ap, subst, ◌∙◌}
 use Rattle.record_core.specs.Desk.{DeskView}
-use Rattle.record_core.specs.declared.answers.DeclareRefused.TheVariants.{TooManyChannels}
+use Rattle.record_core.specs.declared.answers.CallRefused.TheVariants.{TooManyChannels}
 use Rattle.buffer_swap.specs.declared.view.View.{View}
 use Rattle.buffer_swap.specs.Plays.{desk_out, LacksIdAt}
 use Rattle.buffer_swap.proofs.Answering.{refused_hand}

@@ -14,10 +14,10 @@ returns-clause-answer g c = λ unfull.
     named_declared c.args.self.now.seat.me c.wait.new.seat.me call.new.seat.me c.args.channel.now call.result c.wait.ensures.took (ap (λ (p : Post). p.seated) c.args.self.now.kind) c.requires.small named unfull
 
 pub returns-clause-full : goal.returns-clause-full
-returns-clause-full g c = λ h full.
+returns-clause-full g c = λ held from to full.
     let call = c.name_in_turn-answer in
     let named = subst (λ (x : Sat). NamedInTurn x c.args.channel.now call.result call.new.seat.me) c.found_out-found.ensures.same call.ensures.declared in
-    named_full c.args.self.now.seat.me c.wait.new.seat.me call.new.seat.me c.args.channel.now call.result h full c.wait.ensures.took (ap (λ (p : Post). p.seated) c.args.self.now.kind) named
+    named_full c.args.self.now.seat.me c.wait.new.seat.me call.new.seat.me c.args.channel.now call.result held from to full c.wait.ensures.took (ap (λ (p : Post). p.seated) c.args.self.now.kind) named
 
 pub name_in_turn-answer-requires-clause-shares : goal.name_in_turn-answer-requires-clause-shares
 name_in_turn-answer-requires-clause-shares g c =

@@ -12,7 +12,7 @@ returns-clause-answer g c = λ unfull.
     tried_published c.args.self.now.seat.me c.wait.new.seat.me call.new.seat.me c.args.m.now call.result c.wait.ensures.took (ap (λ (p : Post). p.seated) c.args.self.now.kind) c.requires tried unfull
 
 pub returns-clause-full : goal.returns-clause-full
-returns-clause-full g c = λ h full.
+returns-clause-full g c = λ held from to full.
     let call = c.try_in_turn in
     let tried = subst (λ (x : Sat). TriedInTurn x c.args.m.now call.result call.new.seat.me) c.found_out-found.ensures.same call.ensures.tried in
-    tried_full c.args.self.now.seat.me c.wait.new.seat.me call.new.seat.me c.args.m.now call.result h full c.wait.ensures.took (ap (λ (p : Post). p.seated) c.args.self.now.kind) tried
+    tried_full c.args.self.now.seat.me c.wait.new.seat.me call.new.seat.me c.args.m.now call.result held from to full c.wait.ensures.took (ap (λ (p : Post). p.seated) c.args.self.now.kind) tried

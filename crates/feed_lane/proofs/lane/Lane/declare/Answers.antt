@@ -1,9 +1,7 @@
 use Rattle.std.proofs.Common.{◌+◌, ℕ, List, refl, sym, subst, Err}
 use Rattle.mcap_model.proofs.Places.{at_within}
 use Rattle.mcap_model.specs.Places.{At}
-use Rattle.record_core.specs.declared.answers.DeclareRefused.TheVariants as declaring
-use Rattle.feed_lane.specs.declared.report.Cause.TheVariants as causes
-use Rattle.feed_lane.specs.Pass.{for_size}
+use Rattle.record_core.specs.declared.answers.CallRefused.TheVariants as refusing
 use Rattle.feed_lane.specs.PassCalls.{with_reason}
 use Rattle.feed_lane.specs.Lanes.{messages, IsChannelOf}
 use Rattle.feed_lane.specs.Kept.{LaneIds, KeptStands, no_schema}
@@ -22,7 +20,7 @@ returns-in-Err-clause-found g c = λ begun before since. (
       let l = c.excess_of.new.self in
       let stands : LaneStands l records handled before = standing c.args.self.now l records handled before c.excess_of.ensures.rest (λ declared ids. c.excess_of.ensures.stands records declared ids known.tables_are) was in
       let none = subst (λ (given : List ℕ). At given c.args.source 0) (sym c.excess_of.ensures.given) unnamed in
-      subst (λ (ids : LaneIds). ChannelFound (record l { ids = ids }) records handled c.args.source before (Err causes.Memory)) (sym c.take_schema-kept.ensures.rest) (record {
+      subst (λ (ids : LaneIds). ChannelFound (record l { ids = ids }) records handled c.args.source before (Err refusing.Memory)) (sym c.take_schema-kept.ensures.rest) (record {
         before = before;
         stands = keeping records handled (handled + 1) l.ids (lists_of l) before no_schema refl (may_declare records handled l.ids (lists_of l) before stands);
         refusal = unchanged records handled before;
@@ -57,7 +55,7 @@ returns-in-Ok-clause-found g c = λ begun before since.
 pub returns-in-Some-clause-found : goal.returns-in-Some-clause-found
 returns-in-Some-clause-found g c = λ begun before since.
     let l = c.excess_of.new.self in
-    let after = with_reason before (for_size c.in-Some.len) in (
+    let after = with_reason before (refusing.TooLarge c.in-Some.len) in (
       after,
       g.met.P.Pass.refuses_size begun c.args.pass.now before c.in-Some.len c.in-Some.ensures.over since,
       refl,
@@ -69,8 +67,8 @@ returns-in-Some-clause-found g c = λ begun before since.
           record {
             before = before;
             stands = may_declare records handled l.ids (lists_of l) before stands;
-            refusal = declare_refused records handled before after long.content (declaring.TooLarge c.in-Some.len) is (long.size, c.in-Some.ensures.over, refl);
+            refusal = declare_refused records handled before after long.content (refusing.TooLarge c.in-Some.len) is (long.size, c.in-Some.ensures.over, refl);
             some = at_within (messages records) handled on.top on.at;
-            tried = declare_tried records handled l.declared.items before after long.content (declaring.TooLarge c.in-Some.len) (undeclared_yet records handled c.args.source l.declared.items l.ids stands.ids_stand none on) is (long.size, c.in-Some.ensures.over, refl);
+            tried = declare_tried records handled l.declared.items before after long.content (refusing.TooLarge c.in-Some.len) (undeclared_yet records handled c.args.source l.declared.items l.ids stands.ids_stand none on) is (long.size, c.in-Some.ensures.over, refl);
           },
     )

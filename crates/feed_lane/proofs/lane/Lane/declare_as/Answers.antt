@@ -1,10 +1,9 @@
-use Rattle.std.proofs.Common.{◌≡◌, ◌+◌, ◌∷◌, ◌++◌, [], List, sym, ap, subst, ◌∙◌, Ok, Err}
+use Rattle.std.proofs.Common.{◌+◌, ◌∷◌, ◌++◌, [], List, sym, subst, ◌∙◌, Ok, Err}
 use Rattle.mcap_model.proofs.Places.{at_within}
 use Rattle.feed_lane.specs.declared.report.DeclaredAt.{DeclaredAt}
-use Rattle.feed_lane.specs.declared.report.Cause.{Cause}
-use Rattle.feed_lane.specs.Lanes.{messages, IsTried}
+use Rattle.feed_lane.specs.Lanes.{messages, IsChannelOf}
 use Rattle.feed_lane.specs.Kept.{LaneIds}
-use Rattle.feed_lane.specs.Steps.{lists_of, DeclaredWithId, ListsStand, RefusalLeaves, declare_cause}
+use Rattle.feed_lane.specs.Steps.{lists_of, DeclaredWithId, ListsStand}
 use Rattle.feed_lane.proofs.Growing.{may_declare, undeclared_yet}
 use Rattle.feed_lane.proofs.Declaring.{IsNew, declared_stands, new_has_id}
 use Rattle.feed_lane.proofs.Calls.{some_id, declare_refused, declare_tried, declared_limit}
@@ -46,18 +45,18 @@ pub returns-in-Err-clause-found : goal.returns-in-Err-clause-found
 returns-in-Err-clause-found g c = λ begun before since.
     let shown = c.in-Err.ensures.shows begun before since in
     let after = shown.0 in
-    let content = c.args.channel.now in
-    let cause : c.declare_cause.result ≡ declare_cause c.in-Err.refusal after.found = c.declare_cause.ensures ∙ ap (declare_cause c.in-Err.refusal) (c.found.ensures begun after shown.1) in (
+    let content = c.args.channel.now in (
       after,
       shown.1,
       declared_limit before after content (Err c.in-Err.refusal) shown.2,
-      λ records handled stands describes on none. record {
-        before = before;
-        stands = may_declare records handled c.args.self.now.ids (lists_of c.args.self.now) before stands;
-        refusal = subst (RefusalLeaves records handled before after) (sym cause)
-            (declare_refused records handled before after content c.in-Err.refusal (record { source = c.args.source; on = on; describes = describes }) shown.2);
-        some = at_within (messages records) handled on.top on.at;
-        tried = subst (λ (k : Cause). IsTried records c.args.self.now.declared.items (record { index = handled; cause = k })) (sym cause)
-            (declare_tried records handled c.args.self.now.declared.items before after content c.in-Err.refusal (undeclared_yet records handled c.args.source c.args.self.now.declared.items c.args.self.now.ids stands.ids_stand none on) (record { source = c.args.source; on = on; describes = describes }) shown.2);
-      },
+      λ records handled stands describes on none.
+          let is : IsChannelOf records handled content = record { source = c.args.source; on = on; describes = describes } in
+          let undeclared = undeclared_yet records handled c.args.source c.args.self.now.declared.items c.args.self.now.ids stands.ids_stand none on in
+          record {
+            before = before;
+            stands = may_declare records handled c.args.self.now.ids (lists_of c.args.self.now) before stands;
+            refusal = declare_refused records handled before after content c.in-Err.refusal is shown.2;
+            some = at_within (messages records) handled on.top on.at;
+            tried = declare_tried records handled c.args.self.now.declared.items before after content c.in-Err.refusal undeclared is shown.2;
+          },
     )

@@ -5,7 +5,7 @@ use Rattle.record_core.specs.declared.answers.NewMessage.{NewMessage}
 use Rattle.feed_lane.specs.declared.report.Accepted.{Accepted}
 use Rattle.feed_lane.specs.PassCalls.{Finds}
 use Rattle.feed_lane.specs.Lanes.{messages}
-use Rattle.feed_lane.specs.Steps.{lists_of, ListsStand, RefusalLeaves, publish_cause, fields_of}
+use Rattle.feed_lane.specs.Steps.{lists_of, ListsStand, fields_of}
 use Rattle.feed_lane.proofs.Accepting.{accepted_at, accepted_stands}
 use Rattle.feed_lane.proofs.Calls.{named_there, publish_refused, publish_lacks, published_limit}
 use Rattle.feed_lane.proofs.lane.Lane.publish.Goals as goal
@@ -39,13 +39,12 @@ returns-in-Err-clause-taken g c = λ begun before since.
       shown.1,
       published_limit before after m (Err c.in-Err.refusal) shown.2,
       λ records handled source t stands has at is.
-          let cause : c.publish_cause-cause.result ≡ publish_cause c.in-Err.refusal after.found = c.publish_cause-cause.ensures ∙ ap (publish_cause c.in-Err.refusal) (c.found.ensures begun after shown.1) in
           let known : (found : Found) → Finds before found → (1 ≤ m.channel) × (m.channel ≤ found.channels) =
           λ found finds. named_there records handled (handled + 1) (lists_of c.args.self.now) before source c.args.id found stands.fits has finds in
           c.refuse.ensures.taken records handled after (record {
             before = before;
             stands = stands;
-            refusal = subst (RefusalLeaves records handled before after) (sym cause) (publish_refused records handled source t before after m c.in-Err.refusal at is known shown.2);
+            refusal = publish_refused records handled source t before after m c.in-Err.refusal at is known shown.2;
             some = at_within (messages records) handled t at;
             tried = record {
               large = λ len e. inr (record {
@@ -56,7 +55,7 @@ returns-in-Err-clause-taken g c = λ begun before since.
                 before = let below = stands.fits.declared_below has.listed.0 has.by has.listed.1 in omega (arith, below);
                 is_on = has.on;
               });
-              lacking = λ e. absurd (publish_lacks before after m c.in-Err.refusal known shown.2 (sym cause ∙ e));
+              lacking = λ e. absurd (publish_lacks before after m c.in-Err.refusal shown.2 e);
             };
           }),
     )
