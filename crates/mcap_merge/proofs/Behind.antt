@@ -12,7 +12,6 @@ use Rattle.mcap_model.specs.Places.{At}
 use Rattle.mcap_model.proofs.Places.{at_none, at_one}
 use Rattle.mcap_model.proofs.Lists.{each_cons}
 use Rattle.mcap_model.proofs.NamedTopics.{zip_front, zip_back}
-use Rattle.chunk_walk.specs.declared.answers.WalkRefused.TheVariants as refusals
 use Rattle.chunk_walk.specs.declared.pieces.Piece.{Piece}
 use Rattle.chunk_walk.specs.declared.walk.Walk.{Walk}
 use Rattle.chunk_walk.specs.Pieces.{InputBytes, pieces_size}
@@ -20,8 +19,8 @@ use Rattle.chunk_walk.specs.Stores.{files_of, StoresStay, AskedWithin, unasked, 
 use Rattle.chunk_walk.specs.Stores as walks
 use Rattle.mcap_merge.specs.Reading.{FaultsStand, InputRose}
 use Rattle.mcap_merge.specs.ReadingSteps.{StoreKeeps, AsksWithinLength}
-use Rattle.mcap_merge.specs.declared.turns.PutRefused.{PutRefused}
-use Rattle.mcap_merge.specs.declared.turns.PutRefused.TheVariants as puts
+use Rattle.mcap_merge.specs.declared.answers.MergeRefused.{MergeRefused}
+use Rattle.mcap_merge.specs.declared.answers.MergeRefused.TheVariants as merges
 use Rattle.mcap_merge.specs.Turns.{PutCounts}
 use Rattle.mcap_merge.specs.Filed.{AllTell, AsksTwice}
 use Rattle.mcap_merge.proofs.Profiles.{zip_length}
@@ -132,15 +131,17 @@ risen mids news place faults rose k x y at_x at_y = by (k == place) refl
         let still : y.faults ≡ x.faults = others k x y (λ same. absurd (both_ways (k == place) e (eq-eqb k place same))) at_x at_y in
         omega (arith, still)
 
-pub unfallen : {X : Type 0} (mids news : List StoreState) (before now : ℕ) (result : Result X PutRefused) → PutCounts mids news before now result → (k : ℕ) (x y : StoreState) → At mids k x → At news k y → x.faults ≤ y.faults
+pub unfallen : {X : Type 0} (mids news : List StoreState) (before now : ℕ) (result : Result X MergeRefused) → PutCounts mids news before now result → (k : ℕ) (x y : StoreState) → At mids k x → At news k y → x.faults ≤ y.faults
 unfallen mids news before now (Ok it) counts = stood mids news counts.0
-unfallen mids news before now (Err (puts.Stopped stop)) counts = stood mids news counts.0
-unfallen mids news before now (Err (puts.Unread (refusals.Changed input offset))) counts = stood mids news counts.0
-unfallen mids news before now (Err (puts.Unread (refusals.Refused input (readings.Fault faults)))) counts = risen mids news input faults counts.0
-unfallen mids news before now (Err (puts.Unread (refusals.Refused input (readings.Grammar offset rule)))) counts = absurd counts.0
-unfallen mids news before now (Err (puts.Unread (refusals.Refused input (readings.Compressed offset name)))) counts = absurd counts.0
-unfallen mids news before now (Err (puts.Unread (refusals.Refused input (readings.Limit offset)))) counts = absurd counts.0
-unfallen mids news before now (Err (puts.Unread (refusals.Refused input readings.Memory))) counts = stood mids news counts.0
+unfallen mids news before now (Err (merges.Halted input (readings.Fault faults))) counts = risen mids news input faults counts.0
+unfallen mids news before now (Err (merges.Halted input (readings.Grammar offset rule))) counts = absurd counts.0
+unfallen mids news before now (Err (merges.Halted input (readings.Compressed offset name))) counts = absurd counts.0
+unfallen mids news before now (Err (merges.Halted input (readings.Limit offset))) counts = absurd counts.0
+unfallen mids news before now (Err (merges.Halted input readings.Memory)) counts = absurd counts.0
+unfallen mids news before now (Err (merges.Changed input offset)) counts = stood mids news counts.0
+unfallen mids news before now (Err merges.TooManySchemas) counts = absurd counts
+unfallen mids news before now (Err merges.TooManyChannels) counts = absurd counts
+unfallen mids news before now (Err (merges.Stopped stop)) counts = stood mids news counts.0
 
 -- ---- nothing was read
 

@@ -14,11 +14,11 @@ use Rattle.chunk_writer.specs.Stops.{numbers, StopsAt}
 use Rattle.chunk_writer.specs.Limits.{Holds}
 use Rattle.chunk_writer.specs.Scribes.{WritesHistory, ScribeGrows, GathersExtra, phase_of}
 use Rattle.chunk_walk.specs.Pieces.{InputBytes}
+use Rattle.mcap_merge.specs.declared.answers.MergeRefused.{MergeRefused}
+use Rattle.mcap_merge.specs.declared.answers.MergeRefused.TheVariants as merges
 use Rattle.mcap_merge.specs.declared.answers.Merged.{Merged}
 use Rattle.mcap_merge.specs.declared.input.Input.{Input}
 use Rattle.mcap_merge.specs.declared.starting.Begun.{Begun}
-use Rattle.mcap_merge.specs.declared.turns.PutRefused.{PutRefused}
-use Rattle.mcap_merge.specs.declared.turns.PutRefused.TheVariants as puts
 use Rattle.mcap_merge.specs.Pens.{AddsTo, EndsWithin, adds_all, stopped_going}
 use Rattle.mcap_merge.specs.Uses.{history_of}
 use Rattle.mcap_merge.specs.Writing.{extras_of}
@@ -81,7 +81,7 @@ module _ {L : Type 0} (seen : L → LiveState) (options : FileOptions) (opened :
         peak = whole.peak;
       }
 
-  part_filed : (start : MergeStart) (why : PutRefused) → StopsBefore (λ s t e r. AddsTo seen s t e r) (λ s. phase_of s) start old new why → PartStands (FilesAs options (Err (stop_of why))) start opened (seen new.store)
+  part_filed : (start : MergeStart) (why : MergeRefused) → StopsBefore (λ s t e r. AddsTo seen s t e r) (λ s. phase_of s) start old new why → PartStands (FilesAs options (Err (stop_of why))) start opened (seen new.store)
   part_filed start why stops =
       let part = stops.part in
       record {
@@ -96,13 +96,13 @@ module _ {L : Type 0} (seen : L → LiveState) (options : FileOptions) (opened :
             (us, zip, λ more. stopped_there (extras_of start.inputs) (history_of us ++ more) (stop_of why) (adds more) stops.stopped);
       }
 
-  pub stops_filed : (start : MergeStart) (why : PutRefused) → StopsBefore (λ s t e r. AddsTo seen s t e r) (λ s. phase_of s) start old new why ⊎ StopsAtEnd (λ s t e r. AddsTo seen s t e r) (λ s t r. EndsWithin seen s t r) start old new why → FileStops options start opened (seen new.store) why
+  pub stops_filed : (start : MergeStart) (why : MergeRefused) → StopsBefore (λ s t e r. AddsTo seen s t e r) (λ s. phase_of s) start old new why ⊎ StopsAtEnd (λ s t e r. AddsTo seen s t e r) (λ s t r. EndsWithin seen s t r) start old new why → FileStops options start opened (seen new.store) why
   stops_filed start why (inl before) = inl (part_filed start why before)
   stops_filed start why (inr (stop, is, m, ends)) = inr (stop, is, m, whole_filed start m (Err stop) ends)
 
 -- the front wasn't written
 pub not_opened : (files : InputBytes) (inputs : List Input) (b : Begun) (options : FileOptions) (opened now : LiveState) (stop : Stop) → IsBegun inputs b → ((extras : List Top) (history : List Rec) → StopsAt options extras history opened.held now.held stop (numbers 0 0))
-    → FileStops options (record { files = files; inputs = inputs; walk = b.walk }) opened now (puts.Stopped stop)
+    → FileStops options (record { files = files; inputs = inputs; walk = b.walk }) opened now (merges.Stopped stop)
 not_opened files inputs b options opened now stop begun stops = inl (record {
   walk = b.walk;
   pieces = refl;

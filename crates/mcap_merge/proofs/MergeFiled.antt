@@ -1,12 +1,13 @@
 -- What a merge comes to.
 use Rattle.std.proofs.Common.{◌≡◌, ◌∙◌, ◌<◌, ◌≤◌, ℕ, zero, suc, List, [], ◌∷◌, ◌++◌, length, drop, refl, sym, ap, subst, inl, inr, append-nil, arith}
-use Rattle.std.specs.Prelude.{min, ◌-◌, ◌^◌, Result, Ok, Err, IsPermutation}
+use Rattle.std.specs.Prelude.{min, ◌-◌, ◌^◌, Result, Ok, Err, IfOk, IfErr, IsPermutation}
 use Rattle.std.specs.List.{AllZip}
 use Rattle.rec_data.specs.declared.owned.Rec.{Rec}
 use Rattle.mcap_io.specs.Outside.{LiveState}
 use Rattle.mcap_io.specs.Stores.{StoreState}
 use Rattle.mcap_model.specs.declared.options.FileOptions.{FileOptions}
 use Rattle.mcap_model.specs.declared.ends.Stop.{Stop}
+use Rattle.mcap_model.specs.declared.ends.Stop.TheVariants as stops
 use Rattle.mcap_model.specs.declared.refusals.ReadingRefused.TheVariants as refusals
 use Rattle.mcap_model.specs.Places.{At, Has, Each}
 use Rattle.mcap_model.specs.Tops.{Top}
@@ -16,8 +17,6 @@ use Rattle.mcap_model.proofs.Places.{at_none, at_one, at_within}
 use Rattle.mcap_model.proofs.Lists.{at_flat}
 use Rattle.mcap_model.proofs.NamedTopics.{zip_front, unmapped}
 use Rattle.chunk_walk.specs.declared.answers.Turn.{Turn}
-use Rattle.chunk_walk.specs.declared.answers.WalkRefused.{WalkRefused}
-use Rattle.chunk_walk.specs.declared.answers.WalkRefused.TheVariants as walks
 use Rattle.chunk_walk.specs.declared.pieces.Piece.{Piece}
 use Rattle.chunk_walk.specs.declared.walk.Walk.{Walk}
 use Rattle.chunk_walk.specs.Pieces.{InputBytes}
@@ -28,8 +27,6 @@ use Rattle.mcap_merge.specs.declared.answers.MergeRefused.TheVariants as merges
 use Rattle.mcap_merge.specs.declared.answers.Merged.{Merged}
 use Rattle.mcap_merge.specs.declared.input.Input.{Input}
 use Rattle.mcap_merge.specs.declared.merge_stores.Ready.{Ready}
-use Rattle.mcap_merge.specs.declared.turns.PutRefused.{PutRefused}
-use Rattle.mcap_merge.specs.declared.turns.PutRefused.TheVariants as puts
 use Rattle.mcap_merge.specs.Uses.{Use, history_of}
 use Rattle.mcap_merge.specs.Inputs.{extra_top, extra_tops, HoldsInput, HoldInputs}
 use Rattle.mcap_merge.specs.ReadInputs.{Read, read_tops}
@@ -41,7 +38,7 @@ use Rattle.mcap_merge.specs.Overlap.{IsPeak}
 use Rattle.mcap_merge.specs.Turns.{IsUseOfTurn, IsChanged, WhyNotAll, stop_of, PutCounts}
 use Rattle.mcap_merge.specs.Putting.{MergeStart, WholeStands}
 use Rattle.mcap_merge.specs.Filed.{merged_options, AllTell, TellsNot, MergeIs, FileStands, MergesInto, IsCutBy, MergeIsCut, MergeFails, AsksTwice}
-use Rattle.mcap_merge.specs.Filing.{IsReadyToWrite, FilesAs, FileStops, IsPutRefusal}
+use Rattle.mcap_merge.specs.Filing.{IsReadyToWrite, FilesAs, FileStops}
 use Rattle.mcap_merge.proofs.Lengths.{history_few}
 use Rattle.mcap_merge.proofs.Profiles.{zip_length, held_length}
 use Rattle.mcap_merge.proofs.Sound.{is_sound, merge_sound}
@@ -157,7 +154,7 @@ module _ (olds mids : List StoreState) (chunk : ℕ) (r : Ready) (ready : IsRead
 
   -- ---- all was written
 
-  pub files_all : (news : List StoreState) (opened now : LiveState) (m : Merged) → StoresStay mids news → WholeStands (FilesAs r.options (Ok tt)) start opened now m → PutCounts mids news opened.faults now.faults (Ok m) → MergesInto olds news opened now chunk m
+  files_all : (news : List StoreState) (opened now : LiveState) (m : Merged) → StoresStay mids news → WholeStands (FilesAs r.options (Ok tt)) start opened now m → PutCounts mids news opened.faults now.faults (Ok m) → MergesInto olds news opened now chunk m
   unfolding whole_is
   files_all news opened now m stay whole counts =
       let uses = whole.uses in
@@ -186,7 +183,7 @@ module _ (olds mids : List StoreState) (chunk : ℕ) (r : Ready) (ready : IsRead
   abbrev StopsMerge : LiveState → LiveState → Stop → Type 0
   StopsMerge opened now stop = (history : List Rec) × MergeIs olds profile extras history × FileStands (merged_options profile chunk) extras history opened now (Err stop)
 
-  stops_merge : (opened now : LiveState) (why : PutRefused) → FileStops r.options start opened now why → StopsMerge opened now (stop_of why)
+  stops_merge : (opened now : LiveState) (why : MergeRefused) → FileStops r.options start opened now why → StopsMerge opened now (stop_of why)
   stops_merge opened now why (inl part) =
       let uses = part.uses in
       let (us, zip, stands) = uses reads ready.gathered.hold ready.gathered.prepared.suffice in
@@ -213,22 +210,22 @@ module _ (olds mids : List StoreState) (chunk : ℕ) (r : Ready) (ready : IsRead
       omega (arith, of, at_within mids p.input s at_s, store_count)
   changed_within input offset fit (inr other) = omega (arith, other.input_is, at_within inputs other.turn.input other.held other.at, input_count)
 
-  pub files_cut : (news : List StoreState) (opened now : LiveState) (why : MergeRefused) (w : WalkRefused) → FileStops r.options start opened now (puts.Unread w) → now.faults ≡ opened.faults → IsCutBy olds news why → MergeIsCut olds news opened now chunk why
-  files_cut news opened now why w stops still cause =
-      let (history, is, stands) = stops_merge opened now (puts.Unread w) stops in
+  files_cut : (news : List StoreState) (opened now : LiveState) (why : MergeRefused) → FileStops r.options start opened now why → stop_of why ≡ stops.Memory → now.faults ≡ opened.faults → IsCutBy olds news why → MergeIsCut olds news opened now chunk why
+  files_cut news opened now why stopped made still cause =
+      let (history, is, stands) = stops_merge opened now why stopped in
       record {
         profile = profile;
         extras = extras;
         history = history;
         is = is;
-        stands = stands;
+        stands = subst (λ (s : Stop). FileStands (merged_options profile chunk) extras history opened now (Err s)) made stands;
         still = still;
         cause = cause;
       }
 
-  pub files_some : (news : List StoreState) (opened now : LiveState) (put : PutRefused) (why : MergeRefused) → StoresStay mids news → FileStops r.options start opened now put → PutCounts {X = Merged} mids news opened.faults now.faults (Err put) → WhyNotAll (files_of mids) r.begun.walk inputs put → IsPutRefusal put why → MergeFails olds news opened now chunk why
-  files_some news opened now (puts.Stopped stop) why stay stops counts cause answer =
-      let (history, is, stands) = stops_merge opened now (puts.Stopped stop) stops in
+  files_some : (news : List StoreState) (opened now : LiveState) (why : MergeRefused) → StoresStay mids news → FileStops r.options start opened now why → PutCounts {X = Merged} mids news opened.faults now.faults (Err why) → WhyNotAll (files_of mids) r.begun.walk inputs why → MergeFails olds news opened now chunk why
+  files_some news opened now (merges.Stopped stop) stay stopped counts cause =
+      let (history, is, stands) = stops_merge opened now (merges.Stopped stop) stopped in
       inr (inl (
         counts_behind olds mids news stay ready.still counts.0,
         record {
@@ -237,24 +234,36 @@ module _ (olds mids : List StoreState) (chunk : ℕ) (r : Ready) (ready : IsRead
           history = history;
           is = is;
           stop = stop;
-          answer = answer;
+          answer = refl;
           stands = stands;
           cause = counts.1;
         },
       ))
-  files_some news opened now (puts.Unread (walks.Changed input offset)) why stay stops counts cause answer =
+  files_some news opened now (merges.Changed input offset) stay stopped counts cause =
       let other : TellsNot olds input = λ s at bytes told.
       let tell : TellsAt olds input = λ store there. (bytes, ap (λ (x : StoreState). x.bytes) (at_one olds input store s there at) ∙ told) in
       told_stays olds reads inputs r.begun.walk input offset tell (listed_of (pieces_in r.begun.walk) refl) (subst (λ (f : InputBytes). IsChanged f r.begun.walk inputs input offset) same_files cause) in
       let because : IsCutBy olds news (merges.Changed input offset) = (changed_within input offset (stores_fit_in mids inputs (pieces_in r.begun.walk) ready.fits ready.begun.pieces) cause, counts_behind olds mids news stay ready.still counts.0, other) in
-      inr (inr (files_cut news opened now why (walks.Changed input offset) stops counts.1 (subst (IsCutBy olds news) (sym answer) because)))
-  files_some news opened now (puts.Unread (walks.Refused input (refusals.Fault faults))) why stay stops counts cause answer =
-      inr (inr (files_cut news opened now why (walks.Refused input (refusals.Fault faults)) stops counts.1 (subst (IsCutBy olds news) (sym answer) (rose_behind olds mids news stay input faults ready.still counts.0))))
-  files_some news opened now (puts.Unread (walks.Refused input (refusals.Grammar offset rule))) why stay stops counts cause answer = absurd counts.0
-  files_some news opened now (puts.Unread (walks.Refused input (refusals.Compressed offset name))) why stay stops counts cause answer = absurd counts.0
-  files_some news opened now (puts.Unread (walks.Refused input (refusals.Limit offset))) why stay stops counts cause answer = absurd counts.0
-  files_some news opened now (puts.Unread (walks.Refused input refusals.Memory)) why stay stops counts cause answer =
-      inr (inr (files_cut news opened now why (walks.Refused input refusals.Memory) stops counts.1 (subst (IsCutBy olds news) (sym answer) (counts_behind olds mids news stay ready.still counts.0))))
+      inr (inr (files_cut news opened now (merges.Changed input offset) stopped refl counts.1 because))
+  files_some news opened now (merges.Halted input (refusals.Fault faults)) stay stopped counts cause =
+      inr (inr (files_cut news opened now (merges.Halted input (refusals.Fault faults)) stopped refl counts.1 (rose_behind olds mids news stay input faults ready.still counts.0)))
+  files_some news opened now (merges.Halted input (refusals.Grammar offset rule)) stay stopped counts cause = absurd counts.0
+  files_some news opened now (merges.Halted input (refusals.Compressed offset name)) stay stopped counts cause = absurd counts.0
+  files_some news opened now (merges.Halted input (refusals.Limit offset)) stay stopped counts cause = absurd counts.0
+  files_some news opened now (merges.Halted input refusals.Memory) stay stopped counts cause = absurd counts.0
+  files_some news opened now merges.TooManySchemas stay stopped counts cause = absurd counts
+  files_some news opened now merges.TooManyChannels stay stopped counts cause = absurd counts
+
+  -- ---- what is answered
+
+  pub merged_so : (news : List StoreState) (opened now : LiveState) (result : Result Merged MergeRefused) → StoresStay mids news → IfOk result (λ m. WholeStands (FilesAs r.options (Ok tt)) start opened now m) → PutCounts mids news opened.faults now.faults result → IfOk result (λ m. MergesInto olds news opened now chunk m)
+  merged_so news opened now (Ok m) stay whole counts = files_all news opened now m stay whole counts
+  merged_so news opened now (Err why) stay whole counts = tt
+
+  pub refused_so : (news : List StoreState) (opened now : LiveState) (result : Result Merged MergeRefused) → StoresStay mids news → IfErr result (λ why. FileStops r.options start opened now why) → PutCounts mids news opened.faults now.faults result
+      → IfErr result (λ why. WhyNotAll (files_of mids) r.begun.walk inputs why) → IfErr result (λ why. MergeFails olds news opened now chunk why)
+  refused_so news opened now (Ok m) stay stopped counts cause = tt
+  refused_so news opened now (Err why) stay stopped counts cause = files_some news opened now why stay stopped counts cause
 
   -- ---- what the stores are then
 
@@ -267,5 +276,5 @@ module _ (olds mids : List StoreState) (chunk : ℕ) (r : Ready) (ready : IsRead
   pub asked_then : (news : List StoreState) → StoresStay mids news → AllZip AsksWithinLength olds mids → AskedWithin mids news (unasked r.begun.walk) none_left → AllZip AsksTwice olds news
   asked_then news stay once within = asked_behind olds mids news stay r.begun.walk once within (asked_sum reads mids inputs (pieces_in r.begun.walk) ready.gathered.hold ready.fits ready.begun.pieces)
 
-  pub kept_then : {X : Type 0} (news : List StoreState) (before now : ℕ) (result : Result X PutRefused) → StoresStay mids news → PutCounts mids news before now result → AllZip StoreKeeps olds news
+  pub kept_then : {X : Type 0} (news : List StoreState) (before now : ℕ) (result : Result X MergeRefused) → StoresStay mids news → PutCounts mids news before now result → AllZip StoreKeeps olds news
   kept_then news before now result stay counts = keeps_behind olds mids news stay keeps (unfallen mids news before now result counts)

@@ -1,5 +1,5 @@
 -- The records of turns, put one after the other.
-use Rattle.std.proofs.Common.{◌≡◌, ℕ, suc, ◌+◌, ◌<◌, true, false, List, [], ◌∷◌, ◌++◌, length, fold, Option, Some, None, refl, sym, ap, subst, ◌∙◌, inl, inr, Ok, arith}
+use Rattle.std.proofs.Common.{◌≡◌, ℕ, suc, ◌+◌, ◌<◌, true, false, List, [], ◌∷◌, ◌++◌, length, fold, Option, Some, None, refl, sym, ap, subst, ◌∙◌, inl, inr, Ok, Err, arith}
 use Rattle.std.specs.List.{AllZip}
 use Rattle.std.proofs.lemmas.List.{length-append}
 use Rattle.rec_data.specs.declared.owned.Rec.{Rec}
@@ -7,6 +7,8 @@ use Rattle.rec_data.specs.declared.channel.ChannelDef.{ChannelDef}
 use Rattle.rec_data.specs.Fields.{MessageFields}
 use Rattle.rec_data.specs.Records.{ShowsMessage}
 use Rattle.mcap_io.specs.Stores.{StoreState}
+use Rattle.mcap_model.specs.declared.refusals.ReadingRefused.TheVariants as readings
+use Rattle.mcap_model.specs.declared.ends.Stop.TheVariants as stops
 use Rattle.mcap_model.specs.Places.{At, Has}
 use Rattle.mcap_model.specs.Tops.{Top, flat}
 use Rattle.mcap_model.specs.Declarations.{TablesOf}
@@ -24,9 +26,10 @@ use Rattle.chunk_walk.specs.declared.walk.Walk.{Walk}
 use Rattle.chunk_walk.specs.Cursors.{turn_of}
 use Rattle.record_walk.specs.Heads.{heads_in}
 use Rattle.chunk_walk.specs.Pieces.{InputBytes}
-use Rattle.chunk_walk.specs.Stores.{StoresFit, StoresStay, LeavesStores, AskedWithin, none_left}
+use Rattle.chunk_walk.specs.Stores.{StoresFit, StoresStay, LeavesStores, RefusedCounts, AskedWithin, none_left}
 use Rattle.chunk_walk.specs.Walks.{Text, turns_in, pieces_in, IsTextOf, IsMessageAt, IsWalkRefused, WalkStands, IsOfHeld, Advances}
 use Rattle.chunk_walk.proofs.Stayed.{leaves_on}
+use Rattle.mcap_merge.specs.declared.answers.MergeRefused.{MergeRefused}
 use Rattle.mcap_merge.specs.declared.input.Input.{Input}
 use Rattle.mcap_merge.specs.declared.joining.Joiner.{Joiner}
 use Rattle.mcap_merge.specs.Inputs.{HoldsInput, HoldInputs}
@@ -35,7 +38,7 @@ use Rattle.mcap_merge.specs.Uses.{Use, added_by, with_use, history_of}
 use Rattle.mcap_merge.specs.Contents.{IdsSuffice}
 use Rattle.mcap_merge.specs.Joining.{JoinerStands}
 use Rattle.mcap_merge.specs.Writing.{put_on_channel, ComesNext}
-use Rattle.mcap_merge.specs.Turns.{IsNoMessageOn, IsUseOfTurn, UsesOf, sources, PutSoFar, PutAll, PutSome, WhyUnread}
+use Rattle.mcap_merge.specs.Turns.{IsNoMessageOn, IsUseOfTurn, UsesOf, sources, PutSoFar, PutAll, PutSome, IsChanged, IsWalkRefusal, WhyNotAll, stop_of, PutCounts}
 use Rattle.mcap_merge.proofs.Contents.{content_once}
 use Rattle.mcap_merge.proofs.Marking.{channel_shown}
 use Rattle.mcap_merge.proofs.Merging.{zip_weaker}
@@ -262,13 +265,34 @@ asked_in_all a b f g within k old new at_old at_new =
 -- ---- why not all was put
 
 -- the walk is refused
-pub why_refused : (files theirs : InputBytes) (start w : Walk) (inputs : List Input) (why : WalkRefused) → theirs ≡ files → w.pieces ≡ start.pieces → IsWalkRefused theirs w why → WhyUnread files start inputs why
-why_refused files theirs start w inputs (walks.Changed input offset) is same refused = inl (w, ap (λ v. v.items) same, subst (λ (f : InputBytes). IsWalkRefused f w (walks.Changed input offset)) is refused)
-why_refused files theirs start w inputs (walks.Refused input why) is same refused = tt
+pub why_refused : (files theirs : InputBytes) (start w : Walk) (inputs : List Input) (why : WalkRefused) (answer : MergeRefused) → theirs ≡ files → w.pieces ≡ start.pieces → IsWalkRefused theirs w why → IsWalkRefusal why answer → WhyNotAll files start inputs answer
+why_refused files theirs start w inputs (walks.Changed input offset) answer is same refused so =
+    subst (WhyNotAll files start inputs) (sym so) (inl (w, ap (λ v. v.items) same, subst (λ (f : InputBytes). IsWalkRefused f w (walks.Changed input offset)) is refused))
+why_refused files theirs start w inputs (walks.Refused input (readings.Fault faults)) answer is same refused so = subst (WhyNotAll files start inputs) (sym so) tt
+why_refused files theirs start w inputs (walks.Refused input (readings.Grammar offset rule)) answer is same refused so = subst (WhyNotAll files start inputs) (sym so) tt
+why_refused files theirs start w inputs (walks.Refused input (readings.Compressed offset name)) answer is same refused so = subst (WhyNotAll files start inputs) (sym so) tt
+why_refused files theirs start w inputs (walks.Refused input (readings.Limit offset)) answer is same refused so = subst (WhyNotAll files start inputs) (sym so) tt
+why_refused files theirs start w inputs (walks.Refused input readings.Memory) answer is same refused so = subst (WhyNotAll files start inputs) (sym so) tt
+
+pub counts_refused : (X : Type 0) (olds news : List StoreState) (before now : ℕ) (why : WalkRefused) (answer : MergeRefused) → RefusedCounts olds news why → now ≡ before → IsWalkRefusal why answer → PutCounts {X = X} olds news before now (Err answer)
+counts_refused X olds news before now (walks.Changed input offset) answer counts still so = subst (λ (r : MergeRefused). PutCounts {X = X} olds news before now (Err r)) (sym so) (counts, still)
+counts_refused X olds news before now (walks.Refused input (readings.Fault faults)) answer counts still so = subst (λ (r : MergeRefused). PutCounts {X = X} olds news before now (Err r)) (sym so) (counts, still)
+counts_refused X olds news before now (walks.Refused input (readings.Grammar offset rule)) answer counts still so = absurd counts
+counts_refused X olds news before now (walks.Refused input (readings.Compressed offset name)) answer counts still so = absurd counts
+counts_refused X olds news before now (walks.Refused input (readings.Limit offset)) answer counts still so = absurd counts
+counts_refused X olds news before now (walks.Refused input readings.Memory) answer counts still so = subst (λ (r : MergeRefused). PutCounts {X = X} olds news before now (Err r)) (sym so) (counts, still)
+
+pub stop_refused : (why : WalkRefused) (answer : MergeRefused) → IsWalkRefusal why answer → stop_of answer ≡ stops.Memory
+stop_refused (walks.Changed input offset) answer so = ap stop_of so
+stop_refused (walks.Refused input (readings.Fault faults)) answer so = ap stop_of so
+stop_refused (walks.Refused input (readings.Grammar offset rule)) answer so = ap stop_of so
+stop_refused (walks.Refused input (readings.Compressed offset name)) answer so = ap stop_of so
+stop_refused (walks.Refused input (readings.Limit offset)) answer so = ap stop_of so
+stop_refused (walks.Refused input readings.Memory) answer so = ap stop_of so
 
 -- the record of a turn is no message that may be put
 pub why_other : (files : InputBytes) (start after : Walk) (inputs : List Input) (texts : List Text) (given : List Turn) (t : Turn) (input : Input) (top : Top) → WalkStands files after texts given → (held : IsOfHeld after texts t) → after.pieces ≡ start.pieces → At inputs t.input input → IsMessageAt held.text t top
-    → IsNoMessageOn input top.content → WhyUnread files start inputs (walks.Changed t.input t.offset)
+    → IsNoMessageOn input top.content → IsChanged files start inputs t.input t.offset
 why_other files start after inputs texts given t input top stands held same here there none =
     let x = held.text in
     let (p, at_p, is) = zip_back (IsTextOf files) _ texts held.among.0 x stands.taken held.among.1 in

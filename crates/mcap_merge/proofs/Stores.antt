@@ -15,13 +15,14 @@ use Rattle.mcap_model.proofs.NamedTopics.{zip_front, unmapped}
 use Rattle.mcap_model.proofs.OneMore.{taken_more, zip_push}
 use Rattle.mcap_model.specs.declared.refusals.ReadingRefused.{ReadingRefused}
 use Rattle.mcap_model.specs.declared.refusals.ReadingRefused.TheVariants as refusals
+use Rattle.mcap_model.specs.declared.rules.Rule.{Rule}
 use Rattle.chunk_survey.specs.declared.spans.Span.{Span}
 use Rattle.mcap_merge.specs.declared.answers.MergeRefused.{MergeRefused}
 use Rattle.mcap_merge.specs.declared.input.Input.{Input}
 use Rattle.mcap_merge.specs.Inputs.{HoldsInput, HoldInputs}
 use Rattle.mcap_merge.specs.ReadInputs.{Read}
 use Rattle.mcap_merge.specs.Reading.{FaultsStand, IsReadOf, AreReadBefore, InputRefused}
-use Rattle.mcap_merge.specs.ReadingSteps.{front_source, FrontReads, HasLength, TellsFaultCount, FindsOutside, SpansFit, AsksWithinLength, StoreKeeps, StoreRefused, ReadsWhole, IsRefusalAt, AllReadWhole}
+use Rattle.mcap_merge.specs.ReadingSteps.{front_source, FrontReads, HasLength, IsCounted, FindsOutside, SpansFit, AsksWithinLength, StoreKeeps, StoreRefused, ReadsWhole, IsRefusalAt, AllReadWhole}
 use Rattle.mcap_merge.proofs.Within.{halts_within}
 
 -- the first bytes of a store are all where the length is theirs
@@ -40,7 +41,7 @@ front_whole old new len input whole front =
     let all = halts.halts in
     (r, holds, λ bytes is. (end, all bytes (told_left old len bytes whole is)), no_fault old new front.next len front.now.faults front.was halts.still)
 
-pub front_refused : (old new : StoreState) (len : ℕ) (why result : ReadingRefused) → HasLength old len → FrontReads old len new (Err why) → TellsFaultCount new.faults why result → StoreRefused old new result
+pub front_refused : (old new : StoreState) (len : ℕ) (why result : ReadingRefused) → HasLength old len → FrontReads old len new (Err why) → IsCounted new.faults why result → StoreRefused old new result
 front_refused old new len (refusals.Fault faults) result whole front is =
     let (tops, stands) = front.reads in
     let was = front.was in
@@ -64,7 +65,7 @@ front_refused old new len refusals.Memory result whole front is =
     subst (StoreRefused old new) (sym is) (no_fault old new front.next len front.now.faults front.was stands.still)
 
 -- a store that tells has all spans of its records
-pub outside_refused : (old new : StoreState) (len offset rule : ℕ) (input : Input) → HasLength old len → ReadsWhole old new (Ok input) → FindsOutside input.spans.items len (Some offset) → StoreRefused old new (refusals.Grammar offset rule)
+pub outside_refused : (old new : StoreState) (len offset : ℕ) (rule : Rule) (input : Input) → HasLength old len → ReadsWhole old new (Ok input) → FindsOutside input.spans.items len (Some offset) → StoreRefused old new (refusals.Grammar offset rule)
 outside_refused old new len offset rule input whole (r, holds, is, still) (s, has, there, behind) = (
   still,
   λ bytes told.

@@ -8,15 +8,12 @@ use Rattle.mcap_io.specs.Stores.{StoreState}
 use Rattle.mcap_model.specs.declared.options.FileOptions.{FileOptions}
 use Rattle.mcap_model.specs.declared.ends.Stop.{Stop}
 use Rattle.mcap_model.specs.Tops.{Top}
-use Rattle.chunk_walk.specs.declared.answers.WalkRefused.TheVariants as walks
 use Rattle.mcap_merge.specs.declared.answers.MergeRefused.{MergeRefused}
 use Rattle.mcap_merge.specs.declared.answers.MergeRefused.TheVariants as merges
 use Rattle.mcap_merge.specs.declared.answers.Merged.{Merged}
 use Rattle.mcap_merge.specs.declared.merge_stores.Ready.{Ready}
-use Rattle.mcap_merge.specs.declared.turns.PutRefused.{PutRefused}
-use Rattle.mcap_merge.specs.declared.turns.PutRefused.TheVariants as puts
 use Rattle.mcap_merge.specs.Reading.{FaultsStand}
-use Rattle.mcap_merge.specs.ReadingSteps.{SpansFit, IsRefusalAt}
+use Rattle.mcap_merge.specs.ReadingSteps.{SpansFit}
 use Rattle.mcap_merge.specs.GatheringSteps.{IsGathered}
 use Rattle.mcap_merge.specs.Turns.{stop_of}
 use Rattle.mcap_merge.specs.Putting.{IsBegun, MergeStart, WholeStands, PartStands}
@@ -37,12 +34,6 @@ FilesAs options end opened now extras history = FileStands options extras histor
 
 -- The writing was stopped behind some turns, at a piece of their file, whatever would have come behind them; or behind all, at a
 -- piece of theirs.
-abbrev pub FileStops : FileOptions → MergeStart → LiveState → LiveState → PutRefused → Type 0
+abbrev pub FileStops : FileOptions → MergeStart → LiveState → LiveState → MergeRefused → Type 0
 FileStops options start opened now why = PartStands (FilesAs options (Err (stop_of why))) start opened now
-    ⊎ ((stop : Stop) × (why ≡ puts.Stopped stop) × (m : Merged) × WholeStands (FilesAs options (Err stop)) start opened now m)
-
--- what a merge answers for that
-abbrev pub IsPutRefusal : PutRefused → MergeRefused → Type 0
-IsPutRefusal (puts.Stopped stop) why = why ≡ merges.Stopped stop
-IsPutRefusal (puts.Unread (walks.Changed input offset)) why = why ≡ merges.Changed input offset
-IsPutRefusal (puts.Unread (walks.Refused input reading)) why = IsRefusalAt input reading why
+    ⊎ ((stop : Stop) × (why ≡ merges.Stopped stop) × (m : Merged) × WholeStands (FilesAs options (Err stop)) start opened now m)

@@ -11,11 +11,11 @@ use Rattle.chunk_walk.specs.declared.answers.Turn.{Turn}
 use Rattle.chunk_walk.specs.declared.walk.Walk.{Walk}
 use Rattle.chunk_walk.specs.Pieces.{InputBytes}
 use Rattle.chunk_walk.specs.Walks.{Text, pieces_in, pieces_loaded, peak_of, WalkStands, AllGiven}
+use Rattle.mcap_merge.specs.declared.answers.MergeRefused.{MergeRefused}
+use Rattle.mcap_merge.specs.declared.answers.MergeRefused.TheVariants as merges
 use Rattle.mcap_merge.specs.declared.answers.Merged.{Merged}
 use Rattle.mcap_merge.specs.declared.input.Input.{Input}
 use Rattle.mcap_merge.specs.declared.starting.Begun.{Begun}
-use Rattle.mcap_merge.specs.declared.turns.PutRefused.{PutRefused}
-use Rattle.mcap_merge.specs.declared.turns.PutRefused.TheVariants as puts
 use Rattle.mcap_merge.specs.Joining.{JoinerStands, IsSized}
 use Rattle.mcap_merge.specs.Pieces.{pieces_from}
 use Rattle.mcap_merge.specs.Uses.{history_of}
@@ -70,10 +70,10 @@ pub record EndsWhole {P : Type 0} (adds : P → P → List Top → List Rec → 
   pub ends_file : ends all new end
 
 -- the pen stopped before the end
-pub record StopsBefore {P : Type 0} (adds : P → P → List Top → List Rec → Type 0) (phase : P → Phase) (start : MergeStart) (old new : P) (why : PutRefused) : Type 0 where
+pub record StopsBefore {P : Type 0} (adds : P → P → List Top → List Rec → Type 0) (phase : P → Phase) (start : MergeStart) (old new : P) (why : MergeRefused) : Type 0 where
   pub part : PartStands adds start old new
   pub stopped : phase new ≡ phases.Stopped (stop_of why)
 
 -- or at the end
-abbrev pub StopsAtEnd : {P : Type 0} → (P → P → List Top → List Rec → Type 0) → (P → P → Result Unit Stop → Type 0) → MergeStart → P → P → PutRefused → Type 0
-StopsAtEnd adds ends start old new why = (stop : Stop) × (why ≡ puts.Stopped stop) × (m : Merged) × EndsWhole adds ends start old new m (Err stop)
+abbrev pub StopsAtEnd : {P : Type 0} → (P → P → List Top → List Rec → Type 0) → (P → P → Result Unit Stop → Type 0) → MergeStart → P → P → MergeRefused → Type 0
+StopsAtEnd adds ends start old new why = (stop : Stop) × (why ≡ merges.Stopped stop) × (m : Merged) × EndsWhole adds ends start old new m (Err stop)

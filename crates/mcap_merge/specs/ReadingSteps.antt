@@ -35,12 +35,12 @@ abbrev pub HasLength : StoreState → ℕ → Type 0
 HasLength store len = (bytes : List ℕ) → store.bytes ≡ Some bytes → len ≡ length bytes
 
 -- a fault is told with that count
-abbrev pub TellsFaultCount : ℕ → ReadingRefused → ReadingRefused → Type 0
-TellsFaultCount count (refusals.Fault faults) result = result ≡ refusals.Fault count
-TellsFaultCount count (refusals.Grammar offset rule) result = result ≡ refusals.Grammar offset rule
-TellsFaultCount count (refusals.Compressed offset name) result = result ≡ refusals.Compressed offset name
-TellsFaultCount count (refusals.Limit offset) result = result ≡ refusals.Limit offset
-TellsFaultCount count refusals.Memory result = result ≡ refusals.Memory
+abbrev pub IsCounted : ℕ → ReadingRefused → ReadingRefused → Type 0
+IsCounted count (refusals.Fault faults) result = result ≡ refusals.Fault count
+IsCounted count (refusals.Grammar offset rule) result = result ≡ refusals.Grammar offset rule
+IsCounted count (refusals.Compressed offset name) result = result ≡ refusals.Compressed offset name
+IsCounted count (refusals.Limit offset) result = result ≡ refusals.Limit offset
+IsCounted count refusals.Memory result = result ≡ refusals.Memory
 
 -- each of these spans ends within so many bytes
 abbrev pub EndWithin : ℕ → List Span → Type 0

@@ -7,6 +7,8 @@ use Rattle.rec_data.specs.Fields.{MessageFields}
 use Rattle.rec_data.specs.Parsed.{message_fields}
 use Rattle.rec_data.specs.Records.{ShowsMessage}
 use Rattle.mcap_io.specs.Stores.{StoreState}
+use Rattle.mcap_model.specs.declared.refusals.ReadingRefused.{ReadingRefused}
+use Rattle.mcap_model.specs.declared.refusals.ReadingRefused.TheVariants as readings
 use Rattle.mcap_model.specs.declared.ends.Stop.{Stop}
 use Rattle.mcap_model.specs.declared.ends.Stop.TheVariants as stops
 use Rattle.mcap_model.specs.Places.{At, Has}
@@ -19,17 +21,18 @@ use Rattle.chunk_walk.specs.declared.answers.WalkRefused.TheVariants as walks
 use Rattle.chunk_walk.specs.declared.pieces.Piece.{Piece}
 use Rattle.chunk_walk.specs.declared.walk.Walk.{Walk}
 use Rattle.chunk_walk.specs.Pieces.{InputBytes}
-use Rattle.chunk_walk.specs.Stores.{AllCountsStand, RefusedCounts}
+use Rattle.chunk_walk.specs.Stores.{AllCountsStand, OneRose}
 use Rattle.chunk_walk.specs.Walks.{Text, turns_in, pieces_in, pieces_loaded, IsTextOf, IsMessageAt, IsWalkRefused, WalkStands, AllGiven}
+use Rattle.mcap_merge.specs.declared.answers.MergeRefused.{MergeRefused}
+use Rattle.mcap_merge.specs.declared.answers.MergeRefused.TheVariants as merges
 use Rattle.mcap_merge.specs.declared.input.Input.{Input}
-use Rattle.mcap_merge.specs.declared.turns.PutRefused.{PutRefused}
-use Rattle.mcap_merge.specs.declared.turns.PutRefused.TheVariants as puts
 use Rattle.mcap_merge.specs.declared.joining.Joiner.{Joiner}
 use Rattle.mcap_merge.specs.Uses.{Use, history_of}
 use Rattle.mcap_merge.specs.Contents.{HasContent, IdsSuffice}
 use Rattle.mcap_merge.specs.Joining.{JoinerStands}
 use Rattle.mcap_merge.specs.Inputs.{HoldInputs}
 use Rattle.mcap_merge.specs.ReadInputs.{Read, read_tops}
+use Rattle.mcap_merge.specs.ReadingSteps.{IsRefusalAt}
 
 -- ---- one message
 
@@ -115,21 +118,41 @@ pub record IsOther (files : InputBytes) (pieces : List Piece) (inputs : List Inp
 abbrev pub IsChanged : InputBytes → Walk → List Input → ℕ → ℕ → Type 0
 IsChanged files start inputs input offset = ((w : Walk) × (pieces_in w ≡ pieces_in start) × IsWalkRefused files w (walks.Changed input offset)) ⊎ IsOther files (pieces_in start) inputs input offset
 
-abbrev pub WhyUnread : InputBytes → Walk → List Input → WalkRefused → Type 0
-WhyUnread files start inputs (walks.Changed input offset) = IsChanged files start inputs input offset
-WhyUnread files start inputs (walks.Refused input why) = Unit {0}
+-- what a merge answers, where the walk can't go on
+abbrev pub IsWalkRefusal : WalkRefused → MergeRefused → Type 0
+IsWalkRefusal (walks.Changed input offset) why = why ≡ merges.Changed input offset
+IsWalkRefusal (walks.Refused input reading) why = IsRefusalAt input reading why
 
-abbrev pub WhyNotAll : InputBytes → Walk → List Input → PutRefused → Type 0
-WhyNotAll files start inputs (puts.Stopped stop) = Unit {0}
-WhyNotAll files start inputs (puts.Unread why) = WhyUnread files start inputs why
+-- A change was found. The counts say what a failure was, and a stopped pen how it stands.
+abbrev pub WhyNotAll : InputBytes → Walk → List Input → MergeRefused → Type 0
+WhyNotAll files start inputs (merges.Halted input why) = Unit {0}
+WhyNotAll files start inputs (merges.Changed input offset) = IsChanged files start inputs input offset
+WhyNotAll files start inputs merges.TooManySchemas = ⊥
+WhyNotAll files start inputs merges.TooManyChannels = ⊥
+WhyNotAll files start inputs (merges.Stopped stop) = Unit {0}
 
 -- what the pen stopped at: where an input wasn't read again, it was made to
-abbrev pub stop_of : PutRefused → Stop
-stop_of (puts.Stopped stop) = stop
-stop_of (puts.Unread why) = stops.Memory
+abbrev pub stop_of : MergeRefused → Stop
+stop_of (merges.Halted input why) = stops.Memory
+stop_of (merges.Changed input offset) = stops.Memory
+stop_of merges.TooManySchemas = stops.Memory
+stop_of merges.TooManyChannels = stops.Memory
+stop_of (merges.Stopped stop) = stop
 
--- The counts of the stores and of the pen: one rises, and only where its failure is what is answered.
-abbrev pub PutCounts : {X : Type 0} → List StoreState → List StoreState → ℕ → ℕ → Result X PutRefused → Type 0
+-- an input isn't read again only where its store fails, whose count rises
+abbrev pub HaltedCounts : List StoreState → List StoreState → ℕ → ReadingRefused → Type 0
+HaltedCounts olds news input (readings.Fault faults) = OneRose olds news input faults
+HaltedCounts olds news input (readings.Grammar offset rule) = ⊥
+HaltedCounts olds news input (readings.Compressed offset name) = ⊥
+HaltedCounts olds news input (readings.Limit offset) = ⊥
+HaltedCounts olds news input readings.Memory = ⊥
+
+-- The counts of the stores and of the pen: one rises, and only where its failure is what is answered. Too many ids are never the
+-- reason.
+abbrev pub PutCounts : {X : Type 0} → List StoreState → List StoreState → ℕ → ℕ → Result X MergeRefused → Type 0
 PutCounts olds news before now (Ok it) = AllCountsStand olds news × (now ≡ before)
-PutCounts olds news before now (Err (puts.Stopped stop)) = AllCountsStand olds news × StopCause before now stop
-PutCounts olds news before now (Err (puts.Unread why)) = RefusedCounts olds news why × (now ≡ before)
+PutCounts olds news before now (Err (merges.Halted input why)) = HaltedCounts olds news input why × (now ≡ before)
+PutCounts olds news before now (Err (merges.Changed input offset)) = AllCountsStand olds news × (now ≡ before)
+PutCounts olds news before now (Err merges.TooManySchemas) = ⊥
+PutCounts olds news before now (Err merges.TooManyChannels) = ⊥
+PutCounts olds news before now (Err (merges.Stopped stop)) = AllCountsStand olds news × StopCause before now stop

@@ -9,12 +9,12 @@ ghost use Rattle.mcap_merge.specs.Writing.{ExtrasMeet};
 ghost use Rattle.mcap_merge.specs.Turns.{WhyNotAll, PutCounts};
 ghost use Rattle.mcap_merge.specs.Putting.{IsBegun, EndsWhole, StopsBefore, StopsAtEnd};
 
-use crate::answers::Merged;
+use crate::answers::{MergeRefused, Merged};
 use crate::extras::write_extras;
 use crate::input::Input;
 use crate::pen::Pen;
 use crate::starting::Begun;
-use crate::turns::{PutRefused, put_turns};
+use crate::turns::put_turns;
 use mcap_io::Store;
 use std::alloc::Global;
 
@@ -25,7 +25,7 @@ pub(crate) fn write_all<T: Store, P: Pen>(
     stores: &mut Vec<T>,
     begun: Begun,
     pen: &mut P,
-) -> Result<Merged, PutRefused>
+) -> Result<Merged, MergeRefused>
     requires few { length inputs.now ≤ 64 }
     requires held { (reads : List Read) × HoldInputs reads inputs.now }
     requires meet { ExtrasMeet inputs.now }
@@ -43,7 +43,7 @@ pub(crate) fn write_all<T: Store, P: Pen>(
 {
     match write_extras(inputs, pen) {
         Ok(()) => {}
-        Err(stop) => return Err(PutRefused::Stopped { stop }),
+        Err(stop) => return Err(MergeRefused::Stopped { stop }),
     }
     let Begun { walk, joiner } = begun;
     let mut walk = walk;
@@ -68,6 +68,6 @@ pub(crate) fn write_all<T: Store, P: Pen>(
     };
     match pen.finish() {
         Ok(()) => return Ok(merged),
-        Err(stop) => return Err(PutRefused::Stopped { stop }),
+        Err(stop) => return Err(MergeRefused::Stopped { stop }),
     }
 }

@@ -13,16 +13,13 @@ ghost use Rattle.mcap_merge.specs.Gathering.{GatherRefused};
 ghost use Rattle.mcap_merge.specs.Turns.{WhyNotAll, PutCounts};
 ghost use Rattle.mcap_merge.specs.Putting.{IsBegun, WholeStands};
 ghost use Rattle.mcap_merge.specs.Filed.{merged_options, MergesInto, MergeFails, AsksTwice};
-ghost use Rattle.mcap_merge.specs.Filing.{IsReadyToWrite, FilesAs, FileStops, IsPutRefusal};
+ghost use Rattle.mcap_merge.specs.Filing.{IsReadyToWrite, FilesAs, FileStops};
 
 use crate::answers::{MergeRefused, Merged};
 use crate::gathering::{Gathered, gather};
 use crate::input::Input;
 use crate::merge_file::write_all;
-use crate::reading::refusal_at;
 use crate::starting::{Begun, begin};
-use crate::turns::PutRefused;
-use chunk_walk::WalkRefused;
 use chunk_writer::Scribe;
 use mcap_io::{LiveStore, Store};
 use mcap_model::{FileOptions, Stop};
@@ -35,21 +32,6 @@ pub(crate) struct Ready {
     pub(crate) gathered: Gathered,
     pub(crate) options: FileOptions,
     pub(crate) begun: Begun,
-}
-
-// Why not all was written, as a merge answers it.
-fn refusal_of(why: PutRefused) -> MergeRefused
-    ensures { IsPutRefusal why result }
-{
-    match why {
-        PutRefused::Stopped { stop } => return MergeRefused::Stopped { stop },
-        PutRefused::Unread {
-            why: WalkRefused::Changed { input, offset },
-        } => return MergeRefused::Changed { input, offset },
-        PutRefused::Unread {
-            why: WalkRefused::Refused { input, why },
-        } => return refusal_at(input, why),
-    }
 }
 
 // How the file is to be written. The content of a Header isn't longer than the limit, so its profile isn't.
@@ -109,7 +91,7 @@ fn write_file<T: Store, L: LiveStore>(
     begun: Begun,
     options: &FileOptions,
     live: L,
-) -> (L, Result<Merged, PutRefused>)
+) -> (L, Result<Merged, MergeRefused>)
     requires few { length inputs.now ≤ 64 }
     requires held { (reads : List Read) × HoldInputs reads inputs.now }
     requires meet { ExtrasMeet inputs.now }
@@ -131,7 +113,7 @@ fn write_file<T: Store, L: LiveStore>(
             let end = write_all(alloc, inputs, stores, begun, &mut pen);
             return (pen.into_store(), end);
         }
-        Err((live, stop)) => return (live, Err(PutRefused::Stopped { stop })),
+        Err((live, stop)) => return (live, Err(MergeRefused::Stopped { stop })),
     }
 }
 
@@ -164,9 +146,5 @@ pub fn merge<T: Store, L: LiveStore>(
         begun,
     } = ready;
     let inputs = gathered.inputs.as_slice();
-    let (live, end) = write_file(alloc, inputs, stores, begun, &options, live);
-    match end {
-        Ok(merged) => return (live, Ok(merged)),
-        Err(why) => return (live, Err(refusal_of(why))),
-    }
+    write_file(alloc, inputs, stores, begun, &options, live)
 }

@@ -3,13 +3,13 @@ ghost use Rattle.std.specs.Prelude.{◌≡◌, ◌+◌, ◌≤◌, List, map, le
 ghost use Rattle.std.specs.List.{AllZip};
 ghost use Rattle.mcap_io.specs.StoreAnswers.{StoreStays};
 ghost use Rattle.mcap_merge.specs.Reading.{FaultsStand, InputRefused};
-ghost use Rattle.mcap_merge.specs.ReadingSteps.{FrontReads, HasLength, StoreKeeps, ReadsWhole, TellsFaultCount, FindsOutside, EndWithin, SpansFit, AsksWithinLength, IsRefusalAt, AllReadWhole};
+ghost use Rattle.mcap_merge.specs.ReadingSteps.{FrontReads, HasLength, StoreKeeps, ReadsWhole, IsCounted, FindsOutside, EndWithin, SpansFit, AsksWithinLength, IsRefusalAt, AllReadWhole};
 
 use crate::answers::MergeRefused;
 use crate::input::{Input, read_input};
 use chunk_survey::Span;
 use mcap_io::{Failed, Store};
-use mcap_model::{ReadingRefused, Stop};
+use mcap_model::{ReadingRefused, Rule, Stop};
 use std::alloc::Global;
 use store_front::StoreFront;
 
@@ -24,7 +24,7 @@ fn read_front<T: Store>(alloc: Global, store: &mut T, len: u64) -> Result<Input,
 
 // A refusal with the count of the store.
 fn counted<T: Store>(store: &T, why: ReadingRefused) -> ReadingRefused
-    ensures { TellsFaultCount (T.state store.now).faults why result }
+    ensures { IsCounted (T.state store.now).faults why result }
 {
     match why {
         ReadingRefused::Fault { faults: _ } => {
@@ -69,7 +69,10 @@ fn read_known<T: Store>(alloc: Global, store: &mut T, len: u64) -> Result<Input,
     };
     match first_outside(input.spans.as_slice(), len) {
         None => return Ok(input),
-        Some(offset) => return Err(ReadingRefused::Grammar { offset, rule: 4 }),
+        Some(offset) => return Err(ReadingRefused::Grammar {
+            offset,
+            rule: Rule::V4,
+        }),
     }
 }
 

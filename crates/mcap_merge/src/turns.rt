@@ -3,32 +3,22 @@ ghost use Rattle.std.specs.Prelude.{◌≡◌, ◌≤◌, ◌*◌, List, map, le
 ghost use Rattle.mcap_io.specs.Stores.{StoreState};
 ghost use Rattle.chunk_writer.specs.declared.phase.Phase.TheVariants as phases;
 ghost use Rattle.record_core.specs.Tables.{HasSchemas};
-ghost use Rattle.chunk_walk.specs.declared.answers.WalkRefused.TheVariants as walks;
-ghost use Rattle.mcap_merge.specs.declared.turns.PutRefused.TheVariants as puts;
 ghost use Rattle.chunk_walk.specs.Stores.{files_of, StoresFit, StoresStay, AskedWithin, unasked, none_left};
 ghost use Rattle.chunk_walk.specs.Walks.{pieces_in};
 ghost use Rattle.mcap_merge.specs.Inputs.{HoldInputs};
 ghost use Rattle.mcap_merge.specs.ReadInputs.{Read};
-ghost use Rattle.mcap_merge.specs.Turns.{IsMessageOn, sources, PutSoFar, PutAll, PutSome, WhyNotAll, stop_of, PutCounts};
+ghost use Rattle.mcap_merge.specs.Turns.{IsMessageOn, IsWalkRefusal, sources, PutSoFar, PutAll, PutSome, WhyNotAll, stop_of, PutCounts};
 
+use crate::answers::MergeRefused;
 use crate::input::Input;
 use crate::joining::Joiner;
 use crate::pen::Pen;
+use crate::reading::refusal_at;
 use crate::writing::write_message;
-use chunk_walk::{Turn, Walk, WalkRefused};
+use chunk_walk::{Walk, WalkRefused};
 use mcap_io::Store;
-use mcap_model::Stop;
 use rec_data::Message;
 use std::alloc::Global;
-
-/// Why not all messages were put.
-#[derive(Drop)]
-pub(crate) enum PutRefused {
-    /// The pen stopped.
-    Stopped { stop: Stop },
-    /// An input wasn't read again.
-    Unread { why: WalkRefused },
-}
 
 // The Message of that content, where it is one on a channel of the input that has messages.
 fn message_in<'a>(input: &Input, content: &'a [u8]) -> Option<Message<'a>>
@@ -45,15 +35,13 @@ fn message_in<'a>(input: &Input, content: &'a [u8]) -> Option<Message<'a>>
     return None;
 }
 
-// The record of a turn isn't what it was.
-fn changed(turn: &Turn) -> PutRefused
-    ensures { result ≡ puts.Unread (walks.Changed turn.now.input turn.now.offset) }
+// Why files aren't merged, where the walk can't go on.
+fn refusal_of(why: WalkRefused) -> MergeRefused
+    ensures { IsWalkRefusal why result }
 {
-    PutRefused::Unread {
-        why: WalkRefused::Changed {
-            input: turn.input,
-            offset: turn.offset,
-        },
+    match why {
+        WalkRefused::Changed { input, offset } => return MergeRefused::Changed { input, offset },
+        WalkRefused::Refused { input, why } => return refusal_at(input, why),
     }
 }
 
@@ -66,7 +54,7 @@ pub(crate) fn put_turns<T: Store, P: Pen>(
     joiner: &mut Joiner,
     framed: &mut Vec<u8>,
     pen: &mut P,
-) -> Result<u64, PutRefused>
+) -> Result<u64, MergeRefused>
     requires few { length inputs.now ≤ 64 }
     requires held { (reads : List Read) × HoldInputs reads inputs.now }
     requires many { length stores.old.items ≡ length inputs.now }
@@ -91,7 +79,7 @@ pub(crate) fn put_turns<T: Store, P: Pen>(
             Ok(None) => return Ok(count),
             Err(why) => {
                 let _stop = pen.lack();
-                return Err(PutRefused::Unread { why });
+                return Err(refusal_of(why));
             }
         };
         let number = turn.input as usize;
@@ -101,13 +89,16 @@ pub(crate) fn put_turns<T: Store, P: Pen>(
             Some(message) => message,
             None => {
                 let _stop = pen.lack();
-                return Err(changed(&turn));
+                return Err(MergeRefused::Changed {
+                    input: turn.input,
+                    offset: turn.offset,
+                });
             }
         };
         match write_message(alloc, joiner, framed, input, number, &message, pen) {
             Ok(()) => {}
-            Err(stop) => return Err(PutRefused::Stopped { stop }),
+            Err(stop) => return Err(MergeRefused::Stopped { stop }),
         }
     }
-    return Err(PutRefused::Stopped { stop: pen.lack() });
+    return Err(MergeRefused::Stopped { stop: pen.lack() });
 }

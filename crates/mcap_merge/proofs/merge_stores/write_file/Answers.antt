@@ -6,7 +6,7 @@ use Rattle.mcap_io.specs.Stores.{StoreState}
 use Rattle.chunk_walk.specs.Stores.{files_of}
 use Rattle.chunk_walk.proofs.Stayed.{stay_so, counts_so}
 use Rattle.mcap_merge.specs.declared.answers.Merged.{Merged}
-use Rattle.mcap_merge.specs.declared.turns.PutRefused.{PutRefused}
+use Rattle.mcap_merge.specs.declared.answers.MergeRefused.{MergeRefused}
 use Rattle.mcap_merge.specs.Turns.{PutCounts}
 use Rattle.mcap_merge.specs.Putting.{MergeStart, WholeStands}
 use Rattle.mcap_merge.specs.Filing.{FilesAs, FileStops}
@@ -31,7 +31,7 @@ returns-in-Ok-clause-stopped g c =
     let start : MergeStart = record { files = files_of (map state c.args.stores.now.items); inputs = c.args.inputs.now; walk = c.args.begun.walk } in
     let options = c.args.options.now in
     let opened = seen c.args.live in
-    IfErr-weaker c.write_all-end.result _ (λ (why : PutRefused). FileStops options start opened (seen c.into_store.result) why) (λ why stops.
+    IfErr-weaker c.write_all-end.result _ (λ (why : MergeRefused). FileStops options start opened (seen c.into_store.result) why) (λ why stops.
     subst (λ (l : g.row.L.Denot). FileStops options start opened (seen l) why) (sym c.into_store.ensures) (stops_filed seen options opened c.in-Ok.scribe c.write_all-end.new.pen c.in-Ok.ensures.stands start why stops)) c.write_all-end.ensures.stopped
 
 pub returns-in-Ok-clause-counts : goal.returns-in-Ok-clause-counts

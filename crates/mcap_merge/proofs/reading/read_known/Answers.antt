@@ -3,6 +3,7 @@ use Rattle.chunk_survey.specs.declared.spans.Span.{Span}
 use Rattle.mcap_merge.specs.ReadingSteps.{FindsOutside}
 use Rattle.mcap_merge.proofs.Stores.{front_whole, front_refused, outside_refused}
 use Rattle.mcap_merge.proofs.reading.read_known.Goals as goal
+use Rattle.mcap_model.specs.declared.rules.Rule.TheVariants as rules
 
 pub returns-in-Err-clause-reads : goal.returns-in-Err-clause-reads
 returns-in-Err-clause-reads g c = front_refused (g.T.Store.state c.args.store.now) (g.T.Store.state c.read_front.new.store) c.args.len c.in-Err.why c.counted.result c.requires.whole c.in-Err.ensures c.counted.ensures
@@ -15,4 +16,4 @@ returns-in-Some-clause-reads g c =
     let old = g.T.Store.state c.args.store.now in
     let new = g.T.Store.state c.read_front.new.store in
     let outside : FindsOutside c.in-Ok.input.spans.items c.args.len (Some c.in-Some.offset) = subst (λ (l : List Span). FindsOutside l c.args.len (Some c.in-Some.offset)) c.as_slice.ensures.value c.in-Some.ensures in
-    outside_refused old new c.args.len c.in-Some.offset 4 c.in-Ok.input c.requires.whole (front_whole old new c.args.len c.in-Ok.input c.requires.whole c.in-Ok.ensures) outside
+    outside_refused old new c.args.len c.in-Some.offset rules.V4 c.in-Ok.input c.requires.whole (front_whole old new c.args.len c.in-Ok.input c.requires.whole c.in-Ok.ensures) outside

@@ -10,12 +10,10 @@ use Rattle.chunk_walk.specs.Stores.{files_of, StoresFit, unasked}
 use Rattle.chunk_walk.specs.Walks.{WalkStands}
 use Rattle.chunk_walk.proofs.Stayed.{stay_on, fit_on, files_stay, leaves_so, leaves_on}
 use Rattle.mcap_merge.proofs.Sources.{used_sized}
-use Rattle.mcap_merge.proofs.Putting.{turn_given, none_given, store_count, input_there, put_more, put_all, stopped_at, stopped_before, leaves_more, asked_in_all, why_refused, why_other}
+use Rattle.mcap_merge.proofs.Putting.{turn_given, none_given, store_count, input_there, put_more, put_all, stopped_at, stopped_before, leaves_more, asked_in_all, why_refused, counts_refused, stop_refused, why_other}
 use Rattle.mcap_model.specs.declared.ends.Stop.{Stop}
 use Rattle.chunk_writer.specs.declared.phase.Phase.TheVariants as phases
 use Rattle.chunk_writer.specs.Stops.{StopCause}
-use Rattle.mcap_merge.specs.declared.turns.PutRefused.{PutRefused}
-use Rattle.mcap_merge.specs.Turns.{WhyNotAll, PutCounts, stop_of}
 use Rattle.mcap_merge.proofs.turns.put_turns.Goals as goal
 
 pub turns-init : goal.turns-init
@@ -233,7 +231,7 @@ returns-in-Err-clause-why g c =
     let nows = map state c.turns.stores.items in
     let news = map state c.advance.new.stores.items in
     let is = files_stay olds nows c.turns.invariant.3.stay in
-    why_refused (files_of olds) (files_of nows) c.args.walk.now c.turns.walk c.args.inputs.now c.in-Err.why is c.turns.invariant.1 c.in-Err.ensures.advances
+    why_refused (files_of olds) (files_of nows) c.args.walk.now c.turns.walk c.args.inputs.now c.in-Err.why c.refusal_of.result is c.turns.invariant.1 c.in-Err.ensures.advances c.refusal_of.ensures
 
 pub returns-in-Err-clause-counts : goal.returns-in-Err-clause-counts
 returns-in-Err-clause-counts g c =
@@ -242,7 +240,11 @@ returns-in-Err-clause-counts g c =
     let nows = map state c.turns.stores.items in
     let news = map state c.advance.new.stores.items in
     let all = leaves_on olds nows news c.args.walk.now c.turns.walk c.advance.new.self tt (Err c.in-Err.why) c.turns.invariant.3 c.in-Err.ensures.stores in
-    (all.counts, c.lack-stop.ensures.still ∙ c.turns.invariant.7)
+    counts_refused ℕ olds news _ _ c.in-Err.why c.refusal_of.result all.counts (c.lack-stop.ensures.still ∙ c.turns.invariant.7) c.refusal_of.ensures
+
+pub returns-in-Err-clause-stopped : goal.returns-in-Err-clause-stopped
+returns-in-Err-clause-stopped g c =
+    c.lack-stop.ensures.stopped ∙ ap (λ (w : Stop). phases.Stopped w) (c.lack-stop.ensures.why ∙ sym (stop_refused c.in-Err.why c.refusal_of.result c.refusal_of.ensures))
 
 pub returns-in-Err-clause-asked : goal.returns-in-Err-clause-asked
 returns-in-Err-clause-asked g c =
@@ -270,8 +272,7 @@ returns-in-None-clause-why g c =
     let input = c.index-inputs-number.result in
     let here : At c.args.inputs.now t.input input = subst (At c.args.inputs.now t.input) (sym c.index-inputs-number.is) (at_read c.args.inputs.now t.input input within) in
     let there = c.message-record.ensures.message held.text held.held held.has in
-    subst (λ (r : PutRefused). WhyNotAll files c.args.walk.now c.args.inputs.now r) (sym c.changed.ensures)
-    (why_other files c.args.walk.now c.advance.new.self c.args.inputs.now (was.texts ++ more) (was.given ++ t ∷ []) t input (inner_top c.message-record.result) stands held (same ∙ c.turns.invariant.1) here there c.in-None.ensures)
+    why_other files c.args.walk.now c.advance.new.self c.args.inputs.now (was.texts ++ more) (was.given ++ t ∷ []) t input (inner_top c.message-record.result) stands held (same ∙ c.turns.invariant.1) here there c.in-None.ensures
 
 pub returns-in-None-clause-counts : goal.returns-in-None-clause-counts
 returns-in-None-clause-counts g c =
@@ -280,7 +281,7 @@ returns-in-None-clause-counts g c =
     let nows = map state c.turns.stores.items in
     let news = map state c.advance.new.stores.items in
     let all = leaves_more olds nows news c.args.walk.now c.turns.walk c.advance.new.self tt c.in-Ok-Some.field-0 c.turns.invariant.3 c.in-Ok-Some.ensures.stores in
-    subst (λ (r : PutRefused). PutCounts {X = ℕ} olds news (g.P.Pen.failures c.args.pen.now) (g.P.Pen.failures c.lack-stop-in-None.new.self) (Err r)) (sym c.changed.ensures) (all.counts, c.lack-stop-in-None.ensures.still ∙ c.turns.invariant.7)
+    (all.counts, c.lack-stop-in-None.ensures.still ∙ c.turns.invariant.7)
 
 pub returns-in-None-clause-asked : goal.returns-in-None-clause-asked
 returns-in-None-clause-asked g c =
@@ -290,10 +291,6 @@ returns-in-None-clause-asked g c =
     let news = map state c.advance.new.stores.items in
     let all = leaves_more olds nows news c.args.walk.now c.turns.walk c.advance.new.self tt c.in-Ok-Some.field-0 c.turns.invariant.3 c.in-Ok-Some.ensures.stores in
     asked_in_all olds news (unasked c.args.walk.now) (unasked c.advance.new.self) all.asked
-
-pub returns-in-None-clause-stopped : goal.returns-in-None-clause-stopped
-returns-in-None-clause-stopped g c =
-    subst (λ (r : PutRefused). g.P.Pen.phase c.lack-stop-in-None.new.self ≡ phases.Stopped (stop_of r)) (sym c.changed.ensures) (c.lack-stop-in-None.ensures.stopped ∙ ap (λ (w : Stop). phases.Stopped w) c.lack-stop-in-None.ensures.why)
 
 pub returns-in-Err-write_message-clause-counts : goal.returns-in-Err-write_message-clause-counts
 returns-in-Err-write_message-clause-counts g c =
