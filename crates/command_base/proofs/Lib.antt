@@ -1,5 +1,6 @@
 pub mod About
 pub mod Asked
+pub mod Asking
 pub mod Behind
 pub mod Blamed
 pub mod Counting

@@ -11,14 +11,16 @@ use Rattle.mcap_io.specs.Stores.{StoreState}
 use Rattle.mcap_io.specs.declared.outside.Failed.{Failed}
 use Rattle.mcap_io.specs.declared.outside.ObjectKind.{ObjectKind}
 use Rattle.mcap_io.specs.declared.outside.ObjectKind.TheVariants as kinds
-use Rattle.mcap_io.specs.declared.outside.OpenRefused.{OpenRefused}
-use Rattle.mcap_io.specs.declared.outside.OpenRefused.TheVariants as open_refusals
+use Rattle.mcap_io.specs.declared.outside.OutsideRefused.{OutsideRefused}
+use Rattle.mcap_io.specs.declared.outside.OutsideRefused.TheVariants as outside_refusals
 use Rattle.command_base.specs.declared.faults.Counts.{Counts}
 use Rattle.command_base.specs.declared.one_file.Faults.{Faults}
+use Rattle.command_base.specs.declared.statuses.Status.{Status}
+use Rattle.command_base.specs.declared.statuses.Status.TheVariants as statuses
 use Rattle.command_base.specs.Printing.{TellsAll, Takes}
-use Rattle.command_base.specs.Texts.{Trouble, bad_words, fault, output_fault, grammar, compressed, limit, output_limit, not_indexed, flaw, no_memory, asked_status, status_of}
-use Rattle.command_base.specs.Ran.{Scene, counts_in, AnyRose, IsCaused, Blames, kept, refused, failed_so, source_faults, live_faults, named_when, failed_names, Failed as WhichFailed, troubles_of, Complains}
-use Rattle.command_base.specs.OneFile.{Ending, was_read, halted, failing, lacked, text_of, is_lack, findings_of, ending_status, single_file, NameRead, AskedRose, ReadsOne}
+use Rattle.command_base.specs.Texts.{Trouble, fault, output_fault, grammar, compressed, limit, output_limit, not_indexed, flaw, no_memory, asked_status, status_of}
+use Rattle.command_base.specs.Ran.{Scene, counts_in, AnyRose, IsCaused, Blames, kept, refused, failed_so, source_faults, live_faults, named_when, failed_names, Complains}
+use Rattle.command_base.specs.OneFile.{Ending, was_read, halted, failing, lacked, text_of, is_lack, ending_status, single_file, NameRead, AskedRose, ReadsOne}
 use Rattle.command_base.specs.OneFileSteps.{one_troubles, IsHalt, HaltsWell, PrintsEnding, ShowsFaults}
 use Rattle.command_base.proofs.Counting.{added_none, kept_adds, kept_well, still_where, blamed, not_risen}
 use Rattle.command_base.proofs.Opened.{tells_more, SameNames, leaves_same}
@@ -57,35 +59,35 @@ each_two P tt_is tf_is ft_is ff_is false false = ff_is
 -- ---- the status
 
 -- what the ending asks for besides a want of memory and a fault
-abbrev own : Ending → ℕ
-own (was_read text) = 0
+abbrev own : Ending → Status
+own (was_read text) = statuses.Done
 own (halted trouble) = asked_status trouble
-own failing = 0
-own lacked = 0
+own failing = statuses.Done
+own lacked = statuses.Done
 
-abbrev number_of : Ending → Bool → Bool → ℕ
-number_of ending broken printing = cond (is_lack ending) 5 (cond (broken || printing) 3 (own ending))
+-- the status where memory lacked, or something failed, and that is asked for besides
+abbrev status_where : Bool → Bool → Status → Status
+status_where lacks some other = cond lacks statuses.Memory (cond some statuses.Fault other)
+
+abbrev status_for : Ending → Bool → Bool → Status
+status_for ending broken printing = status_where (is_lack ending) (broken || printing) (own ending)
 
 abbrev IsStatus : List ℕ → Ending → Bool → Bool → Type 0
-IsStatus file ending broken printing = status_of (one_troubles file ending broken printing) ≡ number_of ending broken printing
+IsStatus file ending broken printing = status_of (one_troubles file ending broken printing) ≡ status_for ending broken printing
 
-impossible : (n : ℕ) (A : Type 0) → (n ≡ 1) ⊎ (n ≡ 4) → (n ≡ 2) ⊎ ((n ≡ 3) ⊎ (n ≡ 5)) → A
-impossible n A one other = absurd (elim one [
-  | inl is ↦ elim other [ inl two ↦ omega (arith, is, two) | inr (inl three) ↦ omega (arith, is, three) | inr (inr five) ↦ omega (arith, is, five) ]
-  | inr is ↦ elim other [ inl two ↦ omega (arith, is, two) | inr (inl three) ↦ omega (arith, is, three) | inr (inr five) ↦ omega (arith, is, five) ]
-])
-
-halted_is : (file : List ℕ) (trouble : Trouble) → (asked_status trouble ≡ 1) ⊎ (asked_status trouble ≡ 4) → (a b : Bool) → IsStatus file (halted trouble) a b
-halted_is file bad_words is a b = impossible 2 _ is (inl refl)
-halted_is file (fault name) is a b = impossible 3 _ is (inr (inl refl))
-halted_is file output_fault is a b = impossible 3 _ is (inr (inl refl))
+halted_is : (file : List ℕ) (trouble : Trouble) → IsHalt trouble → (a b : Bool) → IsStatus file (halted trouble) a b
+halted_is file (fault name) (inl is) a b = absurd cc
+halted_is file (fault name) (inr is) a b = absurd cc
+halted_is file output_fault (inl is) a b = absurd cc
+halted_is file output_fault (inr is) a b = absurd cc
 halted_is file (grammar name n) is a b = each_two (IsStatus file (halted (grammar name n))) refl refl refl refl a b
 halted_is file (compressed name compression n) is a b = each_two (IsStatus file (halted (compressed name compression n))) refl refl refl refl a b
 halted_is file (limit name n) is a b = each_two (IsStatus file (halted (limit name n))) refl refl refl refl a b
 halted_is file (output_limit name) is a b = each_two (IsStatus file (halted (output_limit name))) refl refl refl refl a b
 halted_is file (not_indexed name why) is a b = each_two (IsStatus file (halted (not_indexed name why))) refl refl refl refl a b
 halted_is file (flaw name rule n) is a b = each_two (IsStatus file (halted (flaw name rule n))) refl refl refl refl a b
-halted_is file no_memory is a b = impossible 5 _ is (inr (inr refl))
+halted_is file no_memory (inl is) a b = absurd cc
+halted_is file no_memory (inr is) a b = absurd cc
 
 status_is : (file : List ℕ) (ending : Ending) → HaltsWell ending → (a b : Bool) → IsStatus file ending a b
 status_is file (was_read text) well a b = each_two (IsStatus file (was_read text)) refl refl refl refl a b
@@ -94,30 +96,36 @@ status_is file failing well a b = each_two (IsStatus file failing) refl refl ref
 status_is file lacked well a b = each_two (IsStatus file lacked) refl refl refl refl a b
 
 -- the status is that of what failed and of the ending
-answered : (file : List ℕ) (ending : Ending) (blamed printing : Bool) (before now : SinkState) (answer : ℕ) → HaltsWell ending → Complains (one_troubles file ending blamed printing) before now answer
-    → answer ≡ number_of ending blamed printing
+answered : (file : List ℕ) (ending : Ending) (blamed printing : Bool) (before now : SinkState) (answer : Status) → HaltsWell ending → Complains (one_troubles file ending blamed printing) before now answer
+    → answer ≡ status_for ending blamed printing
 answered file ending blamed printing before now answer well a = a.status_is ∙ status_is file ending well blamed printing
 
-own_other : (ending : Ending) (n : ℕ) → HaltsWell ending → own ending ≡ n → (n ≡ 2) ⊎ ((n ≡ 3) ⊎ (n ≡ 5)) → ⊥
-own_other (was_read text) n well e other = elim other [ inl two ↦ omega (arith, e, two) | inr (inl three) ↦ omega (arith, e, three) | inr (inr five) ↦ omega (arith, e, five) ]
-own_other (halted trouble) n well e other = impossible (asked_status trouble) ⊥ (well trouble refl) (subst (λ (k : ℕ). (k ≡ 2) ⊎ ((k ≡ 3) ⊎ (k ≡ 5))) (sym e) other)
-own_other failing n well e other = elim other [ inl two ↦ omega (arith, e, two) | inr (inl three) ↦ omega (arith, e, three) | inr (inr five) ↦ omega (arith, e, five) ]
-own_other lacked n well e other = elim other [ inl two ↦ omega (arith, e, two) | inr (inl three) ↦ omega (arith, e, three) | inr (inr five) ↦ omega (arith, e, five) ]
+-- which is neither a fault nor a want of memory by itself
+apart_from : (s t : Status) → (s ≡ statuses.Refused) ⊎ (s ≡ statuses.Limit) → s ≡ t → (t ≡ statuses.Fault) ⊎ (t ≡ statuses.Memory) → ⊥
+apart_from s t (inl is) same (inl other) = absurd cc
+apart_from s t (inl is) same (inr other) = absurd cc
+apart_from s t (inr is) same (inl other) = absurd cc
+apart_from s t (inr is) same (inr other) = absurd cc
 
-number_not_two : (lacks some : Bool) (n : ℕ) → (n ≡ 2 → ⊥) → cond lacks 5 (cond some 3 n) ≡ 2 → ⊥
-number_not_two true some n other e = omega (arith, e)
-number_not_two false true n other e = omega (arith, e)
-number_not_two false false n other e = other e
+done_apart : (t : Status) → statuses.Done ≡ t → (t ≡ statuses.Fault) ⊎ (t ≡ statuses.Memory) → ⊥
+done_apart t same (inl other) = absurd cc
+done_apart t same (inr other) = absurd cc
 
-number_three : (lacks some : Bool) (n : ℕ) → (n ≡ 3 → ⊥) → cond lacks 5 (cond some 3 n) ≡ 3 → some ≡ true
-number_three true some n other e = absurd (omega (arith, e))
-number_three false true n other e = refl
-number_three false false n other e = absurd (other e)
+own_other : (ending : Ending) (t : Status) → HaltsWell ending → own ending ≡ t → (t ≡ statuses.Fault) ⊎ (t ≡ statuses.Memory) → ⊥
+own_other (was_read text) t well same other = done_apart t same other
+own_other (halted trouble) t well same other = apart_from (asked_status trouble) t (well trouble refl) same other
+own_other failing t well same other = done_apart t same other
+own_other lacked t well same other = done_apart t same other
 
-number_five : (lacks some : Bool) (n : ℕ) → (n ≡ 5 → ⊥) → cond lacks 5 (cond some 3 n) ≡ 5 → lacks ≡ true
-number_five true some n other e = refl
-number_five false true n other e = absurd (omega (arith, e))
-number_five false false n other e = absurd (other e)
+fault_where : (lacks some : Bool) (t : Status) → (t ≡ statuses.Fault → ⊥) → status_where lacks some t ≡ statuses.Fault → some ≡ true
+fault_where true some t other e = absurd cc
+fault_where false true t other e = refl
+fault_where false false t other e = absurd (other e)
+
+memory_where : (lacks some : Bool) (t : Status) → (t ≡ statuses.Memory → ⊥) → status_where lacks some t ≡ statuses.Memory → lacks ≡ true
+memory_where true some t other e = refl
+memory_where false true t other e = absurd cc
+memory_where false false t other e = absurd (other e)
 
 lack_is : (ending : Ending) → is_lack ending ≡ true → ending ≡ lacked
 lack_is (was_read text) is = absurd cc
@@ -125,20 +133,10 @@ lack_is (halted trouble) is = absurd cc
 lack_is failing is = absurd cc
 lack_is lacked is = refl
 
-three_or : (lacks some : Bool) (n answer : ℕ) → some ≡ true → answer ≡ cond lacks 5 (cond some 3 n) → (answer ≡ 3) ⊎ (answer ≡ 5)
-three_or true some n answer risen is = inr is
-three_or false true n answer risen is = inl is
-three_or false false n answer risen is = absurd cc
-
--- the status is not that of bad words
-pub one_not_two : (kind : ObjectKind) (file : List ℕ) (old new : Scene) (entries : List Opening) (ending : Ending) (answer : ℕ) → HaltsWell ending → ReadsOne kind file old new entries ending answer → answer ≡ 2 → ⊥
-one_not_two kind file old new entries ending answer well all two =
-    let due : troubles_of (single_file kind file) (findings_of ending) all.ran.failed all.ran.printing ≡ one_troubles file ending all.blamed all.ran.printing =
-    ap (λ (f : WhichFailed). troubles_of (single_file kind file) (findings_of ending) f all.ran.printing) all.blame in
-    let told : Complains (one_troubles file ending all.blamed all.ran.printing) old.err new.err answer =
-    subst (λ (l : List Trouble). Complains l old.err new.err answer) due all.ran.said in
-    let is = answered file ending all.blamed all.ran.printing old.err new.err answer well told in
-    number_not_two (is_lack ending) (all.blamed || all.ran.printing) (own ending) (λ e. own_other ending 2 well e (inl refl)) (sym is ∙ two)
+fault_or : (lacks some : Bool) (t answer : Status) → some ≡ true → answer ≡ status_where lacks some t → (answer ≡ statuses.Fault) ⊎ (answer ≡ statuses.Memory)
+fault_or true some t answer risen is = inr is
+fault_or false true t answer risen is = inl is
+fault_or false false t answer risen is = absurd cc
 
 -- ---- endings
 
@@ -173,7 +171,7 @@ pub record Outcome : Type 0 where
   pub broken : Bool
   pub broke : Bool
   pub faults : Faults
-  pub answer : ℕ
+  pub answer : Status
 
 -- what its calls came to
 pub record AreParts (kind : ObjectKind) (file : List ℕ) (old new : Scene) (entries : List Opening) (ending : Ending) (came : Outcome) : Type 0 where
@@ -194,18 +192,22 @@ broke_rose before now (halted trouble) broke prints is = absurd (both_ways broke
 broke_rose before now failing broke prints is = absurd (both_ways broke prints.0 is)
 broke_rose before now lacked broke prints is = absurd (both_ways broke prints.0 is)
 
-some_number : (lacks : Bool) (n : ℕ) → cond lacks 5 (cond true 3 n) ≡ 0 → ⊥
-some_number true n e = omega (arith, e)
-some_number false n e = omega (arith, e)
+not_done : (lacks : Bool) (t : Status) → status_where lacks true t ≡ statuses.Done → ⊥
+not_done true t e = absurd cc
+not_done false t e = absurd cc
 
--- with the status 0 the file was read, and nothing failed
-all_read : (ending : Ending) (broken printing : Bool) → HaltsWell ending → number_of ending broken printing ≡ 0 → (broken ≡ false → ending ≡ failing → ⊥) → (text : List ℕ) × (ending ≡ was_read text) × (broken ≡ false) × (printing ≡ false)
-all_read ending true printing well e calm = absurd (some_number (is_lack ending) (own ending) e)
-all_read ending false true well e calm = absurd (some_number (is_lack ending) (own ending) e)
+halts_undone : (trouble : Trouble) → IsHalt trouble → asked_status trouble ≡ statuses.Done → ⊥
+halts_undone trouble (inl is) e = absurd cc
+halts_undone trouble (inr is) e = absurd cc
+
+-- where all was done the file was read, and nothing failed
+all_read : (ending : Ending) (broken printing : Bool) → HaltsWell ending → status_for ending broken printing ≡ statuses.Done → (broken ≡ false → ending ≡ failing → ⊥) → (text : List ℕ) × (ending ≡ was_read text) × (broken ≡ false) × (printing ≡ false)
+all_read ending true printing well e calm = absurd (not_done (is_lack ending) (own ending) e)
+all_read ending false true well e calm = absurd (not_done (is_lack ending) (own ending) e)
 all_read (was_read text) false false well e calm = (text, refl, refl, refl)
-all_read (halted trouble) false false well e calm = absurd (elim (well trouble refl) [ inl one ↦ omega (arith, one, e) | inr four ↦ omega (arith, four, e) ])
+all_read (halted trouble) false false well e calm = absurd (halts_undone trouble (well trouble refl) e)
 all_read failing false false well e calm = absurd (calm refl refl)
-all_read lacked false false well e calm = absurd (omega (arith, e))
+all_read lacked false false well e calm = absurd cc
 
 all_taken : (before now : SinkState) (ending : Ending) (broke : Bool) (text : List ℕ) → PrintsEnding before now ending broke → ending ≡ was_read text → broke ≡ false → TellsAll before now text
 all_taken before now ending broke text prints is well =
@@ -213,24 +215,24 @@ all_taken before now ending broke text prints is well =
     elim (subst P is prints) [ inl all ↦ all.1 | inr part ↦ absurd (both_ways broke well part.0) ]
 
 -- where nothing failed the ending decides
-calm_status : (ending : Ending) → (ending ≡ failing → ⊥) → cond (is_lack ending) 5 (own ending) ≡ ending_status ending
+calm_status : (ending : Ending) → (ending ≡ failing → ⊥) → cond (is_lack ending) statuses.Memory (own ending) ≡ ending_status ending
 calm_status (was_read text) other = refl
 calm_status (halted trouble) other = refl
 calm_status failing other = absurd (other refl)
 calm_status lacked other = refl
 
 module _ (kind : ObjectKind) (file : List ℕ) (old new : Scene) (entries : List Opening) (ending : Ending) (came : Outcome) (parts : AreParts kind file old new entries ending came) where
-  answer_is : came.answer ≡ number_of ending came.faults.file came.faults.printing
+  answer_is : came.answer ≡ status_for ending came.faults.file came.faults.printing
   answer_is = answered file ending came.faults.file came.faults.printing old.err new.err came.answer parts.well parts.told
 
-  rose : AskedRose (counts_in old) (counts_in new) → (came.answer ≡ 3) ⊎ (came.answer ≡ 5)
+  rose : AskedRose (counts_in old) (counts_in new) → (came.answer ≡ statuses.Fault) ⊎ (came.answer ≡ statuses.Memory)
   rose risen =
       let some : (came.faults.file || came.faults.printing) ≡ true = either came.faults.file came.faults.printing (elim risen [
         | inl world ↦ inl (parts.shows.file_told (inr (inl world)))
         | inr (inl inputs) ↦ inl (parts.shows.file_told (inr (inr inputs)))
         | inr (inr printing) ↦ inr (parts.shows.printing_told (inr printing))
       ]) in
-      three_or (is_lack ending) (came.faults.file || came.faults.printing) (own ending) came.answer some answer_is
+      fault_or (is_lack ending) (came.faults.file || came.faults.printing) (own ending) came.answer some answer_is
 
   file_rose : came.faults.file ≡ true → Rose old.world.faults new.world.faults ⊎ Rose old.world.input_faults new.world.input_faults
   file_rose blamed_is = elim (parts.shows.file_cause blamed_is) [ inl is ↦ parts.name.cause is | inr risen ↦ risen ]
@@ -238,16 +240,16 @@ module _ (kind : ObjectKind) (file : List ℕ) (old new : Scene) (entries : List
   printing_rose : came.faults.printing ≡ true → Rose old.out.faults new.out.faults
   printing_rose blamed_is = elim (parts.shows.printing_cause blamed_is) [ inl is ↦ broke_rose old.out new.out ending came.broke parts.prints is | inr risen ↦ risen ]
 
-  three : came.answer ≡ 3 → AskedRose (counts_in old) (counts_in new)
-  three is_three = elim (which came.faults.file came.faults.printing (number_three (is_lack ending) (came.faults.file || came.faults.printing) (own ending) (λ e. own_other ending 3 parts.well e (inr (inl refl))) (sym answer_is ∙ is_three))) [
+  faulted : came.answer ≡ statuses.Fault → AskedRose (counts_in old) (counts_in new)
+  faulted is = elim (which came.faults.file came.faults.printing (fault_where (is_lack ending) (came.faults.file || came.faults.printing) (own ending) (λ e. own_other ending statuses.Fault parts.well e (inl refl)) (sym answer_is ∙ is))) [
     | inl blamed_is ↦ elim (file_rose blamed_is) [ inl world ↦ inl world | inr inputs ↦ inr (inl inputs) ]
     | inr blamed_is ↦ inr (inr (printing_rose blamed_is))
   ]
 
-  five : (came.answer ≡ 5) ↔ (ending ≡ lacked)
-  five = (
-    λ is. lack_is ending (number_five (is_lack ending) (came.faults.file || came.faults.printing) (own ending) (λ e. own_other ending 5 parts.well e (inr (inr refl))) (sym answer_is ∙ is)),
-    λ is. answer_is ∙ ap (λ (e : Ending). number_of e came.faults.file came.faults.printing) is,
+  memory : (came.answer ≡ statuses.Memory) ↔ (ending ≡ lacked)
+  memory = (
+    λ is. lack_is ending (memory_where (is_lack ending) (came.faults.file || came.faults.printing) (own ending) (λ e. own_other ending statuses.Memory parts.well e (inr refl)) (sym answer_is ∙ is)),
+    λ is. answer_is ∙ ap (λ (e : Ending). status_for e came.faults.file came.faults.printing) is,
   )
 
   -- where no count rose nothing failed
@@ -270,11 +272,11 @@ module _ (kind : ObjectKind) (file : List ℕ) (old new : Scene) (entries : List
       let well = unblamed (file_calm quiet) in
       let unfailing : ending ≡ failing → ⊥ = λ e. both_ways came.broken well (parts.sure e) in
       let none : (came.faults.file || came.faults.printing) ≡ false = neither came.faults.file came.faults.printing (file_calm quiet) (printing_calm quiet) in
-      (unnamed well, unfailing, answer_is ∙ ap (λ (b : Bool). cond (is_lack ending) 5 (cond b 3 (own ending))) none ∙ calm_status ending unfailing)
+      (unnamed well, unfailing, answer_is ∙ ap (λ (b : Bool). status_where (is_lack ending) b (own ending)) none ∙ calm_status ending unfailing)
 
-  whole : came.answer ≡ 0 → (failed_names entries ≡ []) × ((text : List ℕ) × (ending ≡ was_read text) × TellsAll old.out new.out text)
-  whole zero_is =
-      let all = all_read ending came.faults.file came.faults.printing parts.well (sym answer_is ∙ zero_is) (λ well e. both_ways came.broken (unblamed well) (parts.sure e)) in
+  whole : came.answer ≡ statuses.Done → (failed_names entries ≡ []) × ((text : List ℕ) × (ending ≡ was_read text) × TellsAll old.out new.out text)
+  whole done =
+      let all = all_read ending came.faults.file came.faults.printing parts.well (sym answer_is ∙ done) (λ well e. both_ways came.broken (unblamed well) (parts.sure e)) in
       let well : came.broke ≡ false = false_from_ne_true came.broke (λ is. both_ways came.faults.printing all.3 (parts.shows.printing_told (inl is))) in
       (unnamed (unblamed all.2), (all.0, all.1, all_taken old.out new.out ending came.broke all.0 parts.prints all.1 well))
 
@@ -314,9 +316,9 @@ module _ (kind : ObjectKind) (file : List ℕ) (old new : Scene) (entries : List
     blamed = came.faults.file;
     blame = refl;
     cause = (file_rose, λ risen. parts.shows.file_told (inr risen));
-    five = five;
+    memory = memory;
     rose = rose;
-    three = three;
+    faulted = faulted;
     calm = calm;
     whole = whole;
   }
@@ -361,10 +363,10 @@ module _ (kind : ObjectKind) (file : List ℕ) where
         outputs = stand.outputs;
       }
 
-  pub unopened : (old new : WorldState) (why : OpenRefused) → why ≡ open_refusals.Failed → Opens {T = Unit} old new kind file (Err why) → CountsStand old new → OpenCause {T = Unit} old.faults new.faults (Err why)
+  pub unopened : (old new : WorldState) (why : OutsideRefused) → why ≡ outside_refusals.Failed → Opens {T = Unit} old new kind file (Err why) → CountsStand old new → OpenCause {T = Unit} old.faults new.faults (Err why)
       → old.input_faults < 2 ^ 64 → old.output_faults < 2 ^ 64 → IsInput kind → NameRead kind file old new (refused kind file ∷ []) true
-  unopened old new open_refusals.Failed is opens stand cause inputs_fit outputs_fit input = opening_failed old new opens stand cause inputs_fit outputs_fit input
-  unopened old new open_refusals.Memory is opens stand cause inputs_fit outputs_fit input = absurd cc
+  unopened old new outside_refusals.Failed is opens stand cause inputs_fit outputs_fit input = opening_failed old new opens stand cause inputs_fit outputs_fit input
+  unopened old new outside_refusals.Memory is opens stand cause inputs_fit outputs_fit input = absurd cc
 
   -- memory lacked for the opening
   lacked_so : (old new : WorldState) → new.told ≡ old.told → CountsStand old new → new.faults ≡ old.faults
@@ -382,10 +384,10 @@ module _ (kind : ObjectKind) (file : List ℕ) where
         outputs = stand.outputs;
       }
 
-  pub unopened_for_memory : (old new : WorldState) (why : OpenRefused) → why ≡ open_refusals.Memory → Opens {T = Unit} old new kind file (Err why) → CountsStand old new → OpenCause {T = Unit} old.faults new.faults (Err why)
+  pub unopened_for_memory : (old new : WorldState) (why : OutsideRefused) → why ≡ outside_refusals.Memory → Opens {T = Unit} old new kind file (Err why) → CountsStand old new → OpenCause {T = Unit} old.faults new.faults (Err why)
       → old.faults < 2 ^ 64 → old.input_faults < 2 ^ 64 → old.output_faults < 2 ^ 64 → NameRead kind file old new [] false
-  unopened_for_memory old new open_refusals.Failed is opens stand cause world_fits inputs_fit outputs_fit = absurd cc
-  unopened_for_memory old new open_refusals.Memory is opens stand cause world_fits inputs_fit outputs_fit = lacked_so old new opens stand cause world_fits inputs_fit outputs_fit
+  unopened_for_memory old new outside_refusals.Failed is opens stand cause world_fits inputs_fit outputs_fit = absurd cc
+  unopened_for_memory old new outside_refusals.Memory is opens stand cause world_fits inputs_fit outputs_fit = lacked_so old new opens stand cause world_fits inputs_fit outputs_fit
 
   -- an object without a failure never failed
   never : (well : Bool) (faults : ℕ) → failed_so well faults ≡ false → faults ≡ 0

@@ -1,12 +1,15 @@
 -- The troubles of complaints.
-use Rattle.std.specs.Prelude.{List, [], ◌∷◌, Option, Some, None}
+use Rattle.std.specs.Prelude.{ℕ, List, [], ◌∷◌, codes, Option, Some, None}
 use Rattle.command_base.specs.declared.complaint.Complaint.{Complaint}
 use Rattle.command_base.specs.declared.complaint.Complaint.TheVariants as complaints
-use Rattle.command_base.specs.Texts.{Trouble, bad_words, compressed, fault, flaw, grammar, limit, no_memory, not_indexed, output_fault, output_limit}
+use Rattle.command_base.specs.Texts.{Trouble, compressed, fault, flaw, grammar, limit, no_memory, not_indexed, output_fault, output_limit}
+
+-- what is said of words that are no command
+abbrev pub bad_words_line : List ℕ
+bad_words_line = codes "mcaprec: bad words\n"
 
 -- the trouble of a complaint
 abbrev pub trouble_of : Complaint → Trouble
-trouble_of complaints.BadWords = bad_words
 trouble_of (complaints.Fault name) = fault name.now
 trouble_of complaints.OutputFault = output_fault
 trouble_of (complaints.Grammar name n) = grammar name.now n

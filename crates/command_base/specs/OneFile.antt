@@ -8,6 +8,8 @@ use Rattle.mcap_model.specs.declared.refusals.ReadingRefused.TheVariants as refu
 use Rattle.mcap_model.specs.declared.refusals.IndexedRefused.{IndexedRefused}
 use Rattle.mcap_model.specs.declared.refusals.IndexedRefused.TheVariants as indexed
 use Rattle.command_base.specs.declared.faults.Counts.{Counts}
+use Rattle.command_base.specs.declared.statuses.Status.{Status}
+use Rattle.command_base.specs.declared.statuses.Status.TheVariants as statuses
 use Rattle.command_base.specs.Printing.{TellsAll}
 use Rattle.command_base.specs.Texts.{Trouble, grammar, compressed, limit, not_indexed, asked_status}
 use Rattle.command_base.specs.Ran.{Scene, counts_in, AnyRose, Files, wanted, AreOpened, Leaves, CountsKept, named_when, failed_names, Findings, Ran}
@@ -60,11 +62,11 @@ abbrev pub findings_of : Ending → Findings
 findings_of ending = record { halts = troubles_in ending ∷ []; limits = []; lacked = is_lack ending }
 
 -- the status that it asks for
-abbrev pub ending_status : Ending → ℕ
-ending_status (was_read text) = 0
+abbrev pub ending_status : Ending → Status
+ending_status (was_read text) = statuses.Done
 ending_status (halted trouble) = asked_status trouble
-ending_status failing = 3
-ending_status lacked = 5
+ending_status failing = statuses.Fault
+ending_status lacked = statuses.Memory
 
 -- ---- the file
 
@@ -92,19 +94,19 @@ AskedRose before now = Rose before.world now.world ⊎ (Rose before.inputs now.i
 -- ---- the command
 
 -- What a command did to the world and to both outputs that opened the one name, and whose reading of it ended so.
-pub record ReadsOne (kind : ObjectKind) (file : List ℕ) (old new : Scene) (entries : List Opening) (ending : Ending) (status : ℕ) : Type 0 where
+pub record ReadsOne (kind : ObjectKind) (file : List ℕ) (old new : Scene) (entries : List Opening) (ending : Ending) (status : Status) : Type 0 where
   -- standard output takes the text, and standard error the troubles, which give the status
   pub ran : Ran (single_file kind file) old new entries (text_of ending) (findings_of ending) status
   -- the file alone is blamed, once, where a count of the world or of its inputs rose, or stands at the end of its type
   pub blamed : Bool
   pub blame : ran.failed ≡ record { inputs = blamed ∷ []; outputs = [] }
   pub cause : (blamed ≡ true) ↔ (Rose old.world.faults new.world.faults ⊎ Rose old.world.input_faults new.world.input_faults)
-  -- 5 is the answer exactly where memory lacked for the reading
-  pub five : (status ≡ 5) ↔ (ending ≡ lacked)
-  -- a count that rose is answered, also one that stands at the end of its type; and 3 is the answer only to such a count
-  pub rose : AskedRose (counts_in old) (counts_in new) → (status ≡ 3) ⊎ (status ≡ 5)
-  pub three : status ≡ 3 → AskedRose (counts_in old) (counts_in new)
+  -- a want of memory is the answer exactly where memory lacked for the reading
+  pub memory : (status ≡ statuses.Memory) ↔ (ending ≡ lacked)
+  -- a count that rose is answered, also one that stands at the end of its type; and a fault is the answer only to such a count
+  pub rose : AskedRose (counts_in old) (counts_in new) → (status ≡ statuses.Fault) ⊎ (status ≡ statuses.Memory)
+  pub faulted : status ≡ statuses.Fault → AskedRose (counts_in old) (counts_in new)
   -- unless a count rises, the file didn't fail, and the ending decides the status
   pub calm : (AnyRose (counts_in old) (counts_in new) → ⊥) → (failed_names entries ≡ []) × (ending ≡ failing → ⊥) × (status ≡ ending_status ending)
-  -- the status 0 says that the file was read without a failure, and that all of the text was taken
-  pub whole : status ≡ 0 → (failed_names entries ≡ []) × ((text : List ℕ) × (ending ≡ was_read text) × TellsAll old.out new.out text)
+  -- that all was done says that the file was read without a failure, and that all of the text was taken
+  pub whole : status ≡ statuses.Done → (failed_names entries ≡ []) × ((text : List ℕ) × (ending ≡ was_read text) × TellsAll old.out new.out text)

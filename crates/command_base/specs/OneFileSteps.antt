@@ -3,6 +3,7 @@ use Rattle.std.specs.Prelude.{◌≡◌, ◌⊎◌, ℕ, List, ◌++◌, Bool, t
 use Rattle.mcap_io.specs.Outside.{Rose, SinkState}
 use Rattle.command_base.specs.declared.faults.Counts.{Counts}
 use Rattle.command_base.specs.declared.one_file.Faults.{Faults}
+use Rattle.command_base.specs.declared.statuses.Status.TheVariants as statuses
 use Rattle.command_base.specs.Printing.{TellsAll, TellsTextPart}
 use Rattle.command_base.specs.Texts.{Trouble, fault, output_fault, no_memory, asked_status}
 use Rattle.command_base.specs.Ran.{when}
@@ -10,7 +11,7 @@ use Rattle.command_base.specs.OneFile.{Ending, failing, halted, lacked, was_read
 
 -- what halts a reading is a file that breaks a rule, that isn't as it is wanted, or that passes a limit
 abbrev pub IsHalt : Trouble → Type 0
-IsHalt trouble = (asked_status trouble ≡ 1) ⊎ (asked_status trouble ≡ 4)
+IsHalt trouble = (asked_status trouble ≡ statuses.Refused) ⊎ (asked_status trouble ≡ statuses.Limit)
 
 abbrev pub HaltsWell : Ending → Type 0
 HaltsWell ending = (trouble : Trouble) → ending ≡ halted trouble → IsHalt trouble

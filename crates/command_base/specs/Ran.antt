@@ -6,6 +6,7 @@ use Rattle.mcap_io.specs.declared.outside.ObjectKind.{ObjectKind}
 use Rattle.mcap_io.specs.declared.outside.ObjectKind.TheVariants as kinds
 use Rattle.mcap_model.specs.Places.{Has, Each}
 use Rattle.command_base.specs.declared.faults.Counts.{Counts}
+use Rattle.command_base.specs.declared.statuses.Status.{Status}
 use Rattle.command_base.specs.Printing.{Takes}
 use Rattle.command_base.specs.Texts.{Trouble, fault, output_fault, no_memory, said, status_of}
 
@@ -218,7 +219,7 @@ troubles_of files found failed printing =
 
 -- Standard error took the lines of these troubles, and no more; all of them, or a first part where it failed itself. They give
 -- the status.
-pub record Complains (due : List Trouble) (before now : SinkState) (status : ℕ) : Type 0 where
+pub record Complains (due : List Trouble) (before now : SinkState) (status : Status) : Type 0 where
   pub status_is : status ≡ status_of due
   pub text : Takes before now (said due)
 
@@ -226,7 +227,7 @@ pub record Complains (due : List Trouble) (before now : SinkState) (status : ℕ
 
 -- What a command did that opened these names: the entries of its openings, the text that it had for standard output, what it
 -- found, and its status.
-pub record Ran (files : Files) (old new : Scene) (entries : List Opening) (text : List ℕ) (found : Findings) (status : ℕ) : Type 0 where
+pub record Ran (files : Files) (old new : Scene) (entries : List Opening) (text : List ℕ) (found : Findings) (status : Status) : Type 0 where
   -- these names were opened, and nothing else
   pub opened : AreOpened (wanted files) entries
   pub leaves : Leaves old.world new.world entries

@@ -3,8 +3,8 @@ use Rattle.std.specs.Prelude.{◌≡◌, ℕ, List, Bool, true, false}
 use Rattle.mcap_io.specs.Outside.{WorldState, Opening}
 use Rattle.mcap_io.specs.Stores.{StoreState}
 use Rattle.mcap_io.specs.declared.outside.ObjectKind.{ObjectKind}
-use Rattle.mcap_io.specs.declared.outside.OpenRefused.{OpenRefused}
-use Rattle.mcap_io.specs.declared.outside.OpenRefused.TheVariants as open_refusals
+use Rattle.mcap_io.specs.declared.outside.OutsideRefused.{OutsideRefused}
+use Rattle.mcap_io.specs.declared.outside.OutsideRefused.TheVariants as outside_refusals
 use Rattle.command_base.specs.OneFile.{Ending, was_read, halted, failing, lacked, NameRead}
 use Rattle.command_base.specs.OneFileSteps.{IsHalt}
 use Rattle.command_base.specs.Readings.{StoreUse, store_use}
@@ -17,9 +17,9 @@ IsRefusal failing = Unit {0}
 IsRefusal lacked = Unit {0}
 
 -- an opening was refused because the world failed
-abbrev pub is_failure : OpenRefused → Bool
-is_failure open_refusals.Failed = true
-is_failure open_refusals.Memory = false
+abbrev pub is_failure : OutsideRefused → Bool
+is_failure outside_refusals.Failed = true
+is_failure outside_refusals.Memory = false
 
 abbrev pub use_of : StoreState → StoreUse
 use_of store = store_use store.faults store.asked

@@ -4,9 +4,10 @@ use Rattle.mcap_io.specs.Outside.{SourceState, WorldState, Keeping, Opening, Tel
 use Rattle.mcap_io.specs.Stores.{StoreState, IsUnused, TellsStore}
 use Rattle.mcap_io.specs.declared.outside.ObjectKind.{ObjectKind}
 use Rattle.mcap_io.specs.declared.outside.ObjectKind.TheVariants as kinds
-use Rattle.mcap_io.specs.declared.outside.OpenRefused.TheVariants as open_refusals
+use Rattle.mcap_io.specs.declared.outside.OutsideRefused.TheVariants as outside_refusals
 use Rattle.command_base.specs.declared.file_reading.Reading.{Reading}
 use Rattle.command_base.specs.declared.file_reading.Reading.TheVariants as readings
+use Rattle.command_base.specs.declared.statuses.Status.{Status}
 use Rattle.command_base.specs.Ran.{Scene, kept, refused}
 use Rattle.command_base.specs.OneFile.{Ending, was_read, failing, lacked, ReadsOne}
 
@@ -14,8 +15,8 @@ use Rattle.command_base.specs.OneFile.{Ending, was_read, failing, lacked, ReadsO
 
 -- the ending of a reading, where this is the text of what was read, and so a refusal ends it
 abbrev pub ending_of : {T R : Type 0} → (T → List ℕ) → (R → Ending) → Reading T R → Ending
-ending_of text refusal (readings.Unopened open_refusals.Failed) = failing
-ending_of text refusal (readings.Unopened open_refusals.Memory) = lacked
+ending_of text refusal (readings.Unopened outside_refusals.Failed) = failing
+ending_of text refusal (readings.Unopened outside_refusals.Memory) = lacked
 ending_of text refusal (readings.Opened (Ok what)) = was_read (text what)
 ending_of text refusal (readings.Opened (Err why)) = refusal why
 
@@ -49,8 +50,8 @@ pub record StoreUnder {A : Type 0} (Comes : StoreState → StoreUse → A → Ty
 -- No entry, where memory lacked for the opening; or it was refused; or an object was given and taken back, and of its reading this
 -- came.
 abbrev pub IsOpened : {T R : Type 0} → ObjectKind → (Keeping → Result T R → Type 0) → List ℕ → List Opening → Reading T R → Type 0
-IsOpened kind Under file [] reading = reading ≡ readings.Unopened open_refusals.Memory
-IsOpened {T} {R} kind Under file (entry ∷ more) reading = ((entry ≡ refused kind file) × (reading ≡ readings.Unopened open_refusals.Failed))
+IsOpened kind Under file [] reading = reading ≡ readings.Unopened outside_refusals.Memory
+IsOpened {T} {R} kind Under file (entry ∷ more) reading = ((entry ≡ refused kind file) × (reading ≡ readings.Unopened outside_refusals.Failed))
     ⊎ ((keeping : Keeping) × (entry ≡ kept kind file keeping) × ((came : Result T R) × (reading ≡ readings.Opened came) × Under keeping came))
 
 -- what the opening of a name as a source came to
@@ -64,7 +65,7 @@ IsStoreRead Comes file world entries reading = IsOpened kinds.Store (StoreUnder 
 -- ---- commands
 
 -- What a command did that reads one file: this came of its reading, and it has that text, or so a refusal ends it.
-pub record ReadsFile {T R : Type 0} (IsRead : WorldState → List Opening → Reading T R → Type 0) (kind : ObjectKind) (file : List ℕ) (ending : Reading T R → Ending) (old new : Scene) (status : ℕ) : Type 0 where
+pub record ReadsFile {T R : Type 0} (IsRead : WorldState → List Opening → Reading T R → Type 0) (kind : ObjectKind) (file : List ℕ) (ending : Reading T R → Ending) (old new : Scene) (status : Status) : Type 0 where
   -- the file is opened as an object of that kind, and nothing else; this is what its reading came to
   pub entries : List Opening
   pub reading : Reading T R

@@ -2,15 +2,18 @@
 use Rattle.std.specs.Prelude.{ℕ, List, [], ◌∷◌, ◌++◌, codes, decimal, Bool, ◌==◌, find, unwrap_or}
 use Rattle.std.specs.List.{flat_map, list_any}
 use Rattle.json.specs.Print.{quoted}
+use Rattle.command_base.specs.declared.statuses.Status.{Status}
+use Rattle.command_base.specs.declared.statuses.Status.TheVariants as statuses
 use Rattle.mcap_model.specs.declared.refusals.NotIndexed.{NotIndexed}
 use Rattle.mcap_model.specs.declared.refusals.NotIndexed.TheVariants as lacks
+use Rattle.mcap_model.specs.RuleNumbers.{rule_number}
+use Rattle.mcap_model.specs.declared.rules.Rule.{Rule}
 use Rattle.mcap_model.specs.Kept.{Halt, at_end, grammar as breaks, compressed as names, beyond}
 
 -- ---- standard error
 
 -- a trouble that the program complains of
 pub data Trouble : Type 0 where
-  bad_words : Trouble
   fault : List ℕ → Trouble
   output_fault : Trouble
   grammar : List ℕ → ℕ → Trouble
@@ -20,8 +23,8 @@ pub data Trouble : Type 0 where
   output_limit : List ℕ → Trouble
   -- it lacks what a reading by its indexes wants
   not_indexed : List ℕ → NotIndexed → Trouble
-  -- the rule of that number fails at that offset
-  flaw : List ℕ → ℕ → ℕ → Trouble
+  -- that rule fails at that offset
+  flaw : List ℕ → Rule → ℕ → Trouble
   no_memory : Trouble
 
 -- the words for what a file lacks
@@ -41,7 +44,6 @@ abbrev pub at_offset : ℕ → List ℕ
 at_offset n = codes " at " ++ (decimal n ++ codes "\n")
 
 unfoldable pub trouble_line : Trouble → List ℕ
-trouble_line bad_words = codes "mcaprec: bad words\n"
 trouble_line (fault name) = about name (codes ": fault\n")
 trouble_line output_fault = codes "mcaprec: output: fault\n"
 trouble_line (grammar name n) = about name (codes ": grammar" ++ at_offset n)
@@ -49,7 +51,7 @@ trouble_line (compressed name compression n) = about name (codes ": compressed "
 trouble_line (limit name n) = about name (codes ": limit" ++ at_offset n)
 trouble_line (output_limit name) = about name (codes ": limit\n")
 trouble_line (not_indexed name why) = about name (codes ": not indexed: " ++ (unindexed_text why ++ codes "\n"))
-trouble_line (flaw name rule n) = about name (codes ": flaw V" ++ (decimal rule ++ at_offset n))
+trouble_line (flaw name rule n) = about name (codes ": flaw V" ++ (decimal (rule_number rule) ++ at_offset n))
 trouble_line no_memory = codes "mcaprec: no memory\n"
 
 abbrev pub said : List Trouble → List ℕ
@@ -57,30 +59,42 @@ said troubles = flat_map trouble_line troubles
 
 -- ---- the status
 
+-- the number that the program ends with
+abbrev pub status_number : Status → ℕ
+status_number statuses.Done = 0
+status_number statuses.Refused = 1
+status_number statuses.Fault = 3
+status_number statuses.Limit = 4
+status_number statuses.Memory = 5
+
+-- it is the one that is wanted
+abbrev pub is_status : Status → Status → Bool
+is_status wanted status = status_number status == status_number wanted
+
 -- the status that a trouble asks for
-abbrev pub asked_status : Trouble → ℕ
-asked_status bad_words = 2
-asked_status (fault name) = 3
-asked_status output_fault = 3
-asked_status (grammar name n) = 1
-asked_status (compressed name compression n) = 1
-asked_status (limit name n) = 4
-asked_status (output_limit name) = 4
-asked_status (not_indexed name why) = 1
-asked_status (flaw name rule n) = 1
-asked_status no_memory = 5
+abbrev pub asked_status : Trouble → Status
+asked_status (fault name) = statuses.Fault
+asked_status output_fault = statuses.Fault
+asked_status (grammar name n) = statuses.Refused
+asked_status (compressed name compression n) = statuses.Refused
+asked_status (limit name n) = statuses.Limit
+asked_status (output_limit name) = statuses.Limit
+asked_status (not_indexed name why) = statuses.Refused
+asked_status (flaw name rule n) = statuses.Refused
+asked_status no_memory = statuses.Memory
 
 -- one of the troubles asks for the status
-abbrev pub status_is_asked : List Trouble → ℕ → Bool
-status_is_asked troubles status = list_any (λ t. asked_status t == status) troubles
+abbrev pub status_is_asked : List Trouble → Status → Bool
+status_is_asked troubles status = list_any (λ t. is_status status (asked_status t)) troubles
 
--- the first of 2, 5, 3, 4 and 1 that is asked for, or 0
-abbrev pub status_of : List Trouble → ℕ
-status_of troubles = unwrap_or (find (status_is_asked troubles) (2 ∷ 5 ∷ 3 ∷ 4 ∷ 1 ∷ [])) 0
+-- the first of these that is asked for: that memory lacked, that something failed, that a limit was passed, and that something
+-- was refused
+abbrev pub status_of : List Trouble → Status
+status_of troubles = unwrap_or (find (status_is_asked troubles) (statuses.Memory ∷ statuses.Fault ∷ statuses.Limit ∷ statuses.Refused ∷ [])) statuses.Done
 
 -- that of where the reading of a file halts
-abbrev pub halt_status : Halt → ℕ
-halt_status (at_end n) = 0
-halt_status (breaks n rule) = 1
-halt_status (names n name) = 1
-halt_status (beyond n) = 4
+abbrev pub halt_status : Halt → Status
+halt_status (at_end n) = statuses.Done
+halt_status (breaks n rule) = statuses.Refused
+halt_status (names n name) = statuses.Refused
+halt_status (beyond n) = statuses.Limit

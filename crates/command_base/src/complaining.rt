@@ -1,13 +1,14 @@
 //! Telling standard error of the troubles of a command, and the status that they give. It takes no memory.
 ghost use Rattle.std.specs.Prelude.{◌≡◌, ◌∷◌, ◌++◌, []};
 ghost use Rattle.std.specs.List.{flat_map};
-ghost use Rattle.command_base.specs.Texts.{bad_words, no_memory, said};
-ghost use Rattle.command_base.specs.ComplaintTroubles.{trouble_of, complained};
+ghost use Rattle.command_base.specs.Texts.{no_memory, said};
+ghost use Rattle.command_base.specs.ComplaintTroubles.{trouble_of, complained, bad_words_line};
 ghost use Rattle.command_base.specs.Printing.{Takes};
 ghost use Rattle.command_base.specs.Putting.{PutsText};
 ghost use Rattle.command_base.specs.Ran.{when, Complains};
 
 use crate::complaint::{BAD_WORDS, Complaint, NO_MEMORY, put_line, status};
+use crate::statuses::Status;
 use crate::waiting::Waiting;
 use mcap_io::Sink;
 
@@ -39,7 +40,7 @@ fn put_lines<E: Sink>(waiting: &mut Waiting, err: &mut E, complaints: &[Option<C
 
 /// Tells standard error of the complaints that there are, in their order, and answers the status. That standard error fails
 /// changes nothing but that.
-pub fn complain_of<E: Sink>(err: &mut E, complaints: &[Option<Complaint<'_>>]) -> u8
+pub fn complain_of<E: Sink>(err: &mut E, complaints: &[Option<Complaint<'_>>]) -> Status
     ensures { Complains (flat_map complained complaints.now) (E.state err.old) (E.state err.new) result }
 {
     let mut waiting = Waiting::new();
@@ -59,7 +60,7 @@ fn tell<E: Sink>(err: &mut E, text: &str)
 
 /// Complains of words that are no command, and shows the usage behind that.
 pub fn refuse_words<E: Sink>(err: &mut E, usage: &str)
-    ensures { Takes (E.state err.old) (E.state err.new) (said (bad_words ∷ []) ++ usage.now) }
+    ensures { Takes (E.state err.old) (E.state err.new) (bad_words_line ++ usage.now) }
 {
     let mut waiting = Waiting::new();
     waiting.put_text(err, BAD_WORDS);

@@ -1,13 +1,14 @@
 //! What the program says on standard error, and the status that it ends with.
 ghost use Rattle.std.specs.Prelude.{◌≡◌, ◌++◌, codes};
 ghost use Rattle.std.specs.List.{flat_map, list_any};
-ghost use Rattle.command_base.specs.Texts.{compressed, flaw, unindexed_text, about, at_offset, trouble_line, asked_status, status_is_asked, status_of};
+ghost use Rattle.command_base.specs.Texts.{compressed, flaw, unindexed_text, about, at_offset, trouble_line, is_status, asked_status, status_is_asked, status_of};
 ghost use Rattle.command_base.specs.ComplaintTroubles.{trouble_of, complained};
 ghost use Rattle.command_base.specs.Putting.{PutsText};
 
+use crate::statuses::Status;
 use crate::waiting::Waiting;
 use mcap_io::Sink;
-use mcap_model::NotIndexed;
+use mcap_model::{NotIndexed, Rule};
 
 /// What standard error is told of words that are no command, before the usage.
 pub const BAD_WORDS: &str = "mcaprec: bad words\n";
@@ -18,8 +19,6 @@ pub const NO_MEMORY: &str = "mcaprec: no memory\n";
 /// A trouble, with the name of the file that it is about. Offsets count from the file's first byte.
 #[derive(Clone, Copy)]
 pub enum Complaint<'a> {
-    /// The words are no command.
-    BadWords,
     /// The file could not be read or kept.
     Fault {
         name: &'a str,
@@ -51,10 +50,10 @@ pub enum Complaint<'a> {
         name: &'a str,
         why: NotIndexed,
     },
-    /// The rule of that number fails at the offset of the file.
+    /// That rule fails at the offset of the file.
     Flaw {
         name: &'a str,
-        rule: u8,
+        rule: Rule,
         offset: u64,
     },
     /// Memory lacked.
@@ -126,11 +125,11 @@ fn put_compressed<E: Sink>(
 
 // Puts the line of a rule that fails.
 #[tactic(auto, unfolding(crate::specs::Texts::trouble_line))]
-fn put_flaw<E: Sink>(waiting: &mut Waiting, err: &mut E, name: &str, rule: u8, offset: u64)
+fn put_flaw<E: Sink>(waiting: &mut Waiting, err: &mut E, name: &str, rule: Rule, offset: u64)
     ensures { PutsText (E.state err.old) waiting.old (E.state err.new) waiting.new (trouble_line (flaw name.now rule offset)) }
 {
     put_about(waiting, err, name, ": flaw V");
-    waiting.put_number(err, rule as u64);
+    waiting.put_number(err, rule.number() as u64);
     put_offset(waiting, err, offset);
 }
 
@@ -140,7 +139,6 @@ pub(crate) fn put_line<E: Sink>(waiting: &mut Waiting, err: &mut E, complaint: &
     ensures { PutsText (E.state err.old) waiting.old (E.state err.new) waiting.new (trouble_line (trouble_of complaint.now)) }
 {
     match complaint {
-        Complaint::BadWords => waiting.put_text(err, BAD_WORDS),
         Complaint::Fault { name } => put_file(waiting, err, name, ": fault"),
         Complaint::OutputFault => waiting.put_text(err, "mcaprec: output: fault\n"),
         Complaint::Grammar { name, offset } => put_place(waiting, err, name, ": grammar", *offset),
@@ -158,54 +156,57 @@ pub(crate) fn put_line<E: Sink>(waiting: &mut Waiting, err: &mut E, complaint: &
 }
 
 // The status that a complaint asks for by itself.
-fn own_status(complaint: &Complaint<'_>) -> u8
+fn own_status(complaint: &Complaint<'_>) -> Status
     ensures { result ≡ asked_status (trouble_of complaint.now) }
 {
     match complaint {
-        Complaint::BadWords => 2,
-        Complaint::NoMemory => 5,
-        Complaint::Fault { .. } | Complaint::OutputFault => 3,
-        Complaint::Limit { .. } | Complaint::OutputLimit { .. } => 4,
-        Complaint::Grammar { .. } | Complaint::Compressed { .. } => 1,
-        Complaint::NotIndexed { .. } | Complaint::Flaw { .. } => 1,
+        Complaint::NoMemory => Status::Memory,
+        Complaint::Fault { .. } | Complaint::OutputFault => Status::Fault,
+        Complaint::Limit { .. } | Complaint::OutputLimit { .. } => Status::Limit,
+        Complaint::Grammar { .. } | Complaint::Compressed { .. } => Status::Refused,
+        Complaint::NotIndexed { .. } | Complaint::Flaw { .. } => Status::Refused,
     }
 }
 
+// Whether it is that status.
+fn is_that(status: Status, wanted: Status) -> bool
+    ensures { result ≡ is_status wanted status }
+{
+    status.number() == wanted.number()
+}
+
 // Whether there is a complaint, and it asks for the status.
-fn asks(complaint: &Option<Complaint<'_>>, status: u8) -> bool
+fn asks(complaint: &Option<Complaint<'_>>, status: Status) -> bool
     ensures { result ≡ status_is_asked (complained complaint.now) status }
 {
     match complaint {
-        Some(complaint) => own_status(complaint) == status,
+        Some(complaint) => is_that(own_status(complaint), status),
         None => false,
     }
 }
 
 // Whether one of the complaints asks for the status.
-fn asks_for(complaints: &[Option<Complaint<'_>>], status: u8) -> bool
+fn asks_for(complaints: &[Option<Complaint<'_>>], status: Status) -> bool
     ensures { result ≡ list_any (λ c. status_is_asked (complained c) status) complaints.now }
 {
     complaints.iter().any(|c| asks(c, status))
 }
 
-/// The status that the program ends with: 2 where the words are bad, or else 5 where memory lacked, or else 3 where
-/// the outside failed, or else 4 where a limit was passed, or else 1 where a feed or a file was refused, and 0 where
-/// there is no complaint.
+/// The status of a command: that memory lacked, or else that the outside failed, or else that a limit was passed, or else that
+/// a feed or a file was refused; and that all was done where there is no complaint.
 #[tactic(auto, using(crate::proofs::Asked::any_in_all))]
-pub(crate) fn status(complaints: &[Option<Complaint<'_>>]) -> u8
+pub(crate) fn status(complaints: &[Option<Complaint<'_>>]) -> Status
     ensures { result ≡ status_of (flat_map complained complaints.now) }
 {
-    if asks_for(complaints, 2) {
-        2
-    } else if asks_for(complaints, 5) {
-        5
-    } else if asks_for(complaints, 3) {
-        3
-    } else if asks_for(complaints, 4) {
-        4
-    } else if asks_for(complaints, 1) {
-        1
+    if asks_for(complaints, Status::Memory) {
+        Status::Memory
+    } else if asks_for(complaints, Status::Fault) {
+        Status::Fault
+    } else if asks_for(complaints, Status::Limit) {
+        Status::Limit
+    } else if asks_for(complaints, Status::Refused) {
+        Status::Refused
     } else {
-        0
+        Status::Done
     }
 }

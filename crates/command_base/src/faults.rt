@@ -5,7 +5,7 @@ ghost use Rattle.mcap_io.specs.OutsideCalls.{went_well};
 ghost use Rattle.command_base.specs.Ran.{counted_faults, failed_so};
 ghost use Rattle.command_base.specs.ReadingSteps.{is_failure as failed_to_open};
 
-use mcap_io::{Failed, OpenRefused, Sink, World};
+use mcap_io::{Failed, OutsideRefused, Sink, World};
 
 /// How often the world, its kept inputs and outputs, and standard output have failed.
 #[derive(Clone, Copy)]
@@ -51,11 +51,11 @@ pub fn has_failed(faults: u64, kept: Result<(), Failed>) -> bool
 }
 
 /// Whether an opening was refused because the world failed.
-pub(crate) fn is_failure(why: OpenRefused) -> bool
+pub(crate) fn is_failure(why: OutsideRefused) -> bool
     ensures { result ≡ failed_to_open why }
 {
     match why {
-        OpenRefused::Failed => true,
-        OpenRefused::Memory => false,
+        OutsideRefused::Failed => true,
+        OutsideRefused::Memory => false,
     }
 }

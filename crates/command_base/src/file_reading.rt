@@ -14,13 +14,14 @@ ghost use Rattle.command_base.specs.ReadingSteps.{IsRefusal};
 use crate::complaint::Complaint;
 use crate::faults::Counts;
 use crate::one_file::{answer_file, faults_of};
-use mcap_io::{OpenRefused, Sink, World};
+use crate::statuses::Status;
+use mcap_io::{OutsideRefused, Sink, World};
 
 /// What the reading of a file under a name came to.
 #[derive(Drop)]
 pub enum Reading<T, R> {
     /// The world didn't open it.
-    Unopened { why: OpenRefused },
+    Unopened { why: OutsideRefused },
     /// It was opened, and this came of its reading.
     Opened { came: Result<T, R> },
 }
@@ -103,10 +104,10 @@ pub fn has_lacked<K: FileReading>(what: &K, reading: &Reading<K::Read, K::Refuse
         Reading::Opened { came: Err(why) } => return what.lacks_memory(why),
         Reading::Opened { came: Ok(_) } => return false,
         Reading::Unopened {
-            why: OpenRefused::Memory,
+            why: OutsideRefused::Memory,
         } => return true,
         Reading::Unopened {
-            why: OpenRefused::Failed,
+            why: OutsideRefused::Failed,
         } => return false,
     }
 }
@@ -121,7 +122,7 @@ pub fn answer_reading<K: FileReading, W: World, O: Sink, E: Sink>(
     world: &W,
     out: &mut O,
     err: &mut E,
-) -> u8
+) -> Status
     ensures { (kind : ObjectKind) (old : WorldState) (entries : List Opening) → before.now ≡ counted_faults old (O.state out.old)
         → NameRead kind file.now old (W.state world.now) entries read.old.failed
         → (ending_of (K.text what.now) (K.ending what.now file.now) read.old.reading ≡ failing → read.old.failed ≡ true)

@@ -10,6 +10,7 @@ mod line;
 mod one_file;
 mod refusing;
 mod source_reading;
+mod statuses;
 mod store_reading;
 mod waiting;
 
@@ -23,4 +24,5 @@ pub use line::{LINE_ROOM, Line};
 pub use one_file::{Faults, answer_file, faults_of};
 pub use refusing::{index_lacks_memory, indexed_complaint, lacks_memory, reading_complaint};
 pub use source_reading::{SourceReading, answer_source, read_source_name};
+pub use statuses::{BAD_WORDS_STATUS, Status};
 pub use store_reading::{StoreReading, answer_store, read_store_name};

@@ -8,6 +8,7 @@ ghost use Rattle.command_base.specs.OneFileSteps.{one_troubles, ShowsFaults};
 use crate::complaining::{complain_of, due_when};
 use crate::complaint::Complaint;
 use crate::faults::{Counts, rose};
+use crate::statuses::Status;
 use mcap_io::Sink;
 
 /// Which parts of the outside failed: the file, or standard output.
@@ -36,7 +37,7 @@ pub fn answer_file<'a, E: Sink>(
     halt: Option<Complaint<'a>>,
     lacked: bool,
     faults: Faults,
-) -> u8
+) -> Status
     ensures { (ending : Ending) → complained halt.entry ≡ troubles_in ending → lacked ≡ is_lack ending
         → Complains (one_troubles file.now ending faults.file faults.printing) (E.state err.old) (E.state err.new) result }
 {

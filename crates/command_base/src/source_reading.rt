@@ -9,6 +9,7 @@ ghost use Rattle.command_base.specs.ReadingSteps.{NameEnds};
 
 use crate::faults::{Counts, has_failed, is_failure};
 use crate::file_reading::{FileReading, ReadName, Reading, answer_reading};
+use crate::statuses::Status;
 use mcap_io::{Sink, Source, World};
 
 /// What a command reads of a source.
@@ -62,7 +63,7 @@ pub fn answer_source<K: SourceReading, W: World, O: Sink, E: Sink>(
     world: &mut W,
     out: &mut O,
     err: &mut E,
-) -> u8
+) -> Status
     ensures { ReadsFile (IsSourceRead (K.comes what.now) file.now) ObjectKind.Source file.now
         (ending_of (K.text what.now) (K.ending what.now file.now))
         (scene (W.state world.old) (O.state out.old) (E.state err.old))

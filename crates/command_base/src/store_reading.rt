@@ -9,6 +9,7 @@ ghost use Rattle.command_base.specs.ReadingSteps.{use_of, NameEnds};
 
 use crate::faults::{Counts, has_failed, is_failure};
 use crate::file_reading::{FileReading, ReadName, Reading, answer_reading};
+use crate::statuses::Status;
 use mcap_io::{Sink, Store, World};
 
 /// What a command reads of a store.
@@ -62,7 +63,7 @@ pub fn answer_store<K: StoreReading, W: World, O: Sink, E: Sink>(
     world: &mut W,
     out: &mut O,
     err: &mut E,
-) -> u8
+) -> Status
     ensures { ReadsFile (IsStoreRead (K.comes what.now) file.now) ObjectKind.Store file.now
         (ending_of (K.text what.now) (K.ending what.now file.now))
         (scene (W.state world.old) (O.state out.old) (E.state err.old))

@@ -2,8 +2,8 @@
 use Rattle.std.proofs.Common.{◌≡◌, ◌⊎◌, ℕ, List, Some, Result, Ok, Err, refl, ap, inl, inr, ◌∙◌}
 use Rattle.mcap_io.specs.Outside.{SourceState}
 use Rattle.mcap_io.specs.declared.outside.ObjectKind.TheVariants as kinds
-use Rattle.mcap_io.specs.declared.outside.OpenRefused.{OpenRefused}
-use Rattle.mcap_io.specs.declared.outside.OpenRefused.TheVariants as open_refusals
+use Rattle.mcap_io.specs.declared.outside.OutsideRefused.{OutsideRefused}
+use Rattle.mcap_io.specs.declared.outside.OutsideRefused.TheVariants as outside_refusals
 use Rattle.mcap_model.specs.Tops.{Top}
 use Rattle.mcap_model.specs.Kept.{Halt, reading_limits, at_end, grammar as breaks, compressed as names, beyond, Halts}
 use Rattle.mcap_model.specs.Readings.{SameHalt}
@@ -13,17 +13,14 @@ use Rattle.mcap_model.specs.declared.refusals.ReadingRefused.TheVariants as refu
 use Rattle.mcap_scan.specs.RefusedReadings.{RefusalStands}
 use Rattle.command_base.specs.declared.file_reading.Reading.{Reading}
 use Rattle.command_base.specs.declared.file_reading.Reading.TheVariants as readings
+use Rattle.command_base.specs.declared.statuses.Status.{Status}
+use Rattle.command_base.specs.declared.statuses.Status.TheVariants as statuses
 use Rattle.command_base.specs.Texts.{halt_status}
 use Rattle.command_base.specs.Ran.{Scene}
 use Rattle.command_base.specs.OneFile.{failing, refusal_ending, ending_status}
 use Rattle.command_base.specs.Readings.{IsSourceRead, ReadsFile}
-use Rattle.command_base.proofs.ReadNames.{source_shows, reads_not_two}
-use Rattle.command_base.proofs.Refusals.{refusal_is}
+use Rattle.command_base.proofs.ReadNames.{source_shows}
 use Rattle.file_commands.specs.Cat.{Selection, IsUnprinted, ComesTo, cat_ending, Cats}
-
--- the status of a printing is not that of bad words
-pub not_two : (asked : Selection) (file : List ℕ) (old new : Scene) (answer : ℕ) → Cats asked file old new answer → answer ≡ 2 → ⊥
-not_two asked file old new answer all two = reads_not_two (λ (t : List ℕ). t) (refusal_ending file) (refusal_is file) (IsSourceRead (ComesTo asked) file) kinds.Source file old new answer all.reads two
 
 -- what is said of a refused replay
 pub refused_so : (before now : SourceState) (why : ReadingRefused) → (tops : List Top) × RefusalStands why before now tops → IsUnprinted before now why
@@ -59,11 +56,11 @@ module _ (asked : Selection) (file bytes : List ℕ) (tops : List Top) (halt : H
 
   -- a reading that didn't fail halts where the bytes say, or memory lacked
   abbrev Decided : Reading (List ℕ) ReadingRefused → Type 0
-  Decided reading = (cat_ending file reading ≡ failing → ⊥) → (ending_status (cat_ending file reading) ≡ halt_status halt) ⊎ (ending_status (cat_ending file reading) ≡ 5)
+  Decided reading = (cat_ending file reading ≡ failing → ⊥) → (ending_status (cat_ending file reading) ≡ halt_status halt) ⊎ (ending_status (cat_ending file reading) ≡ statuses.Memory)
 
-  unopened_so : (why : OpenRefused) → Decided (readings.Unopened why)
-  unopened_so open_refusals.Failed other = absurd (other refl)
-  unopened_so open_refusals.Memory other = inr refl
+  unopened_so : (why : OutsideRefused) → Decided (readings.Unopened why)
+  unopened_so outside_refusals.Failed other = absurd (other refl)
+  unopened_so outside_refusals.Memory other = inr refl
 
   halted_so : (source now : SourceState) (came : Result (List ℕ) ReadingRefused) → source.left ≡ Some bytes → ComesTo asked source now came → Decided (readings.Opened came)
   halted_so source now (Ok text) here comes other = inl (one_status comes.tops (at_end comes.end) (comes.halts.halts bytes here))
@@ -74,13 +71,13 @@ module _ (asked : Selection) (file bytes : List ℕ) (tops : List Top) (halt : H
   halted_so source now (Err refusals.Memory) here comes other = inr refl
 
 -- all that the program promises of a printing
-pub printed : (asked : Selection) (file : List ℕ) (old new : Scene) (answer : ℕ) → ReadsFile (IsSourceRead (ComesTo asked) file) kinds.Source file (cat_ending file) old new answer → Cats asked file old new answer
+pub printed : (asked : Selection) (file : List ℕ) (old new : Scene) (answer : Status) → ReadsFile (IsSourceRead (ComesTo asked) file) kinds.Source file (cat_ending file) old new answer → Cats asked file old new answer
 printed asked file old new answer reads = record {
   reads = reads;
   decided = λ told bytes tops halt here there halts quiet.
       let (unnamed, unfailing, same) = reads.ran.calm quiet in
       elim (source_shows (Decided asked file bytes tops halt halts) file bytes old.world told here there (unopened_so asked file bytes tops halt halts) (ComesTo asked) (halted_so asked file bytes tops halt halts) reads.entries reads.reading reads.read unfailing) [
         | inl decides ↦ inl (same ∙ decides)
-        | inr five ↦ inr (same ∙ five)
+        | inr lacks ↦ inr (same ∙ lacks)
       ];
 }

@@ -2,8 +2,8 @@
 use Rattle.std.proofs.Common.{◌≡◌, ℕ, List, Some, Result, Ok, Err, refl}
 use Rattle.mcap_io.specs.Stores.{StoreState}
 use Rattle.mcap_io.specs.declared.outside.ObjectKind.TheVariants as kinds
-use Rattle.mcap_io.specs.declared.outside.OpenRefused.{OpenRefused}
-use Rattle.mcap_io.specs.declared.outside.OpenRefused.TheVariants as open_refusals
+use Rattle.mcap_io.specs.declared.outside.OutsideRefused.{OutsideRefused}
+use Rattle.mcap_io.specs.declared.outside.OutsideRefused.TheVariants as outside_refusals
 use Rattle.mcap_model.specs.Tops.{Top}
 use Rattle.mcap_model.specs.Kept.{reading_limits, at_end, Halts}
 use Rattle.mcap_model.specs.Scan.{Seen, Scan}
@@ -13,17 +13,13 @@ use Rattle.mcap_model.specs.declared.refusals.IndexedRefused.{IndexedRefused}
 use Rattle.mcap_model.specs.declared.refusals.IndexedRefused.TheVariants as by_index
 use Rattle.command_base.specs.declared.file_reading.Reading.{Reading}
 use Rattle.command_base.specs.declared.file_reading.Reading.TheVariants as readings
+use Rattle.command_base.specs.declared.statuses.Status.{Status}
 use Rattle.command_base.specs.Ran.{Scene}
 use Rattle.command_base.specs.OneFile.{failing}
 use Rattle.command_base.specs.Readings.{StoreUse, IsStoreRead, ReadsFile}
-use Rattle.command_base.proofs.ReadNames.{store_shows, reads_not_two}
+use Rattle.command_base.proofs.ReadNames.{store_shows}
 use Rattle.file_commands.specs.Cat.{Selection}
-use Rattle.file_commands.specs.Indexed.{IndexedComesTo, led_ending, replay_ending, ShowsLed, ShowsScan, IndexedCats}
-use Rattle.file_commands.specs.Failing.{led_is}
-
--- the status is not that of bad words
-pub indexed_not_two : (asked : Selection) (file : List ℕ) (old new : Scene) (answer : ℕ) → IndexedCats asked file old new answer → answer ≡ 2 → ⊥
-indexed_not_two asked file old new answer all two = reads_not_two (λ (t : List ℕ). t) (led_ending file) (led_is file) (IsStoreRead (IndexedComesTo asked) file) kinds.Store file old new answer all.reads two
+use Rattle.file_commands.specs.Indexed.{IndexedComesTo, replay_ending, ShowsLed, ShowsScan, IndexedCats}
 
 -- ---- the bytes decide
 
@@ -32,9 +28,9 @@ module _ (asked : Selection) (file bytes : List ℕ) where
   abbrev Decided : Reading (List ℕ) IndexedRefused → Type 0
   Decided reading = (replay_ending file reading ≡ failing → ⊥) → ShowsLed asked bytes reading
 
-  unopened_so : (why : OpenRefused) → Decided (readings.Unopened why)
-  unopened_so open_refusals.Failed other = other refl
-  unopened_so open_refusals.Memory other = tt
+  unopened_so : (why : OutsideRefused) → Decided (readings.Unopened why)
+  unopened_so outside_refusals.Failed other = other refl
+  unopened_so outside_refusals.Memory other = tt
 
   shows_so : (store : StoreState) (now : StoreUse) (came : Result (List ℕ) IndexedRefused) → store.bytes ≡ Some bytes → IndexedComesTo asked store now came → Decided (readings.Opened came)
   shows_so store now (Ok text) here comes other =
@@ -57,7 +53,7 @@ module _ (asked : Selection) (bytes : List ℕ) (tops : List Top) (end : ℕ) (m
 -- ---- the command
 
 -- all that the program promises of a printing by the indexes
-pub printed : (asked : Selection) (file : List ℕ) (old new : Scene) (answer : ℕ) → ReadsFile (IsStoreRead (IndexedComesTo asked) file) kinds.Store file (replay_ending file) old new answer → IndexedCats asked file old new answer
+pub printed : (asked : Selection) (file : List ℕ) (old new : Scene) (answer : Status) → ReadsFile (IsStoreRead (IndexedComesTo asked) file) kinds.Store file (replay_ending file) old new answer → IndexedCats asked file old new answer
 printed asked file old new answer reads = record {
   reads = reads;
   decided = λ told bytes here there quiet.

@@ -11,6 +11,8 @@ use Rattle.mcap_model.specs.declared.refusals.ReadingRefused.{ReadingRefused}
 use Rattle.mcap_model.specs.declared.refusals.ReadingRefused.TheVariants as refusals
 use Rattle.mcap_scan.specs.RefusedReadings.{HaltsSo, FaultStands, MemoryStands}
 use Rattle.command_base.specs.declared.file_reading.Reading.{Reading}
+use Rattle.command_base.specs.declared.statuses.Status.{Status}
+use Rattle.command_base.specs.declared.statuses.Status.TheVariants as statuses
 use Rattle.command_base.specs.Texts.{halt_status}
 use Rattle.command_base.specs.Ran.{Scene, counts_in, AnyRose}
 use Rattle.command_base.specs.OneFile.{Ending, refusal_ending}
@@ -59,9 +61,9 @@ cat_ending file reading = ending_of (λ text. text) (refusal_ending file) readin
 -- ---- the command
 
 -- what `cat` does without `--indexed`
-pub record Cats (asked : Selection) (file : List ℕ) (old new : Scene) (status : ℕ) : Type 0 where
+pub record Cats (asked : Selection) (file : List ℕ) (old new : Scene) (status : Status) : Type 0 where
   -- the file is read as a source; standard output takes the lines of the messages, and standard error the troubles
   pub reads : ReadsFile (IsSourceRead (ComesTo asked) file) kinds.Source file (cat_ending file) old new status
   -- where the world tells, the bytes under the name decide the status, unless a count rises or memory lacks
   pub decided : (told : Told) (bytes : List ℕ) (tops : List Top) (halt : Halt) → old.world.told ≡ Some told → told.names file ≡ Some bytes → Halts reading_limits bytes tops halt
-      → (AnyRose (counts_in old) (counts_in new) → ⊥) → (status ≡ halt_status halt) ⊎ (status ≡ 5)
+      → (AnyRose (counts_in old) (counts_in new) → ⊥) → (status ≡ halt_status halt) ⊎ (status ≡ statuses.Memory)

@@ -1,19 +1,23 @@
 -- What the check of a file did: to the names of the world, to both outputs, and how it ended.
-use Rattle.std.specs.Prelude.{◌≡◌, ◌⊎◌, ◌==◌, ◌+◌, ◌≤◌, ℕ, List, ◌++◌, length, codes, decimal, if◌then◌else◌, Some, Result, Ok, Err}
+use Rattle.std.specs.Prelude.{◌≡◌, ◌⊎◌, ◌+◌, ◌≤◌, ℕ, List, ◌++◌, length, codes, decimal, Some, Result, Ok, Err}
 use Rattle.mcap_io.specs.Outside.{Told}
 use Rattle.mcap_io.specs.Stores.{StoreState}
 use Rattle.mcap_io.specs.declared.outside.ObjectKind.TheVariants as kinds
-use Rattle.mcap_io.specs.declared.outside.OpenRefused.TheVariants as open_refusals
+use Rattle.mcap_io.specs.declared.outside.OutsideRefused.TheVariants as outside_refusals
 use Rattle.mcap_model.specs.declared.checked.Counts.{Counts as Numbers}
 use Rattle.mcap_model.specs.declared.checked.Verdict.{Verdict}
 use Rattle.mcap_model.specs.declared.checked.Verdict.TheVariants as verdicts
 use Rattle.mcap_model.specs.declared.refusals.ReadingRefused.{ReadingRefused}
 use Rattle.mcap_model.specs.declared.refusals.ReadingRefused.TheVariants as refusals
+use Rattle.mcap_model.specs.RuleNumbers.{rule_number}
+use Rattle.mcap_model.specs.declared.rules.Rule.{Rule}
 use Rattle.mcap_model.specs.Kept.{compressed as names}
 use Rattle.file_check.specs.Checking.{IsSo, HaltsBefore, MeetsReadingLimit, Checks, CheckCause, margin}
 use Rattle.file_check.specs.CutFiles.{TellsUnbegun, TellsCutFile}
 use Rattle.command_base.specs.declared.file_reading.Reading.{Reading}
 use Rattle.command_base.specs.declared.file_reading.Reading.TheVariants as readings
+use Rattle.command_base.specs.declared.statuses.Status.{Status}
+use Rattle.command_base.specs.declared.statuses.Status.TheVariants as statuses
 use Rattle.command_base.specs.Printing.{TellsAll}
 use Rattle.command_base.specs.Ran.{Scene, counts_in, AnyRose}
 use Rattle.command_base.specs.OneFile.{Ending, refusal_ending, AskedRose}
@@ -43,8 +47,8 @@ counts_line kind n = kind ++ (named_number (codes " messages=") n.messages ++ (n
     ++ (named_number (codes " attachments=") n.attachments ++ (named_number (codes " metadata=") n.metadata ++ codes "\n"))))))
 
 -- flaw Vk at N
-unfoldable pub flaw_line : ℕ → ℕ → List ℕ
-flaw_line rule offset = codes "flaw V" ++ (decimal rule ++ (codes " at " ++ (decimal offset ++ codes "\n")))
+unfoldable pub flaw_line : Rule → ℕ → List ℕ
+flaw_line rule offset = codes "flaw V" ++ (decimal (rule_number rule) ++ (codes " at " ++ (decimal offset ++ codes "\n")))
 
 abbrev pub verdict_line : Verdict → List ℕ
 verdict_line (verdicts.Indexed n) = counts_line (codes "ok indexed") n
@@ -57,46 +61,50 @@ check_ending file reading = ending_of verdict_line (refusal_ending file) reading
 
 -- ---- the status
 
--- that of a verdict: 1 where it is a flaw
-abbrev pub verdict_status : Verdict → ℕ
-verdict_status (verdicts.Indexed n) = 0
-verdict_status (verdicts.Plain n) = 0
-verdict_status (verdicts.Flawed rule offset) = 1
+-- that of a verdict: a refusal where it is a flaw
+abbrev pub verdict_status : Verdict → Status
+verdict_status (verdicts.Indexed n) = statuses.Done
+verdict_status (verdicts.Plain n) = statuses.Done
+verdict_status (verdicts.Flawed rule offset) = statuses.Refused
 
-abbrev pub reading_status : Reading Verdict ReadingRefused → ℕ
-reading_status (readings.Unopened why) = 0
+abbrev pub reading_status : Reading Verdict ReadingRefused → Status
+reading_status (readings.Unopened why) = statuses.Done
 reading_status (readings.Opened (Ok verdict)) = verdict_status verdict
-reading_status (readings.Opened (Err why)) = 0
+reading_status (readings.Opened (Err why)) = statuses.Done
 
 -- A flaw is told on standard output, so that the troubles don't ask for its status: it is that of what is free of troubles.
-abbrev pub final_status : ℕ → ℕ → ℕ
-final_status complained own = if complained == 0 then own else complained
+abbrev pub final_status : Status → Status → Status
+final_status statuses.Done own = own
+final_status statuses.Refused own = statuses.Refused
+final_status statuses.Fault own = statuses.Fault
+final_status statuses.Limit own = statuses.Limit
+final_status statuses.Memory own = statuses.Memory
 
 -- Where nothing failed, what came of the check is so by these bytes, and decides the status.
-abbrev pub Decides : List ℕ → Reading Verdict ReadingRefused → ℕ → Type 0
-Decides bytes (readings.Unopened open_refusals.Failed) status = ⊥
-Decides bytes (readings.Unopened open_refusals.Memory) status = status ≡ 5
+abbrev pub Decides : List ℕ → Reading Verdict ReadingRefused → Status → Type 0
+Decides bytes (readings.Unopened outside_refusals.Failed) status = ⊥
+Decides bytes (readings.Unopened outside_refusals.Memory) status = status ≡ statuses.Memory
 Decides bytes (readings.Opened (Ok verdict)) status = IsSo bytes verdict × (status ≡ verdict_status verdict)
 Decides bytes (readings.Opened (Err (refusals.Fault faults))) status = ⊥
 Decides bytes (readings.Opened (Err (refusals.Grammar n rule))) status = ⊥
-Decides bytes (readings.Opened (Err (refusals.Compressed n name))) status = HaltsBefore bytes (names n name) × (status ≡ 1)
-Decides bytes (readings.Opened (Err (refusals.Limit n))) status = MeetsReadingLimit bytes n × (status ≡ 4)
-Decides bytes (readings.Opened (Err refusals.Memory)) status = status ≡ 5
+Decides bytes (readings.Opened (Err (refusals.Compressed n name))) status = HaltsBefore bytes (names n name) × (status ≡ statuses.Refused)
+Decides bytes (readings.Opened (Err (refusals.Limit n))) status = MeetsReadingLimit bytes n × (status ≡ statuses.Limit)
+Decides bytes (readings.Opened (Err refusals.Memory)) status = status ≡ statuses.Memory
 
 -- ---- the command
 
 -- what `check` does
-pub record FileChecks (file : List ℕ) (old new : Scene) (status : ℕ) : Type 0 where
+pub record FileChecks (file : List ℕ) (old new : Scene) (status : Status) : Type 0 where
   -- the file is read as a store; standard output takes the line of the verdict, and standard error the troubles, which ask for
   -- this status
-  pub complained : ℕ
+  pub complained : Status
   pub reads : ReadsFile (IsStoreRead HasAnswer file) kinds.Store file (check_ending file) old new complained
   pub status_is : status ≡ final_status complained (reading_status reads.reading)
-  -- a count that rose is answered, also one that stands at the end of its type; and 3 is the answer only to such a count
-  pub rose : AskedRose (counts_in old) (counts_in new) → (status ≡ 3) ⊎ (status ≡ 5)
-  pub three : status ≡ 3 → AskedRose (counts_in old) (counts_in new)
+  -- a count that rose is answered, also one that stands at the end of its type; and a fault is the answer only to such a count
+  pub rose : AskedRose (counts_in old) (counts_in new) → (status ≡ statuses.Fault) ⊎ (status ≡ statuses.Memory)
+  pub faulted : status ≡ statuses.Fault → AskedRose (counts_in old) (counts_in new)
   -- where the world tells, the bytes under the name decide, unless a count rises
   pub decided : (told : Told) (bytes : List ℕ) → old.world.told ≡ Some told → told.names file ≡ Some bytes
       → (AnyRose (counts_in old) (counts_in new) → ⊥) → Decides bytes reads.reading status
-  -- the status 0 says that the file keeps all rules, and that all of the line was taken
-  pub whole : status ≡ 0 → (verdict : Verdict) × (reads.reading ≡ readings.Opened (Ok verdict)) × (verdict_status verdict ≡ 0) × TellsAll old.out new.out (verdict_line verdict)
+  -- that all was done says that the file keeps all rules, and that all of the line was taken
+  pub whole : status ≡ statuses.Done → (verdict : Verdict) × (reads.reading ≡ readings.Opened (Ok verdict)) × (verdict_status verdict ≡ statuses.Done) × TellsAll old.out new.out (verdict_line verdict)

@@ -3,7 +3,7 @@ use Rattle.std.specs.Prelude.{◌≡◌, ℕ, List, Some, Result, Ok, Err}
 use Rattle.mcap_io.specs.Outside.{Told}
 use Rattle.mcap_io.specs.Stores.{StoreState}
 use Rattle.mcap_io.specs.declared.outside.ObjectKind.TheVariants as kinds
-use Rattle.mcap_io.specs.declared.outside.OpenRefused.TheVariants as open_refusals
+use Rattle.mcap_io.specs.declared.outside.OutsideRefused.TheVariants as outside_refusals
 use Rattle.mcap_model.specs.declared.replay.Replayed.{Replayed}
 use Rattle.mcap_model.specs.Tops.{Top}
 use Rattle.mcap_model.specs.Kept.{reading_limits, at_end, Halts}
@@ -19,6 +19,7 @@ use Rattle.mcap_model.specs.declared.refusals.IndexedRefused.TheVariants as by_i
 use Rattle.indexed_replay.specs.Holding.{TellsRoom}
 use Rattle.indexed_replay.specs.Replaying.{IsReason, PlaysIndexed, TellsChunks, TellsNoSummary, PlaysScan, ReplayCause}
 use Rattle.indexed_replay.specs.Played.{AsksIndexed, AsksUnloaded, AsksBound}
+use Rattle.command_base.specs.declared.statuses.Status.{Status}
 use Rattle.command_base.specs.declared.file_reading.Reading.{Reading}
 use Rattle.command_base.specs.declared.file_reading.Reading.TheVariants as readings
 use Rattle.command_base.specs.Texts.{not_indexed, flaw}
@@ -80,8 +81,8 @@ replay_ending file reading = ending_of (λ text. text) (led_ending file) reading
 -- Where nothing failed, the lines are those of the messages to which the indexes in these bytes lead, or the reason holds
 -- of them.
 abbrev pub ShowsLed : Selection → List ℕ → Reading (List ℕ) IndexedRefused → Type 0
-ShowsLed asked bytes (readings.Unopened open_refusals.Failed) = ⊥
-ShowsLed asked bytes (readings.Unopened open_refusals.Memory) = Unit {0}
+ShowsLed asked bytes (readings.Unopened outside_refusals.Failed) = ⊥
+ShowsLed asked bytes (readings.Unopened outside_refusals.Memory) = Unit {0}
 ShowsLed asked bytes (readings.Opened (Ok text)) = (shown : List Seen) × LedReplay bytes asked.range asked.topic shown × (text ≡ cat_text shown)
 ShowsLed asked bytes (readings.Opened (Err why)) = IsReason bytes asked.range why
 
@@ -103,7 +104,7 @@ ShowsScan asked messages (readings.Opened (Err why)) = IsNoFlaw why
 -- ---- the command
 
 -- what `cat --indexed` does
-pub record IndexedCats (asked : Selection) (file : List ℕ) (old new : Scene) (status : ℕ) : Type 0 where
+pub record IndexedCats (asked : Selection) (file : List ℕ) (old new : Scene) (status : Status) : Type 0 where
   -- the file is read as a store; standard output takes the lines of the messages, and standard error the troubles
   pub reads : ReadsFile (IsStoreRead (IndexedComesTo asked) file) kinds.Store file (replay_ending file) old new status
   -- where the world tells, the bytes under the name decide what it came to, unless a count rises

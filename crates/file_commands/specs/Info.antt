@@ -3,7 +3,7 @@ use Rattle.std.specs.Prelude.{◌≡◌, ◌⊎◌, ℕ, List, Some, None, Resul
 use Rattle.mcap_io.specs.Outside.{Told}
 use Rattle.mcap_io.specs.Stores.{StoreState}
 use Rattle.mcap_io.specs.declared.outside.ObjectKind.TheVariants as kinds
-use Rattle.mcap_io.specs.declared.outside.OpenRefused.TheVariants as open_refusals
+use Rattle.mcap_io.specs.declared.outside.OutsideRefused.TheVariants as outside_refusals
 use Rattle.mcap_model.specs.declared.refusals.ReadingRefused.{ReadingRefused}
 use Rattle.mcap_model.specs.declared.refusals.ReadingRefused.TheVariants as refusals
 use Rattle.mcap_model.specs.declared.refusals.NotIndexed.{NotIndexed}
@@ -12,6 +12,8 @@ use Rattle.mcap_model.specs.declared.refusals.IndexedRefused.{IndexedRefused}
 use Rattle.mcap_model.specs.declared.refusals.IndexedRefused.TheVariants as by_index
 use Rattle.summary_read.specs.Parts.{Parts, IsLoaded}
 use Rattle.summary_read.specs.Loading.{IsLoadRefused, Loads, LoadCause, AskedFor}
+use Rattle.command_base.specs.declared.statuses.Status.{Status}
+use Rattle.command_base.specs.declared.statuses.Status.TheVariants as statuses
 use Rattle.command_base.specs.declared.file_reading.Reading.{Reading}
 use Rattle.command_base.specs.declared.file_reading.Reading.TheVariants as readings
 use Rattle.command_base.specs.Printing.{TellsAll}
@@ -79,8 +81,8 @@ IsUnreadOf bytes refusals.Memory = Unit {0}
 
 -- And so is the line.
 abbrev pub DescribesBytes : List ℕ → Reading (List ℕ) IndexedRefused → Type 0
-DescribesBytes bytes (readings.Unopened open_refusals.Failed) = ⊥
-DescribesBytes bytes (readings.Unopened open_refusals.Memory) = Unit {0}
+DescribesBytes bytes (readings.Unopened outside_refusals.Failed) = ⊥
+DescribesBytes bytes (readings.Unopened outside_refusals.Memory) = Unit {0}
 DescribesBytes bytes (readings.Opened (Ok text)) = (parts : Parts) × IsLoaded bytes parts × InfoText parts text
 DescribesBytes bytes (readings.Opened (Err (by_index.NotIndexed why))) = IsUntoldOf bytes why
 DescribesBytes bytes (readings.Opened (Err (by_index.Refused why))) = IsUnreadOf bytes why
@@ -88,11 +90,11 @@ DescribesBytes bytes (readings.Opened (Err (by_index.Refused why))) = IsUnreadOf
 -- ---- the command
 
 -- what `info` does
-pub record Describes (file : List ℕ) (old new : Scene) (status : ℕ) : Type 0 where
+pub record Describes (file : List ℕ) (old new : Scene) (status : Status) : Type 0 where
   -- the file is read as a store; standard output takes the line, and standard error the troubles
   pub reads : ReadsFile (IsStoreRead InfoComesTo file) kinds.Store file (info_ending file) old new status
   -- where the world tells, the bytes under the name decide what it came to, unless a count rises
   pub decided : (told : Told) (bytes : List ℕ) → old.world.told ≡ Some told → told.names file ≡ Some bytes
       → (AnyRose (counts_in old) (counts_in new) → ⊥) → DescribesBytes bytes reads.reading
-  -- the status 0 says that all of the line was taken
-  pub whole : status ≡ 0 → (text : List ℕ) × (reads.reading ≡ readings.Opened (Ok text)) × TellsAll old.out new.out text
+  -- that all was done says that all of the line was taken
+  pub whole : status ≡ statuses.Done → (text : List ℕ) × (reads.reading ≡ readings.Opened (Ok text)) × TellsAll old.out new.out text

@@ -7,7 +7,7 @@ ghost use Rattle.file_commands.specs.Cat.{selection, ComesTo, Cats};
 ghost use Rattle.file_commands.specs.Failing.{cat_fails};
 
 use command_base::{
-    Complaint, FileReading, SourceReading, answer_source, lacks_memory, reading_complaint,
+    Complaint, FileReading, SourceReading, Status, answer_source, lacks_memory, reading_complaint,
 };
 use mcap_io::{Sink, Source, World};
 use mcap_model::{Range, ReadingRefused};
@@ -62,8 +62,8 @@ impl SourceReading for Scanning<'_> {
 }
 
 /// Prints on `out` the messages of the file under the name that lie in the range and on the topic, if one is given, in
-/// the order of log time and place, and answers the status: 0, 1 where the file breaks a rule or is compressed, 3 where
-/// the outside failed, 4 where a record passes a limit, and 5 where memory lacked.
+/// the order of log time and place, and answers the status: refused where the file breaks a rule or is
+/// compressed.
 pub fn print_file<W: World, O: Sink, E: Sink>(
     alloc: Global,
     file: &str,
@@ -72,7 +72,7 @@ pub fn print_file<W: World, O: Sink, E: Sink>(
     world: &mut W,
     out: &mut O,
     err: &mut E,
-) -> u8
+) -> Status
     ensures { Cats (selection range (asked_topic topic.entry)) file.now
         (scene (W.state world.old) (O.state out.old) (E.state err.old))
         (scene (W.state world.new) (O.state out.new) (E.state err.new))

@@ -8,7 +8,7 @@ ghost use Rattle.file_commands.specs.Failing.{check_fails};
 
 use crate::verdict::line_of_verdict;
 use command_base::{
-    Complaint, Counts, FileReading, Reading, StoreReading, answer_reading, lacks_memory,
+    Complaint, Counts, FileReading, Reading, Status, StoreReading, answer_reading, lacks_memory,
     read_store_name, reading_complaint,
 };
 use file_check::check;
@@ -62,38 +62,40 @@ impl StoreReading for Checking {
 }
 
 // The status that a verdict asks for where there is nothing to complain of.
-fn own_status(reading: &Reading<Verdict, ReadingRefused>) -> u8
+fn own_status(reading: &Reading<Verdict, ReadingRefused>) -> Status
     ensures { result ≡ reading_status reading.now }
 {
     match reading {
         Reading::Opened {
             came: Ok(Verdict::Flawed { .. }),
-        } => 1,
+        } => Status::Refused,
         Reading::Opened {
             came: Ok(Verdict::Indexed { .. } | Verdict::Plain { .. }),
-        } => 0,
-        Reading::Opened { came: Err(_) } => 0,
-        Reading::Unopened { .. } => 0,
+        } => Status::Done,
+        Reading::Opened { came: Err(_) } => Status::Done,
+        Reading::Unopened { .. } => Status::Done,
     }
 }
 
 // The status of a check whose complaints ask for this one.
-fn status_of(complained: u8, own: u8) -> u8
+fn status_of(complained: Status, own: Status) -> Status
     ensures { result ≡ final_status complained own }
 {
-    if complained == 0 { own } else { complained }
+    match complained {
+        Status::Done => own,
+        Status::Refused | Status::Fault | Status::Limit | Status::Memory => complained,
+    }
 }
 
-/// Checks the file under the name by all rules of the format, prints the verdict on `out`, and answers the status: 0 where
-/// the file keeps them, 1 where it breaks a rule or is compressed, 3 where the outside failed, 4 where a record passes a
-/// limit, and 5 where memory lacked.
+/// Checks the file under the name by all rules of the format, prints the verdict on `out`, and answers the status: refused
+/// also where the file breaks a rule.
 pub fn check_file<W: World, O: Sink, E: Sink>(
     alloc: Global,
     file: &str,
     world: &mut W,
     out: &mut O,
     err: &mut E,
-) -> u8
+) -> Status
     ensures { FileChecks file.now
         (scene (W.state world.old) (O.state out.old) (E.state err.old))
         (scene (W.state world.new) (O.state out.new) (E.state err.new))

@@ -7,7 +7,8 @@ ghost use Rattle.file_commands.specs.Failing.{info_fails};
 
 use crate::info::info_text;
 use command_base::{
-    Complaint, FileReading, StoreReading, answer_store, index_lacks_memory, indexed_complaint,
+    Complaint, FileReading, Status, StoreReading, answer_store, index_lacks_memory,
+    indexed_complaint,
 };
 use mcap_io::{Sink, Store, World, write_all_of};
 use mcap_model::IndexedRefused;
@@ -68,15 +69,15 @@ impl StoreReading for Describing {
 }
 
 /// Prints on `out` what the Header and the summary of the file under the name tell, as one line of JSON, and answers the
-/// status: 0, 1 where the file breaks a rule there, or has no summary or no Statistics, 3 where the outside failed, 4
-/// where a limit of reading is passed, and 5 where memory lacked. Only the ends of the file and its summary are read.
+/// status: refused where the file breaks a rule there, or has no summary or no Statistics. Only the ends of the file and its
+/// summary are read.
 pub fn describe_file<W: World, O: Sink, E: Sink>(
     alloc: Global,
     file: &str,
     world: &mut W,
     out: &mut O,
     err: &mut E,
-) -> u8
+) -> Status
     ensures { Describes file.now
         (scene (W.state world.old) (O.state out.old) (E.state err.old))
         (scene (W.state world.new) (O.state out.new) (E.state err.new))

@@ -8,7 +8,7 @@ ghost use Rattle.file_commands.specs.Cat.{selection};
 ghost use Rattle.file_commands.specs.Indexed.{IndexedComesTo, broken_ending, led_ending, IndexedCats};
 ghost use Rattle.file_commands.specs.Failing.{led_is, led_fails};
 
-use command_base::{Complaint, FileReading, StoreReading, answer_store, reading_complaint};
+use command_base::{Complaint, FileReading, Status, StoreReading, answer_store, reading_complaint};
 use indexed_replay::replay_kept;
 use mcap_io::{Sink, Store, World};
 use mcap_model::{IndexedRefused, Range, ReadingRefused};
@@ -114,9 +114,8 @@ impl StoreReading for Following<'_> {
 }
 
 /// Prints on `out` the messages to which the indexes of the file under the name lead, that lie in the range and on the
-/// topic, if one is given, in the order of log time and place, and answers the status: 0, 1 where the file isn't indexed,
-/// breaks a rule where it is read, or has a compressed chunk there, 3 where the outside failed, 4 where a record passes a
-/// limit, and 5 where memory lacked.
+/// topic, if one is given, in the order of log time and place, and answers the status: refused where the file isn't
+/// indexed, breaks a rule where it is read, or has a compressed chunk there.
 pub fn print_indexed<W: World, O: Sink, E: Sink>(
     alloc: Global,
     file: &str,
@@ -125,7 +124,7 @@ pub fn print_indexed<W: World, O: Sink, E: Sink>(
     world: &mut W,
     out: &mut O,
     err: &mut E,
-) -> u8
+) -> Status
     ensures { IndexedCats (selection range (asked_topic topic.entry)) file.now
         (scene (W.state world.old) (O.state out.old) (E.state err.old))
         (scene (W.state world.new) (O.state out.new) (E.state err.new))

@@ -3,7 +3,7 @@ ghost use Rattle.std.specs.Prelude.{◌≡◌, ◌+◌, ◌≤◌, ◌++◌, len
 ghost use Rattle.file_commands.specs.Check.{named_number, counts_line, flaw_line, verdict_line};
 
 use command_base::{LINE_ROOM, Line};
-use mcap_model::{Counts, Verdict};
+use mcap_model::{Counts, Rule, Verdict};
 
 // Puts a number behind its name, behind the line.
 #[tactic(auto, unfolding(crate::specs::Check::named_number))]
@@ -36,12 +36,12 @@ fn line_of_counts(kind: &str, counts: Counts) -> Line
 
 // The line of a rule that fails at an offset.
 #[tactic(auto, unfolding(crate::specs::Check::flaw_line))]
-fn line_of_flaw(rule: u8, offset: u64) -> Line
+fn line_of_flaw(rule: Rule, offset: u64) -> Line
     ensures { result ≡ flaw_line rule offset }
 {
     let mut line = Line::new();
     line.push_text("flaw V");
-    line.push_number(rule as u64);
+    line.push_number(rule.number() as u64);
     line.push_text(" at ");
     line.push_number(offset);
     line.push_text("\n");

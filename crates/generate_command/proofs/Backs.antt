@@ -2,7 +2,7 @@
 use Rattle.std.proofs.Common.{◌≡◌, ℕ, List, Ok, Err, refl}
 use Rattle.mcap_io.specs.Outside.{WorldState}
 use Rattle.mcap_io.specs.declared.outside.ObjectKind.TheVariants as kinds
-use Rattle.mcap_io.specs.declared.outside.OpenRefused.TheVariants as open_refusals
+use Rattle.mcap_io.specs.declared.outside.OutsideRefused.TheVariants as outside_refusals
 use Rattle.mcap_model.specs.declared.refusals.ReadingRefused.{ReadingRefused}
 use Rattle.message_sums.specs.declared.sums.Sums.{Sums}
 use Rattle.command_base.specs.declared.file_reading.Reading.{Reading}
@@ -14,8 +14,8 @@ use Rattle.generate_command.specs.Back.{Back, SumsComeTo, back_ending, NameReadB
 
 -- whether a reading failed doesn't go by its text
 fails_so : (feeds others : ℕ) (file : List ℕ) (reading : Reading Sums ReadingRefused) → back_ending others file reading ≡ failing → back_ending feeds file reading ≡ failing
-fails_so feeds others file (readings.Unopened open_refusals.Failed) e = refl
-fails_so feeds others file (readings.Unopened open_refusals.Memory) e = absurd cc
+fails_so feeds others file (readings.Unopened outside_refusals.Failed) e = refl
+fails_so feeds others file (readings.Unopened outside_refusals.Memory) e = absurd cc
 fails_so feeds others file (readings.Opened (Ok sums)) e = absurd cc
 fails_so feeds others file (readings.Opened (Err why)) e = e
 

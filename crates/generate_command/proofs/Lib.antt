@@ -1,5 +1,4 @@
 mod Printed
-pub mod Statuses
 mod Stores
 mod Told
 mod Totals

@@ -24,8 +24,8 @@ use Rattle.feed_lane.specs.declared.report.FeedReport.{FeedReport}
 use Rattle.feed_lane.specs.declared.report.FeedEnd.{FeedEnd}
 use Rattle.feed_lane.specs.declared.report.FeedEnd.TheVariants as feed_ends
 use Rattle.feed_lane.specs.declared.report.Refused.{Refused}
-use Rattle.feed_lane.specs.declared.report.Cause.{Cause}
-use Rattle.feed_lane.specs.declared.report.Cause.TheVariants as causes
+use Rattle.record_core.specs.declared.answers.CallRefused.{CallRefused}
+use Rattle.record_core.specs.declared.answers.CallRefused.TheVariants as refusing
 use Rattle.feed_lane.specs.Causes.{is_over, is_memory}
 use Rattle.feed_lane.specs.Lanes.{messages, LastFindsEnd, CauseFits}
 use Rattle.feed_lane.specs.Feeds.{FeedEnds, TakesMessages}
@@ -37,7 +37,7 @@ use Rattle.recorder.specs.Laws.{RefusesNoneAsFull}
 use Rattle.mcap_model.proofs.Flat.{at_mapped}
 use Rattle.recorder.proofs.OneHistory.{StandsAs, Says, lane_says}
 use Rattle.recorder.proofs.Unfull.{lossless_refuses_none_as_full}
-use Rattle.generate_command.specs.Generating.{is_limit, is_memory_end, is_memory_writer, passes_limit, report_lacks_memory}
+use Rattle.report_findings.specs.Findings.{is_limit, is_memory_end, is_memory_writer, passes_limit, lacks_memory}
 
 -- ---- what a report names
 
@@ -46,12 +46,12 @@ any_at p [] k x at is = absurd (at_none k x at)
 any_at p (y ∷ xs) zero x at is = or_left (p y) (list_any p xs) (ap p (same_Some y x at) ∙ is)
 any_at p (y ∷ xs) (suc k) x at is = or_right (p y) (list_any p xs) (any_at p xs k x at is)
 
-feed_lacks : (r : Report) (n : ℕ) (f : FeedReport) → At r.feeds.items n f → f.end ≡ feed_ends.Refused refusals.Memory → report_lacks_memory r ≡ true
+feed_lacks : (r : Report) (n : ℕ) (f : FeedReport) → At r.feeds.items n f → f.end ≡ feed_ends.Refused refusals.Memory → lacks_memory r ≡ true
 feed_lacks r n f at is =
     or_right (is_memory_writer r.writer.end) _ (any_at (λ (g : FeedReport). is_memory_end g.end || list_any (λ (x : Refused). is_memory x.cause) g.refused.items) r.feeds.items n f at
     (or_left (is_memory_end f.end) _ (ap is_memory_end is)))
 
-message_lacks : (r : Report) (n : ℕ) (f : FeedReport) (k : ℕ) (x : Refused) → At r.feeds.items n f → At f.refused.items k x → is_memory x.cause ≡ true → report_lacks_memory r ≡ true
+message_lacks : (r : Report) (n : ℕ) (f : FeedReport) (k : ℕ) (x : Refused) → At r.feeds.items n f → At f.refused.items k x → is_memory x.cause ≡ true → lacks_memory r ≡ true
 message_lacks r n f k x at_f at is =
     or_right (is_memory_writer r.writer.end) _ (any_at (λ (g : FeedReport). is_memory_end g.end || list_any (λ (y : Refused). is_memory y.cause) g.refused.items) r.feeds.items n f at_f
     (or_right (is_memory_end f.end) _ (any_at (λ (y : Refused). is_memory y.cause) f.refused.items k x at is)))
@@ -105,7 +105,7 @@ abbrev pub IsPlaced : List Rec → Accepted → MessageFields → Type 0
 IsPlaced history a m = (channel : ℕ) × At history a.place (message_of channel m)
 
 module _ (options : RecordOptions) (sources back : List SourceState) (live live_now : LiveState) (r : Report) (it : Recorded options (sides sources live) (sides back live_now) r)
-    (lossless : options.lossless ≡ true) (closed : r.writer.end ≡ ends.Closed) (enough : report_lacks_memory r ≡ false) (limited : passes_limit r ≡ false) where
+    (lossless : options.lossless ≡ true) (closed : r.writer.end ≡ ends.Closed) (enough : lacks_memory r ≡ false) (limited : passes_limit r ≡ false) where
   module _ (n : ℕ) (f : FeedRecorded) (at : At it.feeds n f) where
     report_at : At r.feeds.items n f.feed
     report_at = subst (λ (l : List FeedReport). At l n f.feed) (sym it.are.reports_are) (at_mapped (λ (x : FeedRecorded). x.feed) it.feeds n f at)
@@ -127,15 +127,16 @@ module _ (options : RecordOptions) (sources back : List SourceState) (live live_
     over_not : (k : ℕ) (x : Refused) → At f.feed.refused.items k x → is_over x.cause ≡ true → ⊥
     over_not k x there is = both_ways (passes_limit r) limited (message_passes r n f.feed k x report_at there is)
 
-    refused_not : (k index : ℕ) (cause : Cause) → At f.feed.refused.items k (record { index = index; cause = cause }) → CauseFits (flat f.reports.tops) f.reports.handled f.pass index cause → ⊥
-    refused_not k index (causes.Full held from to) there fits = never_full k _ there held from to refl
-    refused_not k index (causes.TooLarge len) there fits = over_not k _ there refl
-    refused_not k index (causes.Closed place) there fits = ended_not f.reports.handled index place ends.Closed fits
-    refused_not k index (causes.Stopped place stop) there fits = ended_not f.reports.handled index place (ends.Stopped stop) fits
-    refused_not k index causes.TooManySchemas there fits = over_not k _ there refl
-    refused_not k index causes.TooManyChannels there fits = over_not k _ there refl
-    refused_not k index (causes.TooManyRecords count) there fits = over_not k _ there refl
-    refused_not k index causes.Memory there fits = both_ways (report_lacks_memory r) enough (message_lacks r n f.feed k _ report_at there refl)
+    refused_not : (k index : ℕ) (cause : CallRefused) → At f.feed.refused.items k (record { index = index; cause = cause }) → CauseFits (flat f.reports.tops) f.reports.handled f.pass index cause → ⊥
+    refused_not k index (refusing.Full held from to) there fits = never_full k _ there held from to refl
+    refused_not k index (refusing.TooLarge len) there fits = over_not k _ there refl
+    refused_not k index (refusing.Closed place) there fits = ended_not f.reports.handled index place ends.Closed fits
+    refused_not k index (refusing.Stopped place stop) there fits = ended_not f.reports.handled index place (ends.Stopped stop) fits
+    refused_not k index refusing.TooManySchemas there fits = over_not k _ there refl
+    refused_not k index refusing.TooManyChannels there fits = over_not k _ there refl
+    refused_not k index (refusing.TooManyRecords count) there fits = over_not k _ there refl
+    refused_not k index refusing.UnknownChannel there fits = fits
+    refused_not k index refusing.Memory there fits = both_ways (lacks_memory r) enough (message_lacks r n f.feed k _ report_at there refl)
 
     none_at_all : (k : ℕ) (x : Refused) → At f.feed.refused.items k x → ⊥
     none_at_all k x there = refused_not k x.index x.cause there (f.reports.fits.refuses k x there)
@@ -150,7 +151,7 @@ module _ (options : RecordOptions) (sources back : List SourceState) (live live_
       refused_none (refusals.Grammar m rule) same came = (readings_halt_once bytes f.reports.tops tops (grammar m rule) (at_end end) (came.halts bytes here) halts).1
       refused_none (refusals.Compressed m name) same came = let other = (readings_halt_once bytes f.reports.tops tops (compressed m name) (at_end end) (came.halts bytes here) halts).1 in cc
       refused_none (refusals.Limit m) same came = let other = (readings_halt_once bytes f.reports.tops tops (beyond m) (at_end end) (came.halts bytes here) halts).1 in cc
-      refused_none refusals.Memory same came = both_ways (report_lacks_memory r) enough (feed_lacks r n f.feed report_at same)
+      refused_none refusals.Memory same came = both_ways (lacks_memory r) enough (feed_lacks r n f.feed report_at same)
 
       done : (e : FeedEnd) → f.feed.end ≡ e → FeedEnds f.before f.now f.reports.tops e → TakesMessages f.reports.tops f.reports.handled f.feed.passed f.feed.refused.items e
           → (f.reports.tops ≡ tops) × (f.reports.handled ≡ length (messages (flat f.reports.tops)))

@@ -1,4 +1,4 @@
--- With the status 0 the file was closed, kept, and read back.
+-- Where all was done the file was closed, kept, and read back.
 use Rattle.std.proofs.Common.{◌≡◌, ◌||◌, ℕ, ◌≤◌, Bool, true, false, List, [], ◌∷◌, Option, Some, None, Result, Ok, Err, refl, sym, ap, subst, inl, inr, ◌∙◌, arith}
 use Rattle.std.proofs.lemmas.Bool.{both_ways}
 use Rattle.mcap_io.specs.Outside.{Rose, added, SourceState, WorldState, SinkState, Told, Keeping, Opening}
@@ -14,7 +14,7 @@ use Rattle.command_base.specs.Ran.{Scene, counts_in, WorldRose, AnyRose, AreOpen
 use Rattle.mcap_model.specs.declared.refusals.ReadingRefused.{ReadingRefused}
 use Rattle.command_base.specs.declared.file_reading.Reading.{Reading}
 use Rattle.command_base.specs.declared.file_reading.Reading.TheVariants as readings
-use Rattle.mcap_io.specs.declared.outside.OpenRefused.TheVariants as open_refusals
+use Rattle.mcap_io.specs.declared.outside.OutsideRefused.TheVariants as outside_refusals
 use Rattle.generate_command.specs.declared.making.Written.{Written}
 use Rattle.command_base.specs.Readings.{IsSourceRead}
 use Rattle.command_base.proofs.ReadNames.{source_shows}
@@ -87,8 +87,8 @@ there_back sound out middle new None reads is = absurd (both_ways sound reads.0 
 there_back sound out middle new (Some b) reads is = (b, refl, reads.1)
 
 pub summed : (feeds : ℕ) (out : List ℕ) (reading : Reading Sums ReadingRefused) → (back_ending feeds out reading ≡ failing → ⊥) → troubles_in (back_ending feeds out reading) ≡ [] → is_lack (back_ending feeds out reading) ≡ false → (sums : Sums) × (reading ≡ readings.Opened (Ok sums))
-summed feeds out (readings.Unopened open_refusals.Failed) failed none enough = absurd (failed refl)
-summed feeds out (readings.Unopened open_refusals.Memory) failed none enough = absurd cc
+summed feeds out (readings.Unopened outside_refusals.Failed) failed none enough = absurd (failed refl)
+summed feeds out (readings.Unopened outside_refusals.Memory) failed none enough = absurd cc
 summed feeds out (readings.Opened (Ok sums)) failed none enough = (sums, refl)
 summed feeds out (readings.Opened (Err (refusals.Fault faults))) failed none enough = absurd (failed refl)
 summed feeds out (readings.Opened (Err (refusals.Grammar n rule))) failed none enough = absurd cc

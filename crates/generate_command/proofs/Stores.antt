@@ -7,8 +7,8 @@ use Rattle.mcap_io.specs.Outside.{RisesOnce, added, Keeping, Told, Names, Openin
 use Rattle.mcap_io.specs.OutsideCalls.{HasCause, Opens, OpenCause, CountsStand, OthersSame, with_opening, went_well, TellsNothingYet, KeepsLive, Notes, PlacedUnder}
 use Rattle.mcap_io.specs.declared.outside.Failed.{Failed}
 use Rattle.mcap_io.specs.declared.outside.ObjectKind.TheVariants as kinds
-use Rattle.mcap_io.specs.declared.outside.OpenRefused.{OpenRefused}
-use Rattle.mcap_io.specs.declared.outside.OpenRefused.TheVariants as open_refusals
+use Rattle.mcap_io.specs.declared.outside.OutsideRefused.{OutsideRefused}
+use Rattle.mcap_io.specs.declared.outside.OutsideRefused.TheVariants as outside_refusals
 use Rattle.mcap_io.proofs.Notes.{noted_in}
 use Rattle.recorder.specs.declared.options.RecordOptions.{RecordOptions}
 use Rattle.recorder.specs.declared.report.Report.{Report}
@@ -45,10 +45,10 @@ failed_there options sources out old new opens stand rises inputs_fit outputs_fi
       counts = record { world = rises.once; inputs = added_none old.input_faults new.input_faults inputs_fit stand.inputs; outputs = added_none old.output_faults new.output_faults outputs_fit stand.outputs };
     }
 
-pub unopened_output : (options : RecordOptions) (sources : List SourceState) (out : List ℕ) (old new : WorldState) (why : OpenRefused) → Opens {T = Unit} old new kinds.Live out (Err why) → CountsStand old new → OpenCause {T = Unit} old.faults new.faults (Err why)
+pub unopened_output : (options : RecordOptions) (sources : List SourceState) (out : List ℕ) (old new : WorldState) (why : OutsideRefused) → Opens {T = Unit} old new kinds.Live out (Err why) → CountsStand old new → OpenCause {T = Unit} old.faults new.faults (Err why)
     → old.faults < 2 ^ 64 → old.input_faults < 2 ^ 64 → old.output_faults < 2 ^ 64 → NameWritten options sources out old new (record { report = None; kept = false })
-unopened_output options sources out old new open_refusals.Failed opens stand cause world_fits inputs_fit outputs_fit = failed_there options sources out old new opens stand cause inputs_fit outputs_fit
-unopened_output options sources out old new open_refusals.Memory opens stand cause world_fits inputs_fit outputs_fit = nothing_written options sources out old new opens stand cause world_fits inputs_fit outputs_fit
+unopened_output options sources out old new outside_refusals.Failed opens stand cause world_fits inputs_fit outputs_fit = failed_there options sources out old new opens stand cause inputs_fit outputs_fit
+unopened_output options sources out old new outside_refusals.Memory opens stand cause world_fits inputs_fit outputs_fit = nothing_written options sources out old new opens stand cause world_fits inputs_fit outputs_fit
 
 -- what was seen of the world at each of the calls: the store was opened, recorded into, and taken back
 pub record IsGiven (options : RecordOptions) (sources back : List SourceState) (out : List ℕ) (w0 w1 w2 : WorldState) (live live_now : LiveState) (report : Option Report) (result : Result Unit Failed) : Type 0 where

@@ -23,12 +23,13 @@ use Rattle.chunk_writer.specs.Stops.{Cause as WriterCause}
 use Rattle.feed_lane.specs.Lanes.{messages}
 use Rattle.recorder.specs.declared.options.RecordOptions.{RecordOptions}
 use Rattle.recorder.specs.declared.report.Report.{Report}
-use Rattle.recorder.specs.Recorded.{FeedRecorded, end_answer, sides, Recorded, AreReadable}
+use Rattle.recorder.specs.Recorded.{FeedRecorded, answer_of, sides, Recorded, AreReadable}
 use Rattle.recorder.specs.Laws.{ReadsAs}
 use Rattle.recorder.proofs.ReadBack.{closed_file, recordings_are_read_back}
 use Rattle.message_sums.specs.declared.sums.Sums.{Sums}
 use Rattle.message_sums.specs.Sums.{value_of, bytes_in_payload, sums_of}
 use Rattle.message_sums.specs.Reading.{fields_seen}
+use Rattle.command_base.specs.declared.statuses.Status.{Status}
 use Rattle.command_base.specs.Printing.{TellsAll, Takes}
 use Rattle.command_base.specs.OneFile.{failing, text_of}
 use Rattle.command_base.specs.Ran.{Scene, WorldRose, world_faults, output_faults, input_faults}
@@ -44,7 +45,8 @@ use Rattle.generate_command.specs.Lines.{sums_line}
 use Rattle.generate_command.specs.Back.{Back, back_ending, NameReadBack}
 use Rattle.generate_command.specs.Making.{generated_source, sources_of, IsPutUnder as NameIsPlaced}
 use Rattle.generate_command.specs.Allowed.{OptionsAllowed}
-use Rattle.generate_command.specs.Generating.{writer_closed, is_limit, is_memory_writer, passes_limit, report_lacks_memory, is_sound, ReadsBack, text_after, halts_after, is_lack_after, Generates}
+use Rattle.report_findings.specs.Findings.{is_limit, is_memory_writer, passes_limit, lacks_memory}
+use Rattle.generate_command.specs.Generating.{writer_closed, is_sound, ReadsBack, text_after, halts_after, is_lack_after, Generates}
 use Rattle.generate_command.specs.Laws.{made_for, all_made, AreInRange, GeneratedSumsAreTold}
 use Rattle.generate_command.proofs.Totals.{weight, total_of, seen_total, one_each, counted}
 use Rattle.generate_command.proofs.Silent.{cons_some, IsQuiet, quiet}
@@ -93,7 +95,7 @@ same_sums ms ns same =
 -- ---- the recording
 
 module _ (options : RecordOptions) (numbers : Numbers) (back : List SourceState) (live live_now : LiveState) (r : Report) (it : Recorded options (sides (sources_of numbers) live) (sides back live_now) r)
-    (lossless : options.lossless ≡ true) (closed : r.writer.end ≡ ends.Closed) (enough : report_lacks_memory r ≡ false) (limited : passes_limit r ≡ false) (still : All (λ (s : SourceState). s.faults ≡ 0) back)
+    (lossless : options.lossless ≡ true) (closed : r.writer.end ≡ ends.Closed) (enough : lacks_memory r ≡ false) (limited : passes_limit r ≡ false) (still : All (λ (s : SourceState). s.faults ≡ 0) back)
     (range : AreInRange numbers) (read : FeedsAreRead) where
   whole_feed : (k : ℕ) (f : FeedRecorded) (g : ℕ) → At it.feeds k f → At (range_with_len 0 numbers.feeds) k g → f.before ≡ generated_source numbers g → IsWhole (made_for numbers) it.history f g
   whole_feed k f g at at_g before =
@@ -125,16 +127,16 @@ module _ (options : RecordOptions) (numbers : Numbers) (back : List SourceState)
   pub same_read : (seen : List Seen) → AllZip HoldsSeen (filter is_message it.history) seen → sums_of (fields_seen seen) ≡ sums_of (all_made numbers)
   same_read seen zip = same_sums (fields_seen seen) (all_made numbers) (λ f. seen_total f it.history seen zip ∙ history_total f)
 
--- ---- the status 0
+-- ---- all was done
 
 -- the writer closed its file
-closed_so : (end : End) (live live_now : LiveState) (old middle new : WorldState) (r : Report) → r.writer.end ≡ end → WriterCause {X = Unit} live.faults live_now.faults (end_answer end) → live.faults ≡ 0 → middle.output_faults ≡ added old.output_faults live_now.faults
-    → new.output_faults ≡ middle.output_faults → (WorldRose old new → ⊥) → passes_limit r ≡ false → report_lacks_memory r ≡ false → r.writer.end ≡ ends.Closed
+closed_so : (end : End) (live live_now : LiveState) (old middle new : WorldState) (r : Report) → r.writer.end ≡ end → WriterCause {X = Unit} live.faults live_now.faults (answer_of end) → live.faults ≡ 0 → middle.output_faults ≡ added old.output_faults live_now.faults
+    → new.output_faults ≡ middle.output_faults → (WorldRose old new → ⊥) → passes_limit r ≡ false → lacks_memory r ≡ false → r.writer.end ≡ ends.Closed
 closed_so ends.Closed live live_now old middle new r same cause unused outputs stay none limited enough = same
 closed_so (ends.Stopped (stops.Fault faults)) live live_now old middle new r same cause unused outputs stay none limited enough =
     let rises = cause.0 in absurd (none (inr (inr (omega (arith, rises.once, unused, outputs, stay)))))
 closed_so (ends.Stopped (stops.Limit blocks bytes)) live live_now old middle new r same cause unused outputs stay none limited enough = absurd (both_ways (passes_limit r) limited (or_left (is_limit r.writer.end) _ (ap is_limit same)))
-closed_so (ends.Stopped stops.Memory) live live_now old middle new r same cause unused outputs stay none limited enough = absurd (both_ways (report_lacks_memory r) enough (or_left (is_memory_writer r.writer.end) _ (ap is_memory_writer same)))
+closed_so (ends.Stopped stops.Memory) live live_now old middle new r same cause unused outputs stay none limited enough = absurd (both_ways (lacks_memory r) enough (or_left (is_memory_writer r.writer.end) _ (ap is_memory_writer same)))
 
 -- and the keeping went well
 well_so : (well sound : Bool) (out : List ℕ) (old middle new : WorldState) (back : Option Back) → ReadsBack sound out middle new back → middle.faults ≡ added old.faults ((0 + (if well then 0 else 1)) + 0) → (WorldRose old new → ⊥) → well ≡ true
@@ -148,7 +150,7 @@ both a b one other = ap (λ (x : Bool). x && b) one ∙ other
 record IsSaved (r : Report) (kept : Bool) : Type 0 where
   closed : r.writer.end ≡ ends.Closed
   well : kept ≡ true
-  enough : report_lacks_memory r ≡ false
+  enough : lacks_memory r ≡ false
   limited : passes_limit r ≡ false
 
 -- the name was read back, and the line of these sums was told
@@ -159,7 +161,7 @@ record TellsSums (feeds : ℕ) (out : List ℕ) (middle : WorldState) (old new :
   summed : back.reading ≡ readings.Opened (Ok sums)
   line : TellsAll old.out new.out (sums_line feeds sums)
 
-module _ (options : RecordOptions) (numbers : Numbers) (out : List ℕ) (old new : Scene) (r : Report) (status : ℕ) (it : Generates options numbers out old new (Some r) status) (q : IsQuiet numbers.feeds out old new (Some r) it.back)
+module _ (options : RecordOptions) (numbers : Numbers) (out : List ℕ) (old new : Scene) (r : Report) (status : Status) (it : Generates options numbers out old new (Some r) status) (q : IsQuiet numbers.feeds out old new (Some r) it.back)
     (s : IsStored options (sources_of numbers) out old.world it.middle it.written.entries (record { report = Some r; kept = it.kept })) where
   outputs_are : it.middle.output_faults ≡ added old.world.output_faults s.stored.live_now.faults
   outputs_are =
@@ -170,8 +172,8 @@ module _ (options : RecordOptions) (numbers : Numbers) (out : List ℕ) (old new
   world_is : it.middle.faults ≡ added old.world.faults ((0 + (if it.kept then 0 else 1)) + 0)
   world_is = it.written.counts.world ∙ ap (λ (es : List Opening). added old.world.faults (world_faults es)) s.entries_are ∙ ap (λ (k : Keeping). added old.world.faults ((0 + (if k.well then 0 else 1)) + 0)) s.stored.keeping_is
 
-  lacks : (report_lacks_memory r ≡ false) × (is_lack_after numbers.feeds out it.back ≡ false)
-  lacks = neither (report_lacks_memory r) (is_lack_after numbers.feeds out it.back) q.enough
+  lacks : (lacks_memory r ≡ false) × (is_lack_after numbers.feeds out it.back ≡ false)
+  lacks = neither (lacks_memory r) (is_lack_after numbers.feeds out it.back) q.enough
 
   saved : IsSaved r it.kept
   saved =
@@ -217,9 +219,9 @@ module _ (options : RecordOptions) (numbers : Numbers) (out : List ℕ) (old new
     told_of = subst (λ (x : Sums). TellsAll old.out new.out (sums_line numbers.feeds x)) equal tells_sums.line
 
 pub generated_sums_are_told : FeedsAreRead → GeneratedSumsAreTold
-generated_sums_are_told read options numbers out old new None status told allowed utf8 range lossless it zero_is here =
-    let none = reported numbers.feeds out old new None it.back (quiet options numbers out old new None status it zero_is) in
+generated_sums_are_told read options numbers out old new None status told allowed utf8 range lossless it done here =
+    let none = reported numbers.feeds out old new None it.back (quiet options numbers out old new None status it done) in
     absurd (let apart = none.1 in cc)
-generated_sums_are_told read options numbers out old new (Some r) status told allowed utf8 range lossless it zero_is here =
-    told_of options numbers out old new r status it (quiet options numbers out old new (Some r) status it zero_is)
+generated_sums_are_told read options numbers out old new (Some r) status told allowed utf8 range lossless it done here =
+    told_of options numbers out old new r status it (quiet options numbers out old new (Some r) status it done)
     (stored_there options (sources_of numbers) out old.world it.middle it.written.entries r it.kept it.written.writing it.written.opened) told allowed utf8 range lossless here read

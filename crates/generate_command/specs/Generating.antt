@@ -1,59 +1,27 @@
 -- What a generation does: what it records and reads back, what it tells of that, and how it ends.
 use Rattle.std.specs.Prelude.{◌≡◌, ◌↔◌, ◌||◌, ◌&&◌, ℕ, List, [], ◌++◌, Bool, true, false, Option, Some, None}
-use Rattle.std.specs.List.{list_any}
 use Rattle.mcap_io.specs.Outside.{Rose, WorldState}
 use Rattle.mcap_model.specs.declared.ends.End.{End}
 use Rattle.mcap_model.specs.declared.ends.End.TheVariants as ends
-use Rattle.mcap_model.specs.declared.ends.Stop.TheVariants as stops
-use Rattle.feed_lane.specs.Causes.{is_over, is_memory_stop, is_memory}
-use Rattle.feed_lane.specs.declared.report.FeedEnd.{FeedEnd}
-use Rattle.feed_lane.specs.declared.report.FeedEnd.TheVariants as feed_ends
 use Rattle.recorder.specs.declared.options.RecordOptions.{RecordOptions}
 use Rattle.recorder.specs.declared.report.Report.{Report}
 use Rattle.command_base.specs.declared.faults.Counts.{Counts}
+use Rattle.command_base.specs.declared.statuses.Status.{Status}
 use Rattle.command_base.specs.Texts.{Trouble, fault, output_fault, output_limit, no_memory}
 use Rattle.command_base.specs.Printing.{Takes}
 use Rattle.command_base.specs.Ran.{Scene, counts_in, AnyRose, WorldRose, when, Complains}
-use Rattle.command_base.specs.OneFile.{refusal_ending, text_of, troubles_in, is_lack}
+use Rattle.command_base.specs.OneFile.{text_of, troubles_in, is_lack}
+use Rattle.report_findings.specs.Findings.{lacks_memory, limit_passed}
 use Rattle.generate_command.specs.declared.making.Numbers.{Numbers}
 use Rattle.generate_command.specs.Back.{Back, back_ending, NameReadBack}
 use Rattle.generate_command.specs.Making.{sources_of, NameWritten}
 
--- ---- what a report tells
+-- ---- reading back
 
+-- the writer closed its file
 abbrev pub writer_closed : End → Bool
 writer_closed ends.Closed = true
 writer_closed (ends.Stopped stop) = false
-
-abbrev pub is_limit : End → Bool
-is_limit ends.Closed = false
-is_limit (ends.Stopped (stops.Fault faults)) = false
-is_limit (ends.Stopped (stops.Limit blocks bytes)) = true
-is_limit (ends.Stopped stops.Memory) = false
-
--- the file or a message would pass a limit
-abbrev pub passes_limit : Report → Bool
-passes_limit r = is_limit r.writer.end || list_any (λ f. list_any (λ x. is_over x.cause) f.refused.items) r.feeds.items
-
--- memory lacked for a feed, for the file, or for a message
-abbrev pub is_memory_end : FeedEnd → Bool
-is_memory_end feed_ends.Done = false
-is_memory_end (feed_ends.Refused why) = is_lack (refusal_ending [] why)
-is_memory_end feed_ends.Ended = false
-
-abbrev pub is_memory_writer : End → Bool
-is_memory_writer ends.Closed = false
-is_memory_writer (ends.Stopped stop) = is_memory_stop stop
-
-abbrev pub report_lacks_memory : Report → Bool
-report_lacks_memory r = is_memory_writer r.writer.end || list_any (λ f. is_memory_end f.end || list_any (λ x. is_memory x.cause) f.refused.items) r.feeds.items
-
--- the same where there may be no report
-abbrev pub limit_passed : Option Report → Bool
-limit_passed None = false
-limit_passed (Some r) = passes_limit r
-
--- ---- reading back
 
 -- the file is whole and stands under its name
 abbrev pub is_sound : Option Report → Bool → Bool
@@ -83,9 +51,9 @@ is_lack_after feeds out (Some back) = is_lack (back_ending feeds out back.readin
 -- ---- the end
 
 -- Memory lacked exactly where the report names that, or the reading back does; or where there is no report though no count rose.
-abbrev pub GenerationLackTold : Counts → Counts → ℕ → List ℕ → Option Report → Option Back → Bool → Type 0
-GenerationLackTold before now feeds out None back lacked = (AnyRose before now → ⊥) ↔ (lacked ≡ true)
-GenerationLackTold before now feeds out (Some r) back lacked = lacked ≡ (report_lacks_memory r || is_lack_after feeds out back)
+abbrev pub LackIsTold : Counts → Counts → ℕ → List ℕ → Option Report → Option Back → Bool → Type 0
+LackIsTold before now feeds out None back lacked = (AnyRose before now → ⊥) ↔ (lacked ≡ true)
+LackIsTold before now feeds out (Some r) back lacked = lacked ≡ (lacks_memory r || is_lack_after feeds out back)
 
 -- all troubles, in their order
 abbrev pub troubles_after : ℕ → List ℕ → Option Report → Option Back → Bool → Bool → Bool → List Trouble
@@ -93,7 +61,7 @@ troubles_after feeds out report back blamed printing lacked =
     halts_after feeds out back ++ (when blamed (fault out) ++ (when (limit_passed report) (output_limit out) ++ (when printing output_fault ++ when lacked no_memory)))
 
 -- What `gen` does.
-pub record Generates (options : RecordOptions) (numbers : Numbers) (out : List ℕ) (old new : Scene) (report : Option Report) (status : ℕ) : Type 0 where
+pub record Generates (options : RecordOptions) (numbers : Numbers) (out : List ℕ) (old new : Scene) (report : Option Report) (status : Status) : Type 0 where
   -- the generated feeds are recorded into the output, which is kept
   pub middle : WorldState
   pub kept : Bool
@@ -109,5 +77,5 @@ pub record Generates (options : RecordOptions) (numbers : Numbers) (out : List �
   pub printing : Bool
   pub print_blame : (printing ≡ true) ↔ Rose old.out.faults new.out.faults
   pub lacked : Bool
-  pub lacks : GenerationLackTold (counts_in old) (counts_in new) numbers.feeds out report back lacked
+  pub lacks : LackIsTold (counts_in old) (counts_in new) numbers.feeds out report back lacked
   pub said : Complains (troubles_after numbers.feeds out report back blamed printing lacked) old.err new.err status

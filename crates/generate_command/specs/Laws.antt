@@ -19,6 +19,8 @@ use Rattle.message_sums.specs.Sums.{sums_of}
 use Rattle.generate_command.specs.declared.making.Numbers.{Numbers}
 use Rattle.generate_command.specs.Lines.{sums_line}
 use Rattle.generate_command.specs.Allowed.{OptionsAllowed}
+use Rattle.command_base.specs.declared.statuses.Status.{Status}
+use Rattle.command_base.specs.declared.statuses.Status.TheVariants as statuses
 use Rattle.generate_command.specs.Generating.{Generates}
 
 -- the messages of one feed, and of all feeds, from that of number 0 on
@@ -33,11 +35,11 @@ pub record AreInRange (numbers : Numbers) : Type 0 where
   pub feeds : numbers.feeds ≤ 64
   pub messages : numbers.messages < 2 ^ 32
 
--- A lossless generation with the status 0 in a world that tells: standard output took the line of the sums of all messages
+-- A lossless generation in which all was done, in a world that tells: standard output took the line of the sums of all messages
 -- that the numbers say. So what was read back has their number, their length of data and their sum.
 abbrev pub GeneratedSumsAreTold : Type 0
-GeneratedSumsAreTold = (options : RecordOptions) (numbers : Numbers) (out : List ℕ) (old new : Scene) (report : Option Report) (status : ℕ) (told : Told) → OptionsAllowed options → IsUtf8 options.file.profile → AreInRange numbers
-    → options.lossless ≡ true → Generates options numbers out old new report status → status ≡ 0 → old.world.told ≡ Some told
+GeneratedSumsAreTold = (options : RecordOptions) (numbers : Numbers) (out : List ℕ) (old new : Scene) (report : Option Report) (status : Status) (told : Told) → OptionsAllowed options → IsUtf8 options.file.profile → AreInRange numbers
+    → options.lossless ≡ true → Generates options numbers out old new report status → status ≡ statuses.Done → old.world.told ≡ Some told
     → TellsAll old.out new.out (sums_line numbers.feeds (sums_of (all_made numbers)))
 
 -- ---- reading back

@@ -1,8 +1,6 @@
 //! The command: recording generated feeds, reading the file back, and telling of both.
 ghost use Rattle.std.specs.Prelude.{◌≡◌, ◌≤◌, ◌<◌, ◌^◌, ◌↔◌, ◌||◌, ◌⊎◌, ◌++◌, List, ℕ, Some, true, IsTrue};
-ghost use Rattle.std.specs.List.{list_any};
 ghost use Rattle.mcap_io.specs.Outside.{Rose};
-ghost use Rattle.feed_lane.specs.Causes.{is_over, is_memory, is_memory_stop};
 ghost use Rattle.mcap_model.specs.Places.{Each};
 ghost use Rattle.feed_lane.specs.Steps.{ListsMessages};
 ghost use Rattle.command_base.specs.Texts.{fault, output_limit, output_fault, no_memory};
@@ -11,24 +9,26 @@ ghost use Rattle.command_base.specs.Printing.{Takes};
 ghost use Rattle.command_base.specs.Ran.{AnyRose, when, Complains};
 ghost use Rattle.command_base.specs.Scenes.{scene};
 ghost use Rattle.generate_command.specs.Allowed.{OptionsAllowed};
-ghost use Rattle.generate_command.specs.Generating.{writer_closed as closes, is_limit, is_memory_end, is_memory_writer, limit_passed, report_lacks_memory as names_lack, is_sound as stands_whole, ReadsBack, text_after, halts_after, is_lack_after, GenerationLackTold, Generates};
+ghost use Rattle.report_findings.specs.Findings.{limit_passed, lacks_memory as names_lack};
+ghost use Rattle.generate_command.specs.Generating.{writer_closed as closes, is_sound as stands_whole, ReadsBack, text_after, halts_after, is_lack_after, LackIsTold, Generates};
 
 use crate::back::{Back, Summing};
 use crate::making::{Numbers, Written, write_generated};
 use command_base::{
-    Complaint, Counts, complain_of, due_when, halt_of, has_lacked, lacks_memory, print_reading,
+    Complaint, Counts, Status, complain_of, due_when, halt_of, has_lacked, print_reading,
     read_source_name, rose,
 };
 use mcap_io::{Sink, World};
-use mcap_model::{End, Stop};
-use recorder::{FeedEnd, FeedReport, RecordOptions, Report};
+use mcap_model::End;
+use recorder::{RecordOptions, Report};
+use report_findings::{has_limit, names_memory};
 use std::alloc::Global;
 use std::sync::Wait;
 use std::thread::Threads;
 
 /// How a generation ended: its status, and the report of the recording.
 pub struct Generated {
-    pub status: u8,
+    pub status: Status,
     pub report: Option<Report>,
 }
 
@@ -50,95 +50,6 @@ fn is_sound(written: &Written) -> bool
         Some(report) => return is_closed(report.writer.end) && written.kept,
         None => return false,
     }
-}
-
-// Whether the writer stopped at a limit.
-fn is_at_limit(end: End) -> bool
-    ensures { result ≡ is_limit end }
-{
-    match end {
-        End::Stopped {
-            stop: Stop::Limit { .. },
-        } => true,
-        End::Closed | End::Stopped { .. } => false,
-    }
-}
-
-// Whether one of the feed's messages was refused for a limit.
-fn has_too_much(feed: &FeedReport) -> bool
-    ensures { result ≡ list_any (λ x. is_over x.cause) feed.now.refused.items }
-{
-    feed.refused.has_limit()
-}
-
-// Whether one of the messages of all feeds was.
-fn have_too_much(feeds: &[FeedReport]) -> bool
-    ensures { result ≡ list_any (λ f. list_any (λ x. is_over x.cause) f.refused.items) feeds.now }
-{
-    feeds.iter().any(|feed| has_too_much(feed))
-}
-
-// Whether the file or a message would have passed a limit.
-fn has_limit(report: &Option<Report>) -> bool
-    ensures { result ≡ limit_passed report.now }
-{
-    match report {
-        Some(report) => {
-            return is_at_limit(report.writer.end) || have_too_much(&report.feeds);
-        }
-        None => return false,
-    }
-}
-
-// Whether the writer stopped for want of memory.
-fn is_out_of_memory(stop: Stop) -> bool
-    ensures { result ≡ is_memory_stop stop }
-{
-    match stop {
-        Stop::Memory => true,
-        Stop::Fault { .. } | Stop::Limit { .. } => false,
-    }
-}
-
-// Whether the reading of the feed ended for want of memory.
-fn is_end_for_memory(end: &FeedEnd) -> bool
-    ensures { result ≡ is_memory_end end.now }
-{
-    match end {
-        FeedEnd::Refused { why } => return lacks_memory(why),
-        FeedEnd::Done | FeedEnd::Ended => return false,
-    }
-}
-
-// Whether memory lacked for the feed, or for one of its messages.
-fn feed_lacked(feed: &FeedReport) -> bool
-    ensures { result ≡ (is_memory_end feed.now.end || list_any (λ x. is_memory x.cause) feed.now.refused.items) }
-{
-    is_end_for_memory(&feed.end) || feed.refused.has_lack()
-}
-
-// Whether memory lacked for one of the feeds.
-fn feeds_lacked(feeds: &[FeedReport]) -> bool
-    ensures { result ≡ list_any (λ f. is_memory_end f.end || list_any (λ x. is_memory x.cause) f.refused.items) feeds.now }
-{
-    feeds.iter().any(|feed| feed_lacked(feed))
-}
-
-// Whether memory lacked for the file.
-fn writer_lacked(end: End) -> bool
-    ensures { result ≡ is_memory_writer end }
-{
-    match end {
-        End::Stopped { stop } => is_out_of_memory(stop),
-        End::Closed => false,
-    }
-}
-
-// Whether the report names a want of memory.
-fn names_memory(report: &Report) -> bool
-    ensures { result ≡ names_lack report.now }
-{
-    writer_lacked(report.writer.end) || feeds_lacked(&report.feeds)
 }
 
 // Whether a count of the world rose.
@@ -175,7 +86,7 @@ fn is_lack(
     report: &Option<Report>,
     back: &Option<Back>,
 ) -> bool
-    ensures { (out : List ℕ) → GenerationLackTold before.now now.now what.now.feeds out report.now back.now result }
+    ensures { (out : List ℕ) → LackIsTold before.now now.now what.now.feeds out report.now back.now result }
 {
     match report {
         Some(report) => return names_memory(report) || back_lacked(what, back),
@@ -237,7 +148,7 @@ fn answer<'a, E: Sink>(
     limited: bool,
     printing: bool,
     lacked: bool,
-) -> u8
+) -> Status
     ensures { Complains (complained halt.entry ++ (when blamed (fault out.now) ++ (when limited (output_limit out.now) ++ (when printing output_fault ++ when lacked no_memory)))) (E.state err.old) (E.state err.new) result }
 {
     let complaints = [
@@ -251,8 +162,7 @@ fn answer<'a, E: Sink>(
 }
 
 /// Makes feeds of these numbers, records them into the file under the name, reads that back, prints on `out` sums of the messages
-/// that were read, and answers how that ended: 0 where all was done, 1 where the file breaks a rule, 3 where the outside failed,
-/// 4 where a limit would be passed, and 5 where memory lacked. Where the writer stopped or the file couldn't be kept nothing is
+/// that were read, and answers how that ended. Where the writer stopped or the file couldn't be kept nothing is
 /// read back and nothing printed; nor is anything printed where the reading is refused. The report lists the messages where `listed`
 /// says so, and else only counts them.
 pub fn generate_file<R: AllocGlobal + Threads + Wait + Sync, W: World, O: Sink, E: Sink>(

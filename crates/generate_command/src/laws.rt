@@ -3,7 +3,7 @@ ghost use Rattle.generate_command.specs.Laws.{GeneratedSumsAreTold};
 
 use generated_feed::generated_feeds_are_read;
 
-/// With the status 0 the line that is printed is that of the sums of all messages that the numbers say: what was recorded and
+/// Where all was done the line that is printed is that of the sums of all messages that the numbers say: what was recorded and
 /// read back is what was made.
 pub fn generated_sums_are_told()
     ensures { GeneratedSumsAreTold }

@@ -7,7 +7,7 @@ ghost use Rattle.generate_command.specs.Making.{generated_source, sources_of, Na
 ghost use Rattle.generate_command.specs.Allowed.{OptionsAllowed};
 
 use generated_feed::GeneratedFeed;
-use mcap_io::{Failed, OpenRefused, Source, World};
+use mcap_io::{Failed, OutsideRefused, Source, World};
 use mcap_wire::Memory;
 use recorder::{RecordOptions, Recording, Report, record};
 use std::alloc::Global;
@@ -93,13 +93,13 @@ fn write_feeds<R: Threads + Wait + Sync, W: World>(
 {
     let live = match world.live(out) {
         Ok(live) => live,
-        Err(OpenRefused::Failed) => {
+        Err(OutsideRefused::Failed) => {
             return Written {
                 report: None,
                 kept: false,
             };
         }
-        Err(OpenRefused::Memory) => {
+        Err(OutsideRefused::Memory) => {
             return Written {
                 report: None,
                 kept: false,
