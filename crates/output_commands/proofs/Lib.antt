@@ -1,13 +1,6 @@
-mod Due
 mod Names
-pub mod OneOutput
 pub mod Recoveries
-mod Blamed
-mod Entries
-mod SomeDue
-mod SomeInputs
-pub mod SomeOutput
-mod Halting
+mod RefusedReadings
 mod MergedStores
 mod Mergings
 pub mod Merges

@@ -27,14 +27,20 @@ use Rattle.mcap_merge.specs.declared.answers.MergeRefused.TheVariants as merges
 use Rattle.mcap_merge.specs.ReadInputs.{Read, read_tops}
 use Rattle.mcap_merge.specs.Reading.{IsReadOf, FaultsStand, HaltsFirst, InputRose}
 use Rattle.mcap_merge.specs.Filed.{merged_options, AllTell, TellsNot, MergeIs, FileStands, MergeStops, MergeIsCut, MergesInto, MergeFails}
-use Rattle.command_base.specs.Texts.{Trouble, grammar, compressed, limit, asked_status}
+use Rattle.command_base.specs.declared.statuses.Status.{Status}
+use Rattle.command_base.specs.declared.statuses.Status.TheVariants as statuses
+use Rattle.command_base.specs.Texts.{Trouble, grammar, compressed, limit}
+use Rattle.command_base.specs.OneFileSteps.{IsHalt}
 use Rattle.command_base.specs.Ran.{failed_so, has_failed}
 use Rattle.command_base.proofs.Counting.{failed_often}
 use Rattle.output_commands.specs.declared.merging.Merging.{Merging}
-use Rattle.output_commands.specs.SomeInputs.{InputKept, input_entry, back_stores}
-use Rattle.output_commands.specs.SomeOutput.{halted, failing, joined_status, some_failed}
-use Rattle.output_commands.specs.SomeOutputSteps.{HaltsByInput}
-use Rattle.output_commands.specs.Merge.{HoldsBytes, HoldsFirst, PutsNothing, MergeOutputHolds, MergesStores, unopened_so, some_refused, merging_of, IsMerging, name_at, ending_of_merging, FirstHalts, OfWholeFiles, MergeDecides}
+use Rattle.output_base.specs.Endings.{halted, writing_status}
+use Rattle.output_base.specs.OutputSteps.{HaltsByInput}
+use Rattle.output_base.specs.Inputs.{backs_of}
+use Rattle.output_base.specs.Outputs.{some_failed}
+use Rattle.output_base.proofs.Endings.{halts_well, none_halts_well, status_halted}
+use Rattle.output_commands.specs.Halting.{name_at}
+use Rattle.output_commands.specs.Merge.{HoldsBytes, HoldsFirst, PutsNothing, MergeOutputHolds, MergesStores, StoreKept, store_entry, unopened_so, some_refused, merging_of, IsMerging, ending_of_merging, FirstHalts, OfWholeFiles, MergeDecides}
 use Rattle.output_commands.proofs.Recoveries.{placed_so}
 
 -- what the library answers, by its clauses
@@ -182,42 +188,36 @@ output_holds chunk given back live stored (Err (merges.Stopped stops.Memory)) fi
 -- ---- which input halts
 
 -- the trouble of an input that halts, and its number
-halts_within : (inputs : List (List ℕ)) (k : ℕ) (trouble : Trouble) → k < length inputs → (asked_status trouble ≡ 1) ⊎ (asked_status trouble ≡ 4) → HaltsByInput inputs (halted k trouble)
-halts_within inputs k trouble within asked n other e =
-    let number : k ≡ n = cc in
-    let same : trouble ≡ other = cc in
-    (omega (arith, number, within), subst (λ (t : Trouble). (asked_status t ≡ 1) ⊎ (asked_status t ≡ 4)) same asked)
-
-halted_so : (inputs : List (List ℕ)) (given : List StoreState) (k : ℕ) (trouble : Trouble) (P : List ℕ → Type 0) → length inputs ≡ length given → HaltsFirst given k P → (asked_status trouble ≡ 1) ⊎ (asked_status trouble ≡ 4) → HaltsByInput inputs (halted k trouble)
+halted_so : (inputs : List (List ℕ)) (given : List StoreState) (k : ℕ) (trouble : Trouble) (P : List ℕ → Type 0) → length inputs ≡ length given → HaltsFirst given k P → IsHalt trouble → HaltsByInput inputs (halted k trouble)
 halted_so inputs given k trouble P long (before, s, at, so) asked =
     let within = at_within given k s at in
-    halts_within inputs k trouble (omega (arith, within, long)) asked
+    halts_well inputs k trouble (omega (arith, within, long)) asked
 
 pub merges_well : (inputs : List (List ℕ)) (chunk : ℕ) (given back : List StoreState) (live stored : LiveState) (answer : Result Merged MergeRefused) → length inputs ≡ length given → MergesStores given back live stored chunk answer → HaltsByInput inputs (ending_of_merging inputs (merging_of answer))
-merges_well inputs chunk given back live stored (Ok m) long it n trouble e = absurd cc
-merges_well inputs chunk given back live stored (Err (merges.Halted input (readings.Fault faults))) long it n trouble e = absurd cc
-merges_well inputs chunk given back live stored (Err (merges.Halted input (readings.Grammar offset rule))) long (inl (same, inl (still, first))) n trouble e = halted_so inputs given input (grammar (name_at inputs input) offset) _ long first (inl refl) n trouble e
-merges_well inputs chunk given back live stored (Err (merges.Halted input (readings.Grammar offset rule))) long (inl (same, inr (still, reads, are, never))) n trouble e = absurd never
-merges_well inputs chunk given back live stored (Err (merges.Halted input (readings.Grammar offset rule))) long (inr (inl (still, it))) n trouble e = absurd (not_halted input (readings.Grammar offset rule) it.stop it.answer)
-merges_well inputs chunk given back live stored (Err (merges.Halted input (readings.Grammar offset rule))) long (inr (inr it)) n trouble e = absurd it.cause
-merges_well inputs chunk given back live stored (Err (merges.Halted input (readings.Compressed offset name))) long (inl (same, inl (still, first))) n trouble e = halted_so inputs given input (compressed (name_at inputs input) name offset) _ long first (inl refl) n trouble e
-merges_well inputs chunk given back live stored (Err (merges.Halted input (readings.Compressed offset name))) long (inl (same, inr (still, reads, are, never))) n trouble e = absurd never
-merges_well inputs chunk given back live stored (Err (merges.Halted input (readings.Compressed offset name))) long (inr (inl (still, it))) n trouble e = absurd (not_halted input (readings.Compressed offset name) it.stop it.answer)
-merges_well inputs chunk given back live stored (Err (merges.Halted input (readings.Compressed offset name))) long (inr (inr it)) n trouble e = absurd it.cause
-merges_well inputs chunk given back live stored (Err (merges.Halted input (readings.Limit offset))) long (inl (same, inl (still, first))) n trouble e = halted_so inputs given input (limit (name_at inputs input) offset) _ long first (inr refl) n trouble e
-merges_well inputs chunk given back live stored (Err (merges.Halted input (readings.Limit offset))) long (inl (same, inr (still, reads, are, never))) n trouble e = absurd never
-merges_well inputs chunk given back live stored (Err (merges.Halted input (readings.Limit offset))) long (inr (inl (still, it))) n trouble e = absurd (not_halted input (readings.Limit offset) it.stop it.answer)
-merges_well inputs chunk given back live stored (Err (merges.Halted input (readings.Limit offset))) long (inr (inr it)) n trouble e = absurd it.cause
-merges_well inputs chunk given back live stored (Err (merges.Halted input readings.Memory)) long it n trouble e = absurd cc
-merges_well inputs chunk given back live stored (Err (merges.Changed input offset)) long (inl (same, inl never)) n trouble e = absurd never
-merges_well inputs chunk given back live stored (Err (merges.Changed input offset)) long (inl (same, inr (still, reads, are, never))) n trouble e = absurd never
-merges_well inputs chunk given back live stored (Err (merges.Changed input offset)) long (inr (inl (still, it))) n trouble e = absurd (not_changed input offset it.stop it.answer)
-merges_well inputs chunk given back live stored (Err (merges.Changed input offset)) long (inr (inr it)) n trouble e = halts_within inputs input (grammar (name_at inputs input) offset) (omega (arith, long, (let within = it.cause.0 in within))) (inl refl) n trouble e
-merges_well inputs chunk given back live stored (Err merges.TooManySchemas) long it n trouble e = absurd cc
-merges_well inputs chunk given back live stored (Err merges.TooManyChannels) long it n trouble e = absurd cc
-merges_well inputs chunk given back live stored (Err (merges.Stopped (stops.Fault faults))) long it n trouble e = absurd cc
-merges_well inputs chunk given back live stored (Err (merges.Stopped (stops.Limit blocks bytes))) long it n trouble e = absurd cc
-merges_well inputs chunk given back live stored (Err (merges.Stopped stops.Memory)) long it n trouble e = absurd cc
+merges_well inputs chunk given back live stored (Ok m) long it = none_halts_well inputs _ refl
+merges_well inputs chunk given back live stored (Err (merges.Halted input (readings.Fault faults))) long it = none_halts_well inputs _ refl
+merges_well inputs chunk given back live stored (Err (merges.Halted input (readings.Grammar offset rule))) long (inl (same, inl (still, first))) = halted_so inputs given input (grammar (name_at inputs input) offset) _ long first (inl refl)
+merges_well inputs chunk given back live stored (Err (merges.Halted input (readings.Grammar offset rule))) long (inl (same, inr (still, reads, are, never))) = absurd never
+merges_well inputs chunk given back live stored (Err (merges.Halted input (readings.Grammar offset rule))) long (inr (inl (still, it))) = absurd (not_halted input (readings.Grammar offset rule) it.stop it.answer)
+merges_well inputs chunk given back live stored (Err (merges.Halted input (readings.Grammar offset rule))) long (inr (inr it)) = absurd it.cause
+merges_well inputs chunk given back live stored (Err (merges.Halted input (readings.Compressed offset name))) long (inl (same, inl (still, first))) = halted_so inputs given input (compressed (name_at inputs input) name offset) _ long first (inl refl)
+merges_well inputs chunk given back live stored (Err (merges.Halted input (readings.Compressed offset name))) long (inl (same, inr (still, reads, are, never))) = absurd never
+merges_well inputs chunk given back live stored (Err (merges.Halted input (readings.Compressed offset name))) long (inr (inl (still, it))) = absurd (not_halted input (readings.Compressed offset name) it.stop it.answer)
+merges_well inputs chunk given back live stored (Err (merges.Halted input (readings.Compressed offset name))) long (inr (inr it)) = absurd it.cause
+merges_well inputs chunk given back live stored (Err (merges.Halted input (readings.Limit offset))) long (inl (same, inl (still, first))) = halted_so inputs given input (limit (name_at inputs input) offset) _ long first (inr refl)
+merges_well inputs chunk given back live stored (Err (merges.Halted input (readings.Limit offset))) long (inl (same, inr (still, reads, are, never))) = absurd never
+merges_well inputs chunk given back live stored (Err (merges.Halted input (readings.Limit offset))) long (inr (inl (still, it))) = absurd (not_halted input (readings.Limit offset) it.stop it.answer)
+merges_well inputs chunk given back live stored (Err (merges.Halted input (readings.Limit offset))) long (inr (inr it)) = absurd it.cause
+merges_well inputs chunk given back live stored (Err (merges.Halted input readings.Memory)) long it = none_halts_well inputs _ refl
+merges_well inputs chunk given back live stored (Err (merges.Changed input offset)) long (inl (same, inl never)) = absurd never
+merges_well inputs chunk given back live stored (Err (merges.Changed input offset)) long (inl (same, inr (still, reads, are, never))) = absurd never
+merges_well inputs chunk given back live stored (Err (merges.Changed input offset)) long (inr (inl (still, it))) = absurd (not_changed input offset it.stop it.answer)
+merges_well inputs chunk given back live stored (Err (merges.Changed input offset)) long (inr (inr it)) = halts_well inputs input (grammar (name_at inputs input) offset) (omega (arith, long, (let within = it.cause.0 in within))) (inl refl)
+merges_well inputs chunk given back live stored (Err merges.TooManySchemas) long it = none_halts_well inputs _ refl
+merges_well inputs chunk given back live stored (Err merges.TooManyChannels) long it = none_halts_well inputs _ refl
+merges_well inputs chunk given back live stored (Err (merges.Stopped (stops.Fault faults))) long it = none_halts_well inputs _ refl
+merges_well inputs chunk given back live stored (Err (merges.Stopped (stops.Limit blocks bytes))) long it = none_halts_well inputs _ refl
+merges_well inputs chunk given back live stored (Err (merges.Stopped stops.Memory)) long it = none_halts_well inputs _ refl
 
 -- ---- what failed
 
@@ -230,24 +230,24 @@ or_second true b is = refl
 or_second false b is = is
 
 -- an input whose store failed is told of
-flag_at : (ks : List InputKept) (n : ℕ) (s : StoreState) → At (back_stores ks) n s → (s.faults ≡ 0 → ⊥) → some_failed (map (λ (k : InputKept). has_failed (input_entry k)) ks) ≡ true
+flag_at : (ks : List StoreKept) (n : ℕ) (s : StoreState) → At (backs_of ks) n s → (s.faults ≡ 0 → ⊥) → some_failed (map (λ (k : StoreKept). has_failed (store_entry k)) ks) ≡ true
 flag_at [] n s at some = absurd (at_none n s at)
-flag_at (k ∷ ks) zero s at some = or_first (has_failed (input_entry k)) _ (failed_often k.well k.back.faults (λ none. some (ap (λ (x : StoreState). x.faults) (sym (same_Some k.back s at)) ∙ none)))
-flag_at (k ∷ ks) (suc n) s at some = or_second (has_failed (input_entry k)) _ (flag_at ks n s at some)
+flag_at (k ∷ ks) zero s at some = or_first (has_failed (store_entry k)) _ (failed_often k.well k.back.faults (λ none. some (ap (λ (x : StoreState). x.faults) (sym (same_Some k.back s at)) ∙ none)))
+flag_at (k ∷ ks) (suc n) s at some = or_second (has_failed (store_entry k)) _ (flag_at ks n s at some)
 
 stop_shows : (stop : Stop) (faults before now : ℕ) (well : Bool) → merges.Stopped (stops.Fault faults) ≡ merges.Stopped stop → StopCause before now stop → before ≡ 0 → failed_so well now ≡ true
 stop_shows (stops.Fault count) faults before now well is cause new = failed_often well now (λ none. omega (arith, cause.0.once, none, new))
 stop_shows (stops.Limit blocks bytes) faults before now well is cause new = absurd cc
 stop_shows stops.Memory faults before now well is cause new = absurd cc
 
-one_shows : (given : List StoreState) (ks : List InputKept) (k faults : ℕ) → Each IsUnused given → InputRose given (back_stores ks) k faults → some_failed (map (λ (k : InputKept). has_failed (input_entry k)) ks) ≡ true
+one_shows : (given : List StoreState) (ks : List StoreKept) (k faults : ℕ) → Each IsUnused given → InputRose given (backs_of ks) k faults → some_failed (map (λ (k : StoreKept). has_failed (store_entry k)) ks) ≡ true
 one_shows given ks k faults unused (was, now, at_was, at_now, rises, count, others) =
     let none = (unused k was at_was).faults in
     flag_at ks k now at_now (λ zero_is. omega (arith, rises.once, none, zero_is))
 
 -- where the merge failed, a store did
-pub fault_shows : (inputs : List (List ℕ)) (chunk : ℕ) (given : List StoreState) (live stored : LiveState) (well : Bool) (ks : List InputKept) (answer : Result Merged MergeRefused) → MergesStores given (back_stores ks) live stored chunk answer → Each IsUnused given → live.faults ≡ 0
-    → ending_of_merging inputs (merging_of answer) ≡ failing → (some_failed (map (λ (k : InputKept). has_failed (input_entry k)) ks) ≡ true) ⊎ (failed_so well stored.faults ≡ true)
+pub fault_shows : (inputs : List (List ℕ)) (chunk : ℕ) (given : List StoreState) (live stored : LiveState) (well : Bool) (ks : List StoreKept) (answer : Result Merged MergeRefused) → MergesStores given (backs_of ks) live stored chunk answer → Each IsUnused given → live.faults ≡ 0
+    → (ending_of_merging inputs (merging_of answer)).fails ≡ true → (some_failed (map (λ (k : StoreKept). has_failed (store_entry k)) ks) ≡ true) ⊎ (failed_so well stored.faults ≡ true)
 fault_shows inputs chunk given live stored well ks (Ok m) it unused new e = absurd cc
 fault_shows inputs chunk given live stored well ks (Err (merges.Halted input (readings.Fault faults))) (inl (same, inl rose)) unused new e = inl (one_shows given ks input faults unused rose)
 fault_shows inputs chunk given live stored well ks (Err (merges.Halted input (readings.Fault faults))) (inl (same, inr (still, reads, are, never))) unused new e = absurd never
@@ -283,19 +283,19 @@ first_halts given files n P told (before, s, at, so) =
       so = so bytes is;
     }
 
-merge_decides : (inputs : List (List ℕ)) (chunk : ℕ) (given back : List StoreState) (live stored : LiveState) (answer : Result Merged MergeRefused) (files : List (List ℕ)) (status : ℕ) → MergesStores given back live stored chunk answer → AllZip TellsBytes given files
-    → (ending_of_merging inputs (merging_of answer) ≡ failing → ⊥) → status ≡ joined_status (ending_of_merging inputs (merging_of answer)) → MergeDecides files (merging_of answer) status
+merge_decides : (inputs : List (List ℕ)) (chunk : ℕ) (given back : List StoreState) (live stored : LiveState) (answer : Result Merged MergeRefused) (files : List (List ℕ)) (status : Status) → MergesStores given back live stored chunk answer → AllZip TellsBytes given files
+    → ((ending_of_merging inputs (merging_of answer)).fails ≡ true → ⊥) → status ≡ writing_status (ending_of_merging inputs (merging_of answer)) → MergeDecides files (merging_of answer) status
 merge_decides inputs chunk given back live stored (Ok m) files status it told other is = (were_read given files it.profile it.extras it.history told it.is, is)
 merge_decides inputs chunk given back live stored (Err (merges.Halted input (readings.Fault faults))) files status it told other is = absurd (other refl)
-merge_decides inputs chunk given back live stored (Err (merges.Halted input (readings.Grammar offset rule))) files status (inl (same, inl (still, first))) told other is = (first_halts given files input _ told first, is)
+merge_decides inputs chunk given back live stored (Err (merges.Halted input (readings.Grammar offset rule))) files status (inl (same, inl (still, first))) told other is = (first_halts given files input _ told first, is ∙ status_halted input (grammar (name_at inputs input) offset))
 merge_decides inputs chunk given back live stored (Err (merges.Halted input (readings.Grammar offset rule))) files status (inl (same, inr (still, reads, are, never))) told other is = absurd never
 merge_decides inputs chunk given back live stored (Err (merges.Halted input (readings.Grammar offset rule))) files status (inr (inl (still, it))) told other is = absurd (not_halted input (readings.Grammar offset rule) it.stop it.answer)
 merge_decides inputs chunk given back live stored (Err (merges.Halted input (readings.Grammar offset rule))) files status (inr (inr it)) told other is = absurd it.cause
-merge_decides inputs chunk given back live stored (Err (merges.Halted input (readings.Compressed offset name))) files status (inl (same, inl (still, first))) told other is = (first_halts given files input _ told first, is)
+merge_decides inputs chunk given back live stored (Err (merges.Halted input (readings.Compressed offset name))) files status (inl (same, inl (still, first))) told other is = (first_halts given files input _ told first, is ∙ status_halted input (compressed (name_at inputs input) name offset))
 merge_decides inputs chunk given back live stored (Err (merges.Halted input (readings.Compressed offset name))) files status (inl (same, inr (still, reads, are, never))) told other is = absurd never
 merge_decides inputs chunk given back live stored (Err (merges.Halted input (readings.Compressed offset name))) files status (inr (inl (still, it))) told other is = absurd (not_halted input (readings.Compressed offset name) it.stop it.answer)
 merge_decides inputs chunk given back live stored (Err (merges.Halted input (readings.Compressed offset name))) files status (inr (inr it)) told other is = absurd it.cause
-merge_decides inputs chunk given back live stored (Err (merges.Halted input (readings.Limit offset))) files status (inl (same, inl (still, first))) told other is = (first_halts given files input _ told first, is)
+merge_decides inputs chunk given back live stored (Err (merges.Halted input (readings.Limit offset))) files status (inl (same, inl (still, first))) told other is = (first_halts given files input _ told first, is ∙ status_halted input (limit (name_at inputs input) offset))
 merge_decides inputs chunk given back live stored (Err (merges.Halted input (readings.Limit offset))) files status (inl (same, inr (still, reads, are, never))) told other is = absurd never
 merge_decides inputs chunk given back live stored (Err (merges.Halted input (readings.Limit offset))) files status (inr (inl (still, it))) told other is = absurd (not_halted input (readings.Limit offset) it.stop it.answer)
 merge_decides inputs chunk given back live stored (Err (merges.Halted input (readings.Limit offset))) files status (inr (inr it)) told other is = absurd it.cause
@@ -323,18 +323,18 @@ merge_decides inputs chunk given back live stored (Err (merges.Stopped (stops.Li
 merge_decides inputs chunk given back live stored (Err (merges.Stopped stops.Memory)) files status it told other is = is
 
 -- an opening that was refused failed, or memory lacked for it
-refusal_decides : (inputs files : List (List ℕ)) (failed : Bool) (status : ℕ) → (ending_of_merging inputs (unopened_so failed) ≡ failing → ⊥) → status ≡ joined_status (ending_of_merging inputs (unopened_so failed)) → MergeDecides files (unopened_so failed) status
+refusal_decides : (inputs files : List (List ℕ)) (failed : Bool) (status : Status) → ((ending_of_merging inputs (unopened_so failed)).fails ≡ true → ⊥) → status ≡ writing_status (ending_of_merging inputs (unopened_so failed)) → MergeDecides files (unopened_so failed) status
 refusal_decides inputs files true status other is = absurd (other refl)
 refusal_decides inputs files false status other is = is
 
 -- where nothing failed, the bytes under the inputs' names decide
-pub merging_decides : (chunk : ℕ) (inputs : List (List ℕ)) (out : List ℕ) (old new : WorldState) (entries : List Opening) (merging : Merging) (told : Told) (files : List (List ℕ)) (status : ℕ) → IsMerging chunk inputs out old new entries merging → old.told ≡ Some told
-    → AllZip (HoldsBytes told) inputs files → (ending_of_merging inputs merging ≡ failing → ⊥) → status ≡ joined_status (ending_of_merging inputs merging) → MergeDecides files merging status
+pub merging_decides : (chunk : ℕ) (inputs : List (List ℕ)) (out : List ℕ) (old new : WorldState) (entries : List Opening) (merging : Merging) (told : Told) (files : List (List ℕ)) (status : Status) → IsMerging chunk inputs out old new entries merging → old.told ≡ Some told
+    → AllZip (HoldsBytes told) inputs files → ((ending_of_merging inputs merging).fails ≡ true → ⊥) → status ≡ writing_status (ending_of_merging inputs merging) → MergeDecides files merging status
 merging_decides chunk inputs out old new entries merging told files status (inl (refusal, unreached)) here there other is =
     let same = refusal.answer in
     subst (λ (m : Merging). MergeDecides files m status) (sym same)
-    (refusal_decides inputs files (some_refused entries) status (λ e. other (ap (ending_of_merging inputs) same ∙ e)) (is ∙ ap (λ (m : Merging). joined_status (ending_of_merging inputs m)) same))
+    (refusal_decides inputs files (some_refused entries) status (λ e. other (ap (λ (m : Merging). (ending_of_merging inputs m).fails) same ∙ e)) (is ∙ ap (λ (m : Merging). writing_status (ending_of_merging inputs m)) same))
 merging_decides chunk inputs out old new entries merging told files status (inr (answer, same, reached)) here there other is =
     subst (λ (m : Merging). MergeDecides files m status) (sym same)
-    (merge_decides inputs chunk reached.given (back_stores reached.kept_inputs) reached.live reached.stored answer files status reached.merges (files_told old told inputs reached.given files here reached.tells there)
-    (λ e. other (ap (ending_of_merging inputs) same ∙ e)) (is ∙ ap (λ (m : Merging). joined_status (ending_of_merging inputs m)) same))
+    (merge_decides inputs chunk reached.given (backs_of reached.kept_inputs) reached.live reached.stored answer files status reached.merges (files_told old told inputs reached.given files here reached.tells there)
+    (λ e. other (ap (λ (m : Merging). (ending_of_merging inputs m).fails) same ∙ e)) (is ∙ ap (λ (m : Merging). writing_status (ending_of_merging inputs m)) same))

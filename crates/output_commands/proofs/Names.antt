@@ -1,43 +1,101 @@
 -- What the openings of an input and of an output and their keepings come to.
-use Rattle.std.proofs.Common.{◌≡◌, ℕ, ◌^◌, ◌<◌, Bool, List, [], ◌∷◌, ◌++◌, append_assoc, Option, Some, None, Result, Err, refl, sym, ap, subst, inl, inr, ◌∙◌, arith}
+use Rattle.std.proofs.Common.{◌≡◌, ◌⊎◌, ℕ, zero, suc, ◌^◌, ◌<◌, ◌-◌, Bool, List, [], ◌∷◌, ◌++◌, append_assoc, Option, Some, None, Result, Err, refl, sym, ap, subst, inl, inr, ◌∙◌, arith}
 use Rattle.std.specs.Prelude.{true, false}
 use Rattle.std.specs.Option.{option_map}
 use Rattle.std.proofs.lemmas.List.{append-nil}
-use Rattle.mcap_io.specs.Outside.{RisesOnce, added, Opening, Keeping, Told, opened, SourceState, LiveState, WorldState, TellsName}
+use Rattle.std.proofs.lemmas.Option.{same_Some}
+use Rattle.mcap_io.specs.Outside.{Rose, RisesOnce, added, Opening, Keeping, Told, opened, SourceState, LiveState, WorldState, TellsName}
 use Rattle.mcap_io.specs.OutsideCalls.{HasCause, Opens, OpenCause, CountsStand, with_opening, went_well, TellsNothingYet, KeepsSource, KeepsLive, KeepsName, Notes}
 use Rattle.mcap_io.specs.declared.outside.Failed.{Failed}
+use Rattle.mcap_io.specs.declared.outside.ObjectKind.{ObjectKind}
 use Rattle.mcap_io.specs.declared.outside.ObjectKind.TheVariants as kinds
-use Rattle.mcap_io.specs.declared.outside.OpenRefused.{OpenRefused}
-use Rattle.mcap_io.specs.declared.outside.OpenRefused.TheVariants as open_refusals
+use Rattle.mcap_io.specs.declared.outside.OutsideRefused.{OutsideRefused}
+use Rattle.mcap_io.specs.declared.outside.OutsideRefused.TheVariants as outside_refusals
 use Rattle.mcap_io.proofs.Notes.{both_noted}
-use Rattle.mcap_model.proofs.Places.{heads}
-use Rattle.command_base.specs.Ran.{kept, refused, failed_so, world_faults}
+use Rattle.mcap_model.specs.Places.{Each}
+use Rattle.mcap_model.proofs.Places.{at_none}
+use Rattle.command_base.specs.Ran.{kept, refused, failed_so, wanted, world_faults, AreOpened, Leaves, CountsKept, named_when, failed_names}
 use Rattle.command_base.proofs.Counting.{added_none, kept_adds, kept_shows, not_risen, keeping_shows, keepings_show, blamed}
 use Rattle.command_base.proofs.Opened.{tells_more, source_keeping, live_keeping, given, source_noted, none_last, refused_last, SameNames, leaves_same, holds_same, others_unwritten, same_told}
-use Rattle.output_commands.specs.OneOutput.{BothUnreached}
-use Rattle.output_commands.specs.OneOutputSteps.{BothNamesKept}
+use Rattle.output_base.specs.Outputs.{some_failed, IsUnasked, LeftUnderName, Unreached}
+use Rattle.output_base.specs.OutputSteps.{NamesKept}
+use Rattle.output_commands.specs.Recover.{both_names}
 
 -- how an entry's object was taken back
 abbrev kept_in : Opening → Option Keeping
 kept_in entry = entry.kept
 
--- the first entry, where it is that of a source which was kept, says how
-same_kept : (input : List ℕ) (a b : Keeping) (xs ys : List Opening) → kept kinds.Source input a ∷ xs ≡ kept kinds.Source input b ∷ ys → a ≡ b
-same_kept input a b xs ys e =
-    let entries : kept kinds.Source input a ≡ kept kinds.Source input b = heads _ _ xs ys e in
-    let keepings : Some a ≡ Some b = ap kept_in entries in
-    cc
+-- the one answer, and that some of one is that it failed
+one_failed : (failed : Bool) → some_failed (failed ∷ []) ≡ failed
+one_failed true = refl
+one_failed false = refl
 
-none_first : (A : Type 0) (entry : Opening) (xs : List Opening) → [] ≡ entry ∷ xs → A
-none_first A entry xs e = absurd cc
+-- what holds of each of one or two entries
+each_none : (P : Opening → Type 0) → Each P []
+each_none P n x at = absurd (at_none n x at)
 
-refused_first : (A : Type 0) (input : List ℕ) (k : Keeping) (xs ys : List Opening) → refused kinds.Source input ∷ xs ≡ kept kinds.Source input k ∷ ys → A
-refused_first A input k xs ys e = let none : None ≡ Some k = ap kept_in (heads _ _ xs ys e) in absurd cc
+each_one : (P : Opening → Type 0) (x : Opening) → P x → Each P (x ∷ [])
+each_one P x is zero y at = subst P (same_Some x y at) is
+each_one P x is (suc n) y at = absurd (at_none n y at)
+
+each_pair : (P : Opening → Type 0) (x y : Opening) → P x → P y → Each P (x ∷ y ∷ [])
+each_pair P x y first second zero z at = subst P (same_Some x z at) first
+each_pair P x y first second (suc n) z at = each_one P y second n z at
+
+-- an opening that was refused was asked for nothing, and has nothing left
+none_some : (keeping : Keeping) → None ≡ Some keeping → ⊥
+none_some keeping e = cc
+
+refused_unasked : (kind : ObjectKind) (name : List ℕ) → IsUnasked (refused kind name)
+refused_unasked kind name keeping is = absurd (none_some keeping is)
+
+refused_left : (told : Told) (kind : ObjectKind) (name : List ℕ) → LeftUnderName told (refused kind name)
+refused_left told kind name other keeping is = absurd (none_some keeping (ap kept_in is))
+
+-- nor is a source asked at any place
+source_unasked : (input : List ℕ) (source : SourceState) (result : Result Unit Failed) → IsUnasked (kept kinds.Source input (source_keeping source result))
+source_unasked input source result keeping is = ap (λ (k : Keeping). k.asked) (sym (same_Some (source_keeping source result) keeping is))
+
+source_left : (told : Told) (input : List ℕ) (keeping : Keeping) → keeping.left ≡ told.names input → LeftUnderName told (kept kinds.Source input keeping)
+source_left told input keeping left name other is =
+    let same : Some keeping ≡ Some other = ap kept_in is in
+    ap (λ (k : Keeping). k.left) (sym (same_Some keeping other same)) ∙ left ∙ ap told.names (ap (λ (e : Opening). e.name) is)
+
+-- ---- both names
+
+-- what became of both: each was opened and taken back, or not, and failed or not
+pub record BothKept (input out : List ℕ) (old new : WorldState) (entries : List Opening) (input_failed out_failed : Bool) : Type 0 where
+  pub opened : AreOpened (wanted (both_names input out)) entries
+  pub leaves : Leaves old new entries
+  pub counts : CountsKept old new entries
+  pub names_are : failed_names entries ≡ named_when input_failed input ++ (named_when out_failed out ++ [])
+  pub input_cause : input_failed ≡ true → Rose old.faults new.faults ⊎ Rose old.input_faults new.input_faults
+  pub out_cause : out_failed ≡ true → Rose old.faults new.faults ⊎ Rose old.output_faults new.output_faults
+  pub inputs_told : old.input_faults < 2 ^ 64 - 1 → Rose old.input_faults new.input_faults → input_failed ≡ true
+  pub outputs_told : old.output_faults < 2 ^ 64 - 1 → Rose old.output_faults new.output_faults → out_failed ≡ true
+  pub world_told : old.faults < 2 ^ 64 - 1 → Rose old.faults new.faults → (input_failed ≡ true) ⊎ (out_failed ≡ true)
+
+-- the same of a list of one
+pub as_names : (input out : List ℕ) (old new : WorldState) (entries : List Opening) (input_failed out_failed : Bool) → BothKept input out old new entries input_failed out_failed → NamesKept (both_names input out) old new entries (input_failed ∷ []) out_failed
+as_names input out old new entries input_failed out_failed it =
+    let one = one_failed input_failed in
+    record {
+      opened = it.opened;
+      leaves = it.leaves;
+      counts = it.counts;
+      few = omega arith;
+      names_are = it.names_are;
+      input_cause = λ is. it.input_cause (sym one ∙ is);
+      out_cause = it.out_cause;
+      inputs_told = λ on rose. one ∙ it.inputs_told on rose;
+      outputs_told = it.outputs_told;
+      world_told = λ on rose. elim (it.world_told on rose) [ inl is ↦ inl (one ∙ is) | inr is ↦ inr is ];
+    }
 
 -- what became of both names where not both were given
 pub record NotGiven (input out : List ℕ) (old new : WorldState) (entries : List Opening) (input_failed out_failed : Bool) : Type 0 where
-  pub names : BothNamesKept input out old new entries input_failed out_failed
-  pub unreached : BothUnreached input out old new entries
+  pub names : BothKept input out old new entries input_failed out_failed
+  pub unreached : Unreached out old new entries
 
 -- ---- the input wasn't given
 
@@ -63,9 +121,12 @@ no_input_failed input out old new opens stand rises inputs_fit outputs_fit =
         world_told = λ on rose. inl refl;
       };
       unreached = record {
-        inputs = refl;
-        outputs = refl;
-        left = λ keeping more told is here. refused_first _ input keeping [] more is;
+        unread = record {
+          inputs = refl;
+          outputs = refl;
+          unasked = each_one IsUnasked (refused kinds.Source input) (refused_unasked kinds.Source input);
+          left = λ told here. each_one (LeftUnderName told) (refused kinds.Source input) (refused_left told kinds.Source input);
+        };
         file = λ told now here here_now. holds_same out old new entries same told now here here_now;
       };
     }
@@ -87,24 +148,27 @@ no_input_memory input out old new told_on stand still world_fits inputs_fit outp
         world_told = λ on rose. not_risen _ old.faults new.faults on still rose;
       };
       unreached = record {
-        inputs = refl;
-        outputs = refl;
-        left = λ keeping more told is here. none_first _ (kept kinds.Source input keeping) more is;
+        unread = record {
+          inputs = refl;
+          outputs = refl;
+          unasked = each_none IsUnasked;
+          left = λ told here. each_none (LeftUnderName told);
+        };
         file = λ told now here here_now. holds_same out old new [] same told now here here_now;
       };
     }
 
-pub no_input : (input out : List ℕ) (old new : WorldState) (why : OpenRefused) (failed : Bool) → Opens {T = Unit} old new kinds.Source input (Err why) → CountsStand old new → OpenCause {T = Unit} old.faults new.faults (Err why)
-    → (failed ≡ true → why ≡ open_refusals.Failed) → (failed ≡ false → why ≡ open_refusals.Memory) → old.faults < 2 ^ 64 → old.input_faults < 2 ^ 64 → old.output_faults < 2 ^ 64 → NotGiven input out old new (no_entries input failed) failed false
-no_input input out old new open_refusals.Failed true opens stand cause is_failed is_memory world_fits inputs_fit outputs_fit = no_input_failed input out old new opens stand cause inputs_fit outputs_fit
-no_input input out old new open_refusals.Failed false opens stand cause is_failed is_memory world_fits inputs_fit outputs_fit = absurd (let e = is_memory refl in cc)
-no_input input out old new open_refusals.Memory true opens stand cause is_failed is_memory world_fits inputs_fit outputs_fit = absurd (let e = is_failed refl in cc)
-no_input input out old new open_refusals.Memory false opens stand cause is_failed is_memory world_fits inputs_fit outputs_fit = no_input_memory input out old new opens stand cause world_fits inputs_fit outputs_fit
+pub no_input : (input out : List ℕ) (old new : WorldState) (why : OutsideRefused) (failed : Bool) → Opens {T = Unit} old new kinds.Source input (Err why) → CountsStand old new → OpenCause {T = Unit} old.faults new.faults (Err why)
+    → (failed ≡ true → why ≡ outside_refusals.Failed) → (failed ≡ false → why ≡ outside_refusals.Memory) → old.faults < 2 ^ 64 → old.input_faults < 2 ^ 64 → old.output_faults < 2 ^ 64 → NotGiven input out old new (no_entries input failed) failed false
+no_input input out old new outside_refusals.Failed true opens stand cause is_failed is_memory world_fits inputs_fit outputs_fit = no_input_failed input out old new opens stand cause inputs_fit outputs_fit
+no_input input out old new outside_refusals.Failed false opens stand cause is_failed is_memory world_fits inputs_fit outputs_fit = absurd (let e = is_memory refl in cc)
+no_input input out old new outside_refusals.Memory true opens stand cause is_failed is_memory world_fits inputs_fit outputs_fit = absurd (let e = is_failed refl in cc)
+no_input input out old new outside_refusals.Memory false opens stand cause is_failed is_memory world_fits inputs_fit outputs_fit = no_input_memory input out old new opens stand cause world_fits inputs_fit outputs_fit
 
 -- ---- the input was given, and not the output
 
 -- what was seen of the world at each of the calls: the source was opened, the output refused, the source taken back
-pub record InputAlone (input out : List ℕ) (w0 w1 w2 w3 : WorldState) (source : SourceState) (why : OpenRefused) (result : Result Unit Failed) : Type 0 where
+pub record InputAlone (input out : List ℕ) (w0 w1 w2 w3 : WorldState) (source : SourceState) (why : OutsideRefused) (result : Result Unit Failed) : Type 0 where
   pub opens : w1.told ≡ option_map (λ (t : Told). with_opening t (given input)) w0.told
   pub stands : CountsStand w0 w1
   pub still : w1.faults ≡ w0.faults
@@ -125,7 +189,7 @@ abbrev pub alone_entries : List ℕ → List ℕ → SourceState → Result Unit
 alone_entries input out source result true = kept kinds.Source input (source_keeping source result) ∷ refused kinds.Live out ∷ []
 alone_entries input out source result false = kept kinds.Source input (source_keeping source result) ∷ []
 
-module _ (input out : List ℕ) (w0 w1 w2 w3 : WorldState) (source : SourceState) (why : OpenRefused) (result : Result Unit Failed) (a : InputAlone input out w0 w1 w2 w3 source why result) where
+module _ (input out : List ℕ) (w0 w1 w2 w3 : WorldState) (source : SourceState) (why : OutsideRefused) (result : Result Unit Failed) (a : InputAlone input out w0 w1 w2 w3 source why result) where
   abbrev keeping : Keeping
   keeping = source_keeping source result
 
@@ -141,8 +205,8 @@ module _ (input out : List ℕ) (w0 w1 w2 w3 : WorldState) (source : SourceState
   abbrev source_failed : Bool
   source_failed = failed_so (went_well result) source.faults
 
-  left_there : (more others : List Opening) (k : Keeping) (told : Told) → source_kept ∷ more ≡ kept kinds.Source input k ∷ others → w0.told ≡ Some told → k.left ≡ told.names input
-  left_there more others k told is here = ap (λ (x : Keeping). x.left) (sym (same_kept input keeping k more others is)) ∙ (a.tells told here).0
+  left_there : (told : Told) → w0.told ≡ Some told → LeftUnderName told source_kept
+  left_there told here = source_left told input keeping (a.tells told here).0
 
   alone_failed : w2.told ≡ option_map (λ (t : Told). with_opening t (refused kinds.Live out)) w1.told → RisesOnce w1.faults w2.faults → NotGiven input out w0 w3 (alone_entries input out source result true) source_failed true
   alone_failed refuses rises =
@@ -169,9 +233,12 @@ module _ (input out : List ℕ) (w0 w1 w2 w3 : WorldState) (source : SourceState
           world_told = λ on rose. inr refl;
         };
         unreached = record {
-          inputs = omega (arith, a.unused);
-          outputs = refl;
-          left = λ k more told is here. left_there (refused kinds.Live out ∷ []) more k told is here;
+          unread = record {
+            inputs = omega (arith, a.unused);
+            outputs = refl;
+            unasked = each_pair IsUnasked source_kept (refused kinds.Live out) (source_unasked input source result) (refused_unasked kinds.Live out);
+            left = λ told here. each_pair (LeftUnderName told) source_kept (refused kinds.Live out) (left_there told here) (refused_left told kinds.Live out);
+          };
           file = λ told now here here_now. holds_same out w0 w3 entries same told now here here_now;
         };
       }
@@ -198,19 +265,22 @@ module _ (input out : List ℕ) (w0 w1 w2 w3 : WorldState) (source : SourceState
           world_told = λ on rose. inl (keeping_shows w0.faults w3.faults source.faults result on since rose);
         };
         unreached = record {
-          inputs = omega (arith, a.unused);
-          outputs = refl;
-          left = λ k more told is here. left_there [] more k told is here;
+          unread = record {
+            inputs = omega (arith, a.unused);
+            outputs = refl;
+            unasked = each_one IsUnasked source_kept (source_unasked input source result);
+            left = λ told here. each_one (LeftUnderName told) source_kept (left_there told here);
+          };
           file = λ told now here here_now. holds_same out w0 w3 entries same told now here here_now;
         };
       }
 
-pub alone : (input out : List ℕ) (w0 w1 w2 w3 : WorldState) (source : SourceState) (why : OpenRefused) (result : Result Unit Failed) (failed : Bool) → InputAlone input out w0 w1 w2 w3 source why result
-    → (failed ≡ true → why ≡ open_refusals.Failed) → (failed ≡ false → why ≡ open_refusals.Memory) → NotGiven input out w0 w3 (alone_entries input out source result failed) (failed_so (went_well result) source.faults) failed
-alone input out w0 w1 w2 w3 source open_refusals.Failed result true a is_failed is_memory = alone_failed input out w0 w1 w2 w3 source open_refusals.Failed result a a.refuses a.refused_cause
-alone input out w0 w1 w2 w3 source open_refusals.Failed result false a is_failed is_memory = absurd (let e = is_memory refl in cc)
-alone input out w0 w1 w2 w3 source open_refusals.Memory result true a is_failed is_memory = absurd (let e = is_failed refl in cc)
-alone input out w0 w1 w2 w3 source open_refusals.Memory result false a is_failed is_memory = alone_memory input out w0 w1 w2 w3 source open_refusals.Memory result a a.refuses a.refused_cause
+pub alone : (input out : List ℕ) (w0 w1 w2 w3 : WorldState) (source : SourceState) (why : OutsideRefused) (result : Result Unit Failed) (failed : Bool) → InputAlone input out w0 w1 w2 w3 source why result
+    → (failed ≡ true → why ≡ outside_refusals.Failed) → (failed ≡ false → why ≡ outside_refusals.Memory) → NotGiven input out w0 w3 (alone_entries input out source result failed) (failed_so (went_well result) source.faults) failed
+alone input out w0 w1 w2 w3 source outside_refusals.Failed result true a is_failed is_memory = alone_failed input out w0 w1 w2 w3 source outside_refusals.Failed result a a.refuses a.refused_cause
+alone input out w0 w1 w2 w3 source outside_refusals.Failed result false a is_failed is_memory = absurd (let e = is_memory refl in cc)
+alone input out w0 w1 w2 w3 source outside_refusals.Memory result true a is_failed is_memory = absurd (let e = is_failed refl in cc)
+alone input out w0 w1 w2 w3 source outside_refusals.Memory result false a is_failed is_memory = alone_memory input out w0 w1 w2 w3 source outside_refusals.Memory result a a.refuses a.refused_cause
 
 -- ---- both were given
 
@@ -285,7 +355,7 @@ module _ (input out : List ℕ) (w0 w1 w2 w3 w4 : WorldState) (source source_now
   pub nothing_yet : (told : Told) → w0.told ≡ Some told → live.held ≡ Some []
   nothing_yet told here = b.nothing (with_opening told (given input)) (tells_more w0.told w1.told (given input) told b.opens here)
 
-  pub both_kept : BothNamesKept input out w0 w4 both_entries (failed_so (went_well source_kept) source_now.faults) (failed_so (went_well live_kept) live_now.faults)
+  pub both_kept : BothKept input out w0 w4 both_entries (failed_so (went_well source_kept) source_now.faults) (failed_so (went_well live_kept) live_now.faults)
   both_kept = record {
     opened = inr (in_keeping, refl, inr (out_keeping, refl, refl));
     leaves = λ told here. let t = both_told told here in (t.0, t.1, t.3, others_unwritten (kept kinds.Source input in_keeping) out out_keeping told.names t.0.names t.2.others);

@@ -1,6 +1,6 @@
 -- What the opening, the recovery and the keeping of both names come to, and what is promised of the command.
 use Rattle.std.proofs.Common.{◌≡◌, ◌⊎◌, ℕ, Bool, List, [], ◌∷◌, Option, Some, Result, Ok, Err, refl, sym, ap, subst, inl, inr, ◌∙◌, arith}
-use Rattle.std.specs.Prelude.{true, false}
+use Rattle.std.specs.Prelude.{true, false, ◌||◌}
 use Rattle.std.proofs.lemmas.Option.{same_Some}
 use Rattle.mcap_io.specs.Outside.{Told, Opening, Names, SourceState, LiveState, SinkState, WorldState}
 use Rattle.mcap_io.specs.OutsideCalls.{went_well, PlacedUnder, WritesAll}
@@ -22,40 +22,57 @@ use Rattle.mcap_model.specs.declared.refusals.ReadingRefused.TheVariants as scan
 use Rattle.mcap_recover.specs.Recovering.{lacks, recovered_options, OfBoth, StandsPart, IsUnrecovered, Recovers}
 use Rattle.chunk_writer.specs.declared.tape.Written.{Written}
 use Rattle.chunk_writer.specs.Stops.{StopsAt, StopCause}
-use Rattle.command_base.specs.Printing.{Tells, Takes}
-use Rattle.command_base.specs.Ran.{Scene, counts_in, failed_so, troubles_of, Complains}
+use Rattle.command_base.specs.Printing.{TellsAll, Tells, Takes}
+use Rattle.command_base.specs.declared.statuses.Status.{Status}
+use Rattle.command_base.specs.declared.statuses.Status.TheVariants as statuses
+use Rattle.command_base.specs.Texts.{grammar}
+use Rattle.command_base.specs.Ran.{Scene, failed_so, failed_names}
 use Rattle.command_base.proofs.Counting.{failed_often}
 use Rattle.output_commands.specs.declared.recovering.Recovery.{Recovery}
 use Rattle.output_commands.specs.declared.recovering.Recovery.TheVariants as recoveries
 use Rattle.output_commands.specs.declared.recovering.Restored.{Restored}
-use Rattle.output_commands.specs.declared.failures.Failures.{Failures}
-use Rattle.output_commands.specs.OneOutput.{halted, rewritten_text, rewritten_findings, input_and_output, failed_rewrite, failing, rewritten_status, ReadsOneWritesOne}
-use Rattle.output_commands.specs.OneOutputSteps.{HaltsByRule, FaultsShow, unopened_recovery, NamesRecovered}
-use Rattle.output_commands.specs.Recover.{IsPlaced, HoldsPart, UnreadHolds, RecoveryOutputHolds, BothReached, RefusesRecovery, recovery_of, IsRecovery, unread_ending, stopped_ending, ending_of_recovery, number_after_name, recovered_line, ReadingDecides, RecoveryStopDecides, RecoveryDecides, RecoversFile}
-use Rattle.output_commands.proofs.Names.{NotGiven, no_entries, alone_entries, BothGiven, both_entries, both_placed, nothing_yet, both_kept}
-use Rattle.output_commands.proofs.OneOutput.{reads_one_writes_one, not_two}
+use Rattle.output_base.specs.Endings.{writing_status, IsWritingDone}
+use Rattle.output_base.specs.OutputSteps.{HaltsByInput, NamesEnd}
+use Rattle.output_base.specs.Outputs.{WritesOutput}
+use Rattle.output_base.proofs.Endings.{halts_well, none_halts_well}
+use Rattle.output_commands.specs.Recover.{IsPlaced, HoldsPart, UnreadHolds, RecoveryOutputHolds, BothReached, RefusesRecovery, recovery_of, IsRecovery, unread_ending, stopped_ending, ending_of_recovery, number_after_name, recovered_line, both_names, ReadingDecides, RecoveryStopDecides, RecoveryDecides, RecoversFile}
+use Rattle.output_commands.specs.RecoverSteps.{unopened_recovery, NamesRecovered}
+use Rattle.output_commands.proofs.Names.{BothKept, as_names, NotGiven, no_entries, alone_entries, BothGiven, both_entries, both_placed, nothing_yet, both_kept}
 
 -- ---- endings
 
 -- only a source that doesn't begin with the magic halts
-well : (input : List ℕ) (recovery : Recovery) → HaltsByRule (ending_of_recovery input recovery)
-well input recoveries.Unopened trouble e = absurd cc
-well input (recoveries.Made r) trouble e = absurd cc
-well input (recoveries.Refused refusals.NoMagic) trouble e = cc
-well input (recoveries.Refused (refusals.Refused why)) trouble e = absurd (unread why e)
+well : (input : List ℕ) (recovery : Recovery) → HaltsByInput (input ∷ []) (ending_of_recovery input recovery)
+well input recoveries.Unopened = none_halts_well (input ∷ []) _ refl
+well input (recoveries.Made r) = none_halts_well (input ∷ []) _ refl
+well input (recoveries.Refused refusals.NoMagic) = halts_well (input ∷ []) 0 (grammar input 0) (omega arith) (inl refl)
+well input (recoveries.Refused (refusals.Refused why)) = unread why
   where
-    unread : (w : ReadingRefused) → unread_ending w ≡ halted trouble → ⊥
-    unread (scans.Fault faults) is = cc
-    unread (scans.Grammar offset rule) is = cc
-    unread (scans.Compressed offset name) is = cc
-    unread (scans.Limit offset) is = cc
-    unread scans.Memory is = cc
-well input (recoveries.Refused (refusals.Stopped stop)) trouble e = absurd (unwritten stop e)
+    unread : (w : ReadingRefused) → HaltsByInput (input ∷ []) (unread_ending w)
+    unread (scans.Fault faults) = none_halts_well (input ∷ []) _ refl
+    unread (scans.Grammar offset rule) = none_halts_well (input ∷ []) _ refl
+    unread (scans.Compressed offset name) = none_halts_well (input ∷ []) _ refl
+    unread (scans.Limit offset) = none_halts_well (input ∷ []) _ refl
+    unread scans.Memory = none_halts_well (input ∷ []) _ refl
+well input (recoveries.Refused (refusals.Stopped stop)) = unwritten stop
   where
-    unwritten : (s : Stop) → stopped_ending s ≡ halted trouble → ⊥
-    unwritten (stops.Fault faults) is = cc
-    unwritten (stops.Limit blocks bytes) is = cc
-    unwritten stops.Memory is = cc
+    unwritten : (s : Stop) → HaltsByInput (input ∷ []) (stopped_ending s)
+    unwritten (stops.Fault faults) = none_halts_well (input ∷ []) _ refl
+    unwritten (stops.Limit blocks bytes) = none_halts_well (input ∷ []) _ refl
+    unwritten stops.Memory = none_halts_well (input ∷ []) _ refl
+
+-- how both names end, where a failure of one is told where the recovery failed
+ends_so : (input out : List ℕ) (old new : WorldState) (entries : List Opening) (input_failed out_failed : Bool) (recovery : Recovery) → BothKept input out old new entries input_failed out_failed
+    → ((ending_of_recovery input recovery).fails ≡ true → (input_failed ≡ true) ⊎ (out_failed ≡ true)) → NamesEnd (both_names input out) old new entries (input_failed ∷ []) out_failed (λ some. ending_of_recovery input recovery)
+ends_so input out old new entries input_failed out_failed recovery names sure = record {
+  names = as_names input out old new entries input_failed out_failed names;
+  well = λ some. well input recovery;
+  sure = λ some e. elim (sure e) [ inl is ↦ inl (either input_failed is) | inr is ↦ inr (inl is) ];
+}
+  where
+    either : (failed : Bool) → failed ≡ true → (failed || false) ≡ true
+    either true is = refl
+    either false is = absurd cc
 
 -- ---- what the output holds
 
@@ -147,12 +164,12 @@ output_holds chunk source back live stored (Err (refusals.Stopped stop)) bytes o
 
 -- where the recovery failed, the source did or the store
 fault_shows : (input : List ℕ) (chunk : ℕ) (source back : SourceState) (live stored : LiveState) (answer : Result Recovered RecoverRefused) (first second : Bool) → Recovers chunk source back live stored answer
-    → source.faults ≡ 0 → live.faults ≡ 0 → ending_of_recovery input (recovery_of answer) ≡ failing → (failed_so first back.faults ≡ true) ⊎ (failed_so second stored.faults ≡ true)
+    → source.faults ≡ 0 → live.faults ≡ 0 → (ending_of_recovery input (recovery_of answer)).fails ≡ true → (failed_so first back.faults ≡ true) ⊎ (failed_so second stored.faults ≡ true)
 fault_shows input chunk source back live stored (Ok r) first second it unused new e = absurd cc
 fault_shows input chunk source back live stored (Err refusals.NoMagic) first second it unused new e = absurd cc
 fault_shows input chunk source back live stored (Err (refusals.Refused why)) first second it unused new e = unread why it e
   where
-    unread : (w : ReadingRefused) → IsUnrecovered chunk source back live stored w → unread_ending w ≡ failing → (failed_so first back.faults ≡ true) ⊎ (failed_so second stored.faults ≡ true)
+    unread : (w : ReadingRefused) → IsUnrecovered chunk source back live stored w → (unread_ending w).fails ≡ true → (failed_so first back.faults ≡ true) ⊎ (failed_so second stored.faults ≡ true)
     unread (scans.Fault faults) (rises, carried, still, changed, part) is = inl (failed_often first back.faults (λ none. let once = rises.once in omega (arith, once, none, unused)))
     unread (scans.Grammar offset rule) none is = absurd none
     unread (scans.Compressed offset name) none is = absurd none
@@ -160,7 +177,7 @@ fault_shows input chunk source back live stored (Err (refusals.Refused why)) fir
     unread scans.Memory lacking is = absurd cc
 fault_shows input chunk source back live stored (Err (refusals.Stopped stop)) first second it unused new e = unwritten stop it.store e
   where
-    unwritten : (s : Stop) → StopCause live.faults stored.faults s → stopped_ending s ≡ failing → (failed_so first back.faults ≡ true) ⊎ (failed_so second stored.faults ≡ true)
+    unwritten : (s : Stop) → StopCause live.faults stored.faults s → (stopped_ending s).fails ≡ true → (failed_so first back.faults ≡ true) ⊎ (failed_so second stored.faults ≡ true)
     unwritten (stops.Fault faults) (rises, carried) is = inr (failed_often second stored.faults (λ none. let once = rises.once in omega (arith, once, none, new)))
     unwritten (stops.Limit blocks bytes) still is = absurd cc
     unwritten stops.Memory still is = absurd cc
@@ -189,13 +206,14 @@ both_recovered chunk input out w0 w1 w2 w3 w4 source back live stored source_kep
     record {
       entries = both_entries input out w0 w1 w2 w3 w4 source back live stored source_kept live_kept b;
       comes = inr (answer, refl, reached);
-      names = both_kept input out w0 w1 w2 w3 w4 source back live stored source_kept live_kept b;
-      sure = fault_shows input chunk source back live stored answer (went_well source_kept) (went_well live_kept) it b.unused b.new;
+      ends = ends_so input out w0 w4 (both_entries input out w0 w1 w2 w3 w4 source back live stored source_kept live_kept b) (failed_so (went_well source_kept) back.faults) (failed_so (went_well live_kept) stored.faults) (recovery_of answer)
+          (both_kept input out w0 w1 w2 w3 w4 source back live stored source_kept live_kept b)
+          (fault_shows input chunk source back live stored answer (went_well source_kept) (went_well live_kept) it b.unused b.new);
     }
 
 -- ---- not both were given
 
-unmade_sure : (input : List ℕ) (failed other : Bool) → ending_of_recovery input (unopened_recovery failed) ≡ failing → (failed ≡ true) ⊎ (other ≡ true)
+unmade_sure : (input : List ℕ) (failed other : Bool) → (ending_of_recovery input (unopened_recovery failed)).fails ≡ true → (failed ≡ true) ⊎ (other ≡ true)
 unmade_sure input true other e = inl refl
 unmade_sure input false other e = absurd cc
 
@@ -208,8 +226,7 @@ pub none_recovered : (chunk : ℕ) (input out : List ℕ) (old new : WorldState)
 none_recovered chunk input out old new failed it = record {
   entries = no_entries input failed;
   comes = inl (refusal_first input failed, it.unreached);
-  names = it.names;
-  sure = unmade_sure input failed false;
+  ends = ends_so input out old new (no_entries input failed) failed false (unopened_recovery failed) it.names (unmade_sure input failed false);
 }
 
 refusal_second : (input out : List ℕ) (source : SourceState) (result : Result Unit Failed) (failed : Bool) → RefusesRecovery (alone_entries input out source result failed) (unopened_recovery failed)
@@ -225,26 +242,25 @@ pub alone_recovered : (chunk : ℕ) (input out : List ℕ) (old new : WorldState
 alone_recovered chunk input out old new source result input_failed failed it = record {
   entries = alone_entries input out source result failed;
   comes = inl (refusal_second input out source result failed, it.unreached);
-  names = it.names;
-  sure = λ e. swapped (unmade_sure input failed input_failed e);
+  ends = ends_so input out old new (alone_entries input out source result failed) input_failed failed (unopened_recovery failed) it.names (λ e. swapped (unmade_sure input failed input_failed e));
 }
 
 -- ---- the bytes decide
 
 -- a refused opening failed, or memory lacked for it
-refusal_decides : (input bytes : List ℕ) (entries : List Opening) (recovery : Recovery) (status : ℕ) → RefusesRecovery entries recovery → (ending_of_recovery input recovery ≡ failing → ⊥) → (recovery ≡ recoveries.Refused lacks → status ≡ 5) → RecoveryDecides bytes recovery status
+refusal_decides : (input bytes : List ℕ) (entries : List Opening) (recovery : Recovery) (status : Status) → RefusesRecovery entries recovery → ((ending_of_recovery input recovery).fails ≡ true → ⊥) → (recovery ≡ recoveries.Refused lacks → status ≡ statuses.Memory) → RecoveryDecides bytes recovery status
 refusal_decides input bytes [] recovery status is other five = subst (λ (r : Recovery). RecoveryDecides bytes r status) (sym is) (five is)
-refusal_decides input bytes (entry ∷ []) recovery status (inl is) other five = absurd (other (ap (ending_of_recovery input) is.1))
+refusal_decides input bytes (entry ∷ []) recovery status (inl is) other five = absurd (other (ap (λ (r : Recovery). (ending_of_recovery input r).fails) is.1))
 refusal_decides input bytes (entry ∷ []) recovery status (inr is) other five = subst (λ (r : Recovery). RecoveryDecides bytes r status) (sym is.1) (five is.1)
-refusal_decides input bytes (entry ∷ next ∷ more) recovery status is other five = absurd (other (ap (ending_of_recovery input) is.1))
+refusal_decides input bytes (entry ∷ next ∷ more) recovery status is other five = absurd (other (ap (λ (r : Recovery). (ending_of_recovery input r).fails) is.1))
 
-reached_decides : (chunk : ℕ) (input out bytes : List ℕ) (old new : WorldState) (entries : List Opening) (answer : Result Recovered RecoverRefused) (told : Told) (status : ℕ) → BothReached chunk input out old new entries answer → old.told ≡ Some told → told.names input ≡ Some bytes
-    → (ending_of_recovery input (recovery_of answer) ≡ failing → ⊥) → status ≡ rewritten_status (ending_of_recovery input (recovery_of answer)) → RecoveryDecides bytes (recovery_of answer) status
+reached_decides : (chunk : ℕ) (input out bytes : List ℕ) (old new : WorldState) (entries : List Opening) (answer : Result Recovered RecoverRefused) (told : Told) (status : Status) → BothReached chunk input out old new entries answer → old.told ≡ Some told → told.names input ≡ Some bytes
+    → ((ending_of_recovery input (recovery_of answer)).fails ≡ true → ⊥) → status ≡ writing_status (ending_of_recovery input (recovery_of answer)) → RecoveryDecides bytes (recovery_of answer) status
 reached_decides chunk input out bytes old new entries (Ok r) told status it here there other is = (it.recovers.magic bytes ((it.tells told here).0 ∙ there), is)
 reached_decides chunk input out bytes old new entries (Err refusals.NoMagic) told status it here there other is = (it.recovers.0 bytes ((it.tells told here).0 ∙ there), is)
 reached_decides chunk input out bytes old new entries (Err (refusals.Refused why)) told status it here there other is = unread why it.recovers other is
   where
-    unread : (w : ReadingRefused) → IsUnrecovered chunk it.source it.back it.live it.stored w → (unread_ending w ≡ failing → ⊥) → status ≡ rewritten_status (unread_ending w) → ReadingDecides w status
+    unread : (w : ReadingRefused) → IsUnrecovered chunk it.source it.back it.live it.stored w → ((unread_ending w).fails ≡ true → ⊥) → status ≡ writing_status (unread_ending w) → ReadingDecides w status
     unread (scans.Fault faults) failed others same = absurd (others refl)
     unread (scans.Grammar offset rule) none others same = absurd none
     unread (scans.Compressed offset name) none others same = absurd none
@@ -252,54 +268,71 @@ reached_decides chunk input out bytes old new entries (Err (refusals.Refused why
     unread scans.Memory lacking others same = same
 reached_decides chunk input out bytes old new entries (Err (refusals.Stopped stop)) told status it here there other is = unwritten stop other is
   where
-    unwritten : (s : Stop) → (stopped_ending s ≡ failing → ⊥) → status ≡ rewritten_status (stopped_ending s) → RecoveryStopDecides bytes s status
+    unwritten : (s : Stop) → ((stopped_ending s).fails ≡ true → ⊥) → status ≡ writing_status (stopped_ending s) → RecoveryStopDecides bytes s status
     unwritten (stops.Fault faults) others same = absurd (others refl)
     unwritten (stops.Limit blocks written) others same = (it.recovers.magic bytes ((it.tells told here).0 ∙ there), same)
     unwritten stops.Memory others same = same
 
-decides : (chunk : ℕ) (input out bytes : List ℕ) (old new : WorldState) (entries : List Opening) (recovery : Recovery) (told : Told) (status : ℕ) → IsRecovery chunk input out old new entries recovery → old.told ≡ Some told → told.names input ≡ Some bytes
-    → (ending_of_recovery input recovery ≡ failing → ⊥) → status ≡ rewritten_status (ending_of_recovery input recovery) → RecoveryDecides bytes recovery status
+decides : (chunk : ℕ) (input out bytes : List ℕ) (old new : WorldState) (entries : List Opening) (recovery : Recovery) (told : Told) (status : Status) → IsRecovery chunk input out old new entries recovery → old.told ≡ Some told → told.names input ≡ Some bytes
+    → ((ending_of_recovery input recovery).fails ≡ true → ⊥) → status ≡ writing_status (ending_of_recovery input recovery) → RecoveryDecides bytes recovery status
 decides chunk input out bytes old new entries recovery told status (inl none) here there other is =
-    refusal_decides input bytes entries recovery status none.0 other (λ memory. is ∙ ap (λ (r : Recovery). rewritten_status (ending_of_recovery input r)) memory)
+    refusal_decides input bytes entries recovery status none.0 other (λ memory. is ∙ ap (λ (r : Recovery). writing_status (ending_of_recovery input r)) memory)
 decides chunk input out bytes old new entries recovery told status (inr (answer, same, reached)) here there other is =
     subst (λ (r : Recovery). RecoveryDecides bytes r status) (sym same)
-    (reached_decides chunk input out bytes old new entries answer told status reached here there (λ e. other (ap (ending_of_recovery input) same ∙ e)) (is ∙ ap (λ (r : Recovery). rewritten_status (ending_of_recovery input r)) same))
+    (reached_decides chunk input out bytes old new entries answer told status reached here there (λ e. other (ap (λ (r : Recovery). (ending_of_recovery input r).fails) same ∙ e)) (is ∙ ap (λ (r : Recovery). writing_status (ending_of_recovery input r)) same))
 
 -- ---- the command
 
--- what its calls came to
-pub record CallsAre (chunk : ℕ) (input out : List ℕ) (old new : Scene) (restored : Restored) (failed : Failures) (answer : ℕ) : Type 0 where
-  pub names : NamesRecovered chunk input out old.world new.world restored
-  pub takes : Takes old.out new.out (rewritten_text (ending_of_recovery input restored.recovery))
-  pub shows : FaultsShow (counts_in old) (counts_in new) restored.input_failed restored.out_failed failed
-  pub told : Complains (troubles_of (input_and_output input out) (rewritten_findings out (ending_of_recovery input restored.recovery)) (failed_rewrite failed.input failed.out) failed.printing) old.err new.err answer
-
 -- all that is promised of it
-pub recovered : (chunk : ℕ) (input out : List ℕ) (old new : Scene) (restored : Restored) (failed : Failures) (answer : ℕ) → CallsAre chunk input out old new restored failed answer → RecoversFile chunk input out old new answer
-recovered chunk input out old new restored failed answer calls =
-    let recovery = restored.recovery in
-    let ran : ReadsOneWritesOne input out old new calls.names.entries (ending_of_recovery input recovery) answer =
-    reads_one_writes_one input out old new calls.names.entries (ending_of_recovery input recovery) restored.input_failed restored.out_failed failed answer (record {
-      names = calls.names.names;
-      sure = calls.names.sure;
-      well = well input recovery;
-      takes = calls.takes;
-      shows = calls.shows;
-      told = calls.told;
-    }) in
-    record {
-      entries = calls.names.entries;
-      recovery = recovery;
-      comes = calls.names.comes;
-      ran = ran;
-      decided = λ told bytes here there quiet.
-          let (unnamed, other, is) = ran.calm quiet in
-          decides chunk input out bytes old.world new.world calls.names.entries recovery told answer calls.names.comes here there other is;
-    }
+pub recovered : (chunk : ℕ) (input out : List ℕ) (old new : Scene) (restored : Restored) (answer : Status) → (names : NamesRecovered chunk input out old.world new.world restored)
+    → WritesOutput (both_names input out) old new names.entries (λ some. ending_of_recovery input restored.recovery) answer → RecoversFile chunk input out old new answer
+recovered chunk input out old new restored answer names writes = record {
+  entries = names.entries;
+  recovery = restored.recovery;
+  comes = names.comes;
+  ran = writes.ran;
+  decided = λ told bytes here there quiet.
+      let (unnamed, other, is) = writes.ran.calm quiet in
+      decides chunk input out bytes old.world new.world names.entries restored.recovery told answer names.comes here there other is;
+}
 
--- the status of a recovery is not that of bad words
-pub recovers_not_two : (chunk : ℕ) (input out : List ℕ) (old new : Scene) (answer : ℕ) → RecoversFile chunk input out old new answer → answer ≡ 2 → ⊥
-recovers_not_two chunk input out old new answer all two = not_two input out old new all.entries (ending_of_recovery input all.recovery) answer (well input all.recovery) all.ran two
+-- a recovery of which all was done was made
+done_made : (input : List ℕ) (recovery : Recovery) → IsWritingDone (ending_of_recovery input recovery) → (r : Recovered) × (recovery ≡ recoveries.Made r)
+done_made input recoveries.Unopened done = absurd (let fails = done.well in cc)
+done_made input (recoveries.Made r) done = (r, refl)
+done_made input (recoveries.Refused refusals.NoMagic) done = absurd (let read = done.read in cc)
+done_made input (recoveries.Refused (refusals.Refused why)) done = absurd (unread why done)
+  where
+    unread : (w : ReadingRefused) → IsWritingDone (unread_ending w) → ⊥
+    unread (scans.Fault faults) it = let fails = it.well in cc
+    unread (scans.Grammar offset rule) it = let fails = it.well in cc
+    unread (scans.Compressed offset name) it = let fails = it.well in cc
+    unread (scans.Limit offset) it = let fails = it.well in cc
+    unread scans.Memory it = let lacks_some = it.memory in cc
+done_made input (recoveries.Refused (refusals.Stopped stop)) done = absurd (unwritten stop done)
+  where
+    unwritten : (s : Stop) → IsWritingDone (stopped_ending s) → ⊥
+    unwritten (stops.Fault faults) it = let fails = it.well in cc
+    unwritten (stops.Limit blocks bytes) it = let passes = it.within in cc
+    unwritten stops.Memory it = let lacks_some = it.memory in cc
+
+-- where all was done no name failed, a recovery was made, and all of its line was taken
+pub record WasRecovered (old new : Scene) (entries : List Opening) (recovery : Recovery) : Type 0 where
+  pub unfailed : failed_names entries ≡ []
+  pub recovered : Recovered
+  pub is : recovery ≡ recoveries.Made recovered
+  pub line : TellsAll old.out new.out (recovered_line recovered)
+
+pub was_recovered : (chunk : ℕ) (input out : List ℕ) (old new : Scene) (it : RecoversFile chunk input out old new statuses.Done) → WasRecovered old new it.entries it.recovery
+was_recovered chunk input out old new it =
+    let (none, done, taken) = it.ran.whole refl in
+    let (r, is) = done_made input it.recovery done in
+    record {
+      unfailed = none;
+      recovered = r;
+      is = is;
+      line = subst (λ (x : Recovery). TellsAll old.out new.out (ending_of_recovery input x).text) is taken;
+    }
 
 -- ---- the line
 
@@ -317,7 +350,7 @@ wrote before now line (Ok it) all = inl (record { still = all.0; adds = all.1 })
 wrote before now line (Err short) part = inr (record { rises = part.0; adds = λ start is. let took = part.2 start is in (took.0, omega arith, took.2, took.3) })
 
 -- what was printed of a recovery that was made
-pub takes_line : (before now : SinkState) (input line : List ℕ) (result : Result Unit Short) (recovery : Recovery) (r : Recovered) → recovery ≡ recoveries.Made r → line ≡ recovered_line r → WritesAll before now line result → Takes before now (rewritten_text (ending_of_recovery input recovery))
+pub takes_line : (before now : SinkState) (input line : List ℕ) (result : Result Unit Short) (recovery : Recovery) (r : Recovered) → recovery ≡ recoveries.Made r → line ≡ recovered_line r → WritesAll before now line result → Takes before now (ending_of_recovery input recovery).text
 takes_line before now input line result recovery r is line_is written =
-    subst (λ (x : Recovery). Takes before now (rewritten_text (ending_of_recovery input x))) (sym is)
+    subst (λ (x : Recovery). Takes before now (ending_of_recovery input x).text) (sym is)
     (record { tells = subst (λ (l : List ℕ). Tells before now l) line_is (wrote before now line result written); silent = λ none. absurd (line_is_said r none) })

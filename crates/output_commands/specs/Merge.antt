@@ -1,5 +1,5 @@
 -- What the merging of files does: to the names of the world, to both outputs, and how it ends.
-use Rattle.std.specs.Prelude.{◌≡◌, ◌⊎◌, ◌≤◌, ◌<◌, not, ℕ, List, [], ◌∷◌, ◌++◌, codes, map, get_or, length, filter, Bool, true, false, Option, Some, None, Result, Ok, Err}
+use Rattle.std.specs.Prelude.{◌≡◌, ◌⊎◌, ◌≤◌, ◌<◌, not, ℕ, List, [], ◌∷◌, ◌++◌, codes, map, length, filter, Bool, true, false, Option, Some, None, Result, Ok, Err}
 use Rattle.std.specs.List.{AllZip, list_any}
 use Rattle.rec_data.specs.declared.owned.Rec.{Rec}
 use Rattle.mcap_io.specs.Outside.{LiveState, WorldState, Told, Opening}
@@ -23,15 +23,19 @@ use Rattle.mcap_merge.specs.declared.answers.Merged.{Merged}
 use Rattle.mcap_merge.specs.declared.answers.MergeRefused.{MergeRefused}
 use Rattle.mcap_merge.specs.declared.answers.MergeRefused.TheVariants as merges
 use Rattle.mcap_merge.specs.Filed.{merged_options, MergesInto, MergeFails, AsksTwice}
+use Rattle.command_base.specs.declared.statuses.Status.{Status}
+use Rattle.command_base.specs.declared.statuses.Status.TheVariants as statuses
 use Rattle.command_base.specs.Texts.{grammar}
 use Rattle.command_base.specs.OneFile.{refusal_ending}
 use Rattle.command_base.specs.OneFile as one
 use Rattle.command_base.specs.Ran.{Scene, counts_in, AnyRose, kept}
 use Rattle.output_commands.specs.declared.merging.Merging.{Merging}
 use Rattle.output_commands.specs.declared.merging.Merging.TheVariants as mergings
+use Rattle.output_commands.specs.Halting.{name_at}
 use Rattle.output_commands.specs.Recover.{IsPlaced, number_after_name}
-use Rattle.output_commands.specs.SomeInputs.{InputKept, input_entry, names_kept, back_stores}
-use Rattle.output_commands.specs.SomeOutput.{JoinEnding, was_written, halted, limited, failing, lacked, Unreached, ReadsSomeWritesOne}
+use Rattle.output_base.specs.Endings.{WritingEnding, was_written, halted, limited, failing, lacked}
+use Rattle.output_base.specs.Inputs.{store_keeping, InputKept, input_entry, names_kept, backs_of}
+use Rattle.output_base.specs.Outputs.{inputs_and_output, Unreached, ReadsSomeWritesOne}
 
 -- ---- what the output holds
 
@@ -98,18 +102,25 @@ abbrev pub MergesStores : List StoreState → List StoreState → LiveState → 
 MergesStores given back live stored chunk (Ok m) = MergesInto given back live stored chunk m
 MergesStores given back live stored chunk (Err why) = MergeFails given back live stored chunk why
 
+-- an input's store as the world took it back, and its entry
+abbrev pub StoreKept : Type 0
+StoreKept = InputKept StoreState
+
+abbrev pub store_entry : StoreKept → Opening
+store_entry k = input_entry kinds.Store store_keeping k
+
 -- All were opened. The stores under the inputs' names were merged into the one under the output's, and all were taken back.
 pub record Reached (chunk : ℕ) (inputs : List (List ℕ)) (out : List ℕ) (old new : WorldState) (entries : List Opening) (result : Result Merged MergeRefused) : Type 0 where
   -- as the world gave them and as it took them back, in the order of the words, and whether that went well
   pub given : List StoreState
-  pub kept_inputs : List InputKept
+  pub kept_inputs : List StoreKept
   pub names_are : inputs ≡ names_kept kept_inputs
   pub live : LiveState
   pub stored : LiveState
   pub live_kept : Bool
-  pub merges : MergesStores given (back_stores kept_inputs) live stored chunk result
+  pub merges : MergesStores given (backs_of kept_inputs) live stored chunk result
   -- no input was asked for more than all of its bytes twice
-  pub asked : AllZip AsksTwice given (back_stores kept_inputs)
+  pub asked : AllZip AsksTwice given (backs_of kept_inputs)
   -- each store told the bytes under its input's name, which is there, where the world tells
   pub tells : AllZip (TellsStore old) inputs given
   pub unused : Each IsUnused given
@@ -117,7 +128,7 @@ pub record Reached (chunk : ℕ) (inputs : List (List ℕ)) (out : List ℕ) (ol
   -- and then the output's name holds what was merged of these bytes
   pub file : (told now : Told) (files : List (List ℕ)) → old.told ≡ Some told → new.told ≡ Some now → AllZip (HoldsBytes told) inputs files
       → MergeOutputHolds chunk files result live_kept (told.names out) (now.names out)
-  pub kept_are : entries ≡ map input_entry kept_inputs ++ kept kinds.Live out (record { well = live_kept; faults = stored.faults; left = None; asked = 0 }) ∷ []
+  pub kept_are : entries ≡ map store_entry kept_inputs ++ kept kinds.Live out (record { well = live_kept; faults = stored.faults; left = None; asked = 0 }) ∷ []
 
 -- an opening failed, or memory lacked for it
 abbrev pub unopened_so : Bool → Merging
@@ -147,32 +158,28 @@ IsMerging chunk inputs out old new entries merging = (RefusesMerge inputs entrie
 unfoldable pub merged_line : ℕ → Merged → List ℕ
 merged_line inputs m = number_after_name (codes "merged inputs=") inputs ++ (number_after_name (codes " messages=") m.messages ++ (number_after_name (codes " records=") m.records ++ codes "\n"))
 
--- the name of the input of that number, from 0
-abbrev pub name_at : List (List ℕ) → ℕ → List ℕ
-name_at inputs n = get_or inputs n []
-
 -- how a merging ended in which the reading of the input of that number ended so
-abbrev pub ending_at : ℕ → one.Ending → JoinEnding
+abbrev pub ending_at : ℕ → one.Ending → WritingEnding
 ending_at n (one.was_read text) = was_written text
 ending_at n (one.halted trouble) = halted n trouble
 ending_at n one.failing = failing
 ending_at n one.lacked = lacked
 
 -- and one that stopped
-abbrev pub stop_ending : Stop → JoinEnding
+abbrev pub stop_ending : Stop → WritingEnding
 stop_ending (stops.Fault faults) = failing
 stop_ending (stops.Limit blocks bytes) = limited
 stop_ending stops.Memory = lacked
 
 -- how a merging ended that was refused; an input that changed is told as one that breaks a rule
-abbrev pub merge_ending : List (List ℕ) → MergeRefused → JoinEnding
+abbrev pub merge_ending : List (List ℕ) → MergeRefused → WritingEnding
 merge_ending inputs (merges.Halted input why) = ending_at input (refusal_ending (name_at inputs input) why)
 merge_ending inputs (merges.Changed input offset) = halted input (grammar (name_at inputs input) offset)
 merge_ending inputs merges.TooManySchemas = limited
 merge_ending inputs merges.TooManyChannels = limited
 merge_ending inputs (merges.Stopped stop) = stop_ending stop
 
-abbrev pub ending_of_merging : List (List ℕ) → Merging → JoinEnding
+abbrev pub ending_of_merging : List (List ℕ) → Merging → WritingEnding
 ending_of_merging inputs mergings.Unopened = failing
 ending_of_merging inputs (mergings.Made m) = was_written (merged_line (length inputs) m)
 ending_of_merging inputs (mergings.Refused why) = merge_ending inputs why
@@ -195,38 +202,38 @@ abbrev pub OfWholeFiles : List (List ℕ) → (List (List Top) → Type 0) → T
 OfWholeFiles files P = (inputs : List (List Top)) × AreRead files inputs × P inputs
 
 -- Where nothing failed, the file of that number decides, whose reading was refused; memory lacks for the merge, not for it.
-abbrev pub HaltDecides : List (List ℕ) → ℕ → ReadingRefused → ℕ → Type 0
+abbrev pub HaltDecides : List (List ℕ) → ℕ → ReadingRefused → Status → Type 0
 HaltDecides files input (readings.Fault faults) status = ⊥
-HaltDecides files input (readings.Grammar offset rule) status = FirstHalts files input (λ bytes. (tops : List Top) × Halts reading_limits bytes tops (breaks offset rule)) × (status ≡ 1)
-HaltDecides files input (readings.Compressed offset name) status = FirstHalts files input (λ bytes. (tops : List Top) × Halts reading_limits bytes tops (names offset name)) × (status ≡ 1)
-HaltDecides files input (readings.Limit offset) status = FirstHalts files input (λ bytes. (tops : List Top) × Halts reading_limits bytes tops (beyond offset)) × (status ≡ 4)
+HaltDecides files input (readings.Grammar offset rule) status = FirstHalts files input (λ bytes. (tops : List Top) × Halts reading_limits bytes tops (breaks offset rule)) × (status ≡ statuses.Refused)
+HaltDecides files input (readings.Compressed offset name) status = FirstHalts files input (λ bytes. (tops : List Top) × Halts reading_limits bytes tops (names offset name)) × (status ≡ statuses.Refused)
+HaltDecides files input (readings.Limit offset) status = FirstHalts files input (λ bytes. (tops : List Top) × Halts reading_limits bytes tops (beyond offset)) × (status ≡ statuses.Limit)
 HaltDecides files input readings.Memory status = ⊥
 
-abbrev pub StopDecides : List (List ℕ) → Stop → ℕ → Type 0
+abbrev pub StopDecides : List (List ℕ) → Stop → Status → Type 0
 StopDecides files (stops.Fault faults) status = ⊥
-StopDecides files (stops.Limit blocks bytes) status = OfWholeFiles files (λ inputs. Unit {0}) × (status ≡ 4)
-StopDecides files stops.Memory status = status ≡ 5
+StopDecides files (stops.Limit blocks bytes) status = OfWholeFiles files (λ inputs. Unit {0}) × (status ≡ statuses.Limit)
+StopDecides files stops.Memory status = status ≡ statuses.Memory
 
 -- Where nothing failed, the bytes decide, but for want of memory and for the limits of a file.
-abbrev pub MergeDecides : List (List ℕ) → Merging → ℕ → Type 0
+abbrev pub MergeDecides : List (List ℕ) → Merging → Status → Type 0
 MergeDecides files mergings.Unopened status = ⊥
-MergeDecides files (mergings.Made m) status = OfWholeFiles files (λ inputs. Unit {0}) × (status ≡ 0)
+MergeDecides files (mergings.Made m) status = OfWholeFiles files (λ inputs. Unit {0}) × (status ≡ statuses.Done)
 MergeDecides files (mergings.Refused (merges.Halted input why)) status = HaltDecides files input why status
 MergeDecides files (mergings.Refused (merges.Changed input offset)) status = ⊥
-MergeDecides files (mergings.Refused merges.TooManySchemas) status = OfWholeFiles files (λ inputs. MoreThan id_limit (SchemaIsUsed inputs)) × (status ≡ 4)
-MergeDecides files (mergings.Refused merges.TooManyChannels) status = OfWholeFiles files (λ inputs. MoreThan id_limit (IsUsed inputs) × AtMost id_limit (SchemaIsUsed inputs)) × (status ≡ 4)
+MergeDecides files (mergings.Refused merges.TooManySchemas) status = OfWholeFiles files (λ inputs. MoreThan id_limit (SchemaIsUsed inputs)) × (status ≡ statuses.Limit)
+MergeDecides files (mergings.Refused merges.TooManyChannels) status = OfWholeFiles files (λ inputs. MoreThan id_limit (IsUsed inputs) × AtMost id_limit (SchemaIsUsed inputs)) × (status ≡ statuses.Limit)
 MergeDecides files (mergings.Refused (merges.Stopped stop)) status = StopDecides files stop status
 
 -- ---- the command
 
 -- what `merge` does
-pub record MergesFiles (chunk : ℕ) (inputs : List (List ℕ)) (out : List ℕ) (old new : Scene) (status : ℕ) : Type 0 where
+pub record MergesFiles (chunk : ℕ) (inputs : List (List ℕ)) (out : List ℕ) (old new : Scene) (status : Status) : Type 0 where
   -- the inputs are opened as stores, and then the output; this is what the merging came to, and what the output holds of it
   pub entries : List Opening
   pub merging : Merging
   pub comes : IsMerging chunk inputs out old.world new.world entries merging
   -- standard output takes the line of what was merged, and standard error the troubles
-  pub ran : ReadsSomeWritesOne inputs out old new entries (ending_of_merging inputs merging) status
+  pub ran : ReadsSomeWritesOne (inputs_and_output kinds.Store inputs out) old new entries (ending_of_merging inputs merging) status
   -- where the world tells, the bytes under the inputs' names decide, unless a count rises
   pub decided : (told : Told) (files : List (List ℕ)) → old.world.told ≡ Some told → AllZip (HoldsBytes told) inputs files
       → (AnyRose (counts_in old) (counts_in new) → ⊥) → MergeDecides files merging status

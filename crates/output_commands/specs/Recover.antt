@@ -21,11 +21,14 @@ use Rattle.mcap_model.specs.declared.refusals.ReadingRefused.TheVariants as scan
 use Rattle.mcap_model.specs.declared.ends.Stop.{Stop}
 use Rattle.mcap_model.specs.declared.ends.Stop.TheVariants as stops
 use Rattle.mcap_recover.specs.Recovering.{lacks, recovered_options, TellsHalt, Recovers}
+use Rattle.command_base.specs.declared.statuses.Status.{Status}
+use Rattle.command_base.specs.declared.statuses.Status.TheVariants as statuses
 use Rattle.command_base.specs.Texts.{grammar}
-use Rattle.command_base.specs.Ran.{Scene, counts_in, AnyRose, kept}
+use Rattle.command_base.specs.Ran.{Scene, counts_in, AnyRose, Files, kept}
 use Rattle.output_commands.specs.declared.recovering.Recovery.{Recovery}
 use Rattle.output_commands.specs.declared.recovering.Recovery.TheVariants as recoveries
-use Rattle.output_commands.specs.OneOutput.{RewriteEnding, was_written, halted, limited, failing, lacked, BothUnreached, ReadsOneWritesOne}
+use Rattle.output_base.specs.Endings.{WritingEnding, was_written, halted, limited, failing, lacked}
+use Rattle.output_base.specs.Outputs.{inputs_and_output, Unreached, ReadsSomeWritesOne}
 
 -- ---- what the output holds
 
@@ -112,7 +115,7 @@ recovery_of (Err why) = recoveries.Refused why
 
 -- what became of both names
 abbrev pub IsRecovery : ℕ → List ℕ → List ℕ → WorldState → WorldState → List Opening → Recovery → Type 0
-IsRecovery chunk input out old new entries recovery = (RefusesRecovery entries recovery × BothUnreached input out old new entries)
+IsRecovery chunk input out old new entries recovery = (RefusesRecovery entries recovery × Unreached out old new entries)
     ⊎ ((result : Result Recovered RecoverRefused) × (recovery ≡ recovery_of result) × BothReached chunk input out old new entries result)
 
 -- ---- the line
@@ -134,61 +137,65 @@ recovered_line r = number_after_name (codes "recovered messages=") r.messages ++
     ++ (number_after_name (codes " at=") r.at ++ (codes " " ++ (why_text r.why ++ codes "\n")))))
 
 -- how the recovery ended: of what else a reading can be refused for none comes
-abbrev pub unread_ending : ReadingRefused → RewriteEnding
+abbrev pub unread_ending : ReadingRefused → WritingEnding
 unread_ending (scans.Fault faults) = failing
 unread_ending (scans.Grammar offset rule) = failing
 unread_ending (scans.Compressed offset name) = failing
 unread_ending (scans.Limit offset) = failing
 unread_ending scans.Memory = lacked
 
-abbrev pub stopped_ending : Stop → RewriteEnding
+abbrev pub stopped_ending : Stop → WritingEnding
 stopped_ending (stops.Fault faults) = failing
 stopped_ending (stops.Limit blocks bytes) = limited
 stopped_ending stops.Memory = lacked
 
-abbrev pub unrecovered_ending : List ℕ → RecoverRefused → RewriteEnding
-unrecovered_ending input refusals.NoMagic = halted (grammar input 0)
+abbrev pub unrecovered_ending : List ℕ → RecoverRefused → WritingEnding
+unrecovered_ending input refusals.NoMagic = halted 0 (grammar input 0)
 unrecovered_ending input (refusals.Refused why) = unread_ending why
 unrecovered_ending input (refusals.Stopped stop) = stopped_ending stop
 
-abbrev pub ending_of_recovery : List ℕ → Recovery → RewriteEnding
+abbrev pub ending_of_recovery : List ℕ → Recovery → WritingEnding
 ending_of_recovery input recoveries.Unopened = failing
 ending_of_recovery input (recoveries.Made r) = was_written (recovered_line r)
 ending_of_recovery input (recoveries.Refused why) = unrecovered_ending input why
 
+-- the input, opened as a source, and then the output
+abbrev pub both_names : List ℕ → List ℕ → Files
+both_names input out = inputs_and_output kinds.Source (input ∷ []) out
+
 -- ---- the status
 
 -- a fault is a count that rose, and of what else refuses a reading only want of memory comes
-abbrev pub ReadingDecides : ReadingRefused → ℕ → Type 0
+abbrev pub ReadingDecides : ReadingRefused → Status → Type 0
 ReadingDecides (scans.Fault faults) status = ⊥
 ReadingDecides (scans.Grammar offset rule) status = ⊥
 ReadingDecides (scans.Compressed offset name) status = ⊥
 ReadingDecides (scans.Limit offset) status = ⊥
-ReadingDecides scans.Memory status = status ≡ 5
+ReadingDecides scans.Memory status = status ≡ statuses.Memory
 
-abbrev pub RecoveryStopDecides : List ℕ → Stop → ℕ → Type 0
+abbrev pub RecoveryStopDecides : List ℕ → Stop → Status → Type 0
 RecoveryStopDecides bytes (stops.Fault faults) status = ⊥
-RecoveryStopDecides bytes (stops.Limit blocks written) status = V1 bytes × (status ≡ 4)
-RecoveryStopDecides bytes stops.Memory status = status ≡ 5
+RecoveryStopDecides bytes (stops.Limit blocks written) status = V1 bytes × (status ≡ statuses.Limit)
+RecoveryStopDecides bytes stops.Memory status = status ≡ statuses.Memory
 
 -- Where nothing failed, the first bytes decide, but for want of memory and for the limit of the output.
-abbrev pub RecoveryDecides : List ℕ → Recovery → ℕ → Type 0
+abbrev pub RecoveryDecides : List ℕ → Recovery → Status → Type 0
 RecoveryDecides bytes recoveries.Unopened status = ⊥
-RecoveryDecides bytes (recoveries.Made r) status = V1 bytes × (status ≡ 0)
-RecoveryDecides bytes (recoveries.Refused refusals.NoMagic) status = (V1 bytes → ⊥) × (status ≡ 1)
+RecoveryDecides bytes (recoveries.Made r) status = V1 bytes × (status ≡ statuses.Done)
+RecoveryDecides bytes (recoveries.Refused refusals.NoMagic) status = (V1 bytes → ⊥) × (status ≡ statuses.Refused)
 RecoveryDecides bytes (recoveries.Refused (refusals.Refused why)) status = ReadingDecides why status
 RecoveryDecides bytes (recoveries.Refused (refusals.Stopped stop)) status = RecoveryStopDecides bytes stop status
 
 -- ---- the command
 
 -- what `recover` does
-pub record RecoversFile (chunk : ℕ) (input out : List ℕ) (old new : Scene) (status : ℕ) : Type 0 where
+pub record RecoversFile (chunk : ℕ) (input out : List ℕ) (old new : Scene) (status : Status) : Type 0 where
   -- the input is opened as a source, and then the output; this is what the recovery came to, and what the output holds of it
   pub entries : List Opening
   pub recovery : Recovery
   pub comes : IsRecovery chunk input out old.world new.world entries recovery
   -- standard output takes the line of what was recovered, and standard error the troubles
-  pub ran : ReadsOneWritesOne input out old new entries (ending_of_recovery input recovery) status
+  pub ran : ReadsSomeWritesOne (both_names input out) old new entries (ending_of_recovery input recovery) status
   -- where the world tells, the bytes under the input's name decide, unless a count rises
   pub decided : (told : Told) (bytes : List ℕ) → old.world.told ≡ Some told → told.names input ≡ Some bytes
       → (AnyRose (counts_in old) (counts_in new) → ⊥) → RecoveryDecides bytes recovery status

@@ -1,9 +1,7 @@
 //! The commands that read files and write one: `recover` and `merge`.
 #![tactic(auto)]
 
-mod blaming;
-mod failures;
-mod inputs;
+mod halting;
 mod merged_line;
 mod merging;
 mod recovered_line;

@@ -4,22 +4,26 @@ ghost use Rattle.mcap_io.specs.Outside.{WorldState};
 ghost use Rattle.mcap_wire.specs.Limits.{chunk_size_limit};
 ghost use Rattle.command_base.specs.Printing.{Takes};
 ghost use Rattle.command_base.specs.Scenes.{scene};
-ghost use Rattle.output_commands.specs.InputSteps.{InputsOpened};
-ghost use Rattle.output_commands.specs.SomeOutput.{joined_text, halts_in, is_limited, is_merge_lack};
-ghost use Rattle.output_commands.specs.SomeOutputSteps.{InputsAreFew, halted_lists, NamesMerged};
+ghost use Rattle.mcap_io.specs.declared.outside.ObjectKind.{ObjectKind};
+ghost use Rattle.output_base.specs.InputsSteps.{StoreSeen, InputsOpened};
+ghost use Rattle.output_base.specs.OutputSteps.{InputsAreFew};
+ghost use Rattle.output_commands.specs.HaltingSteps.{halted_lists};
 ghost use Rattle.command_base.specs.ComplaintTroubles.{complained};
 ghost use Rattle.command_base.specs.OneFile.{Ending as OneEnding, troubles_in};
-ghost use Rattle.output_commands.specs.Merge.{merging_of as came_to, unopened_so, name_at, ending_at, stop_ending, merge_ending, ending_of_merging, MergesFiles};
+ghost use Rattle.output_commands.specs.Merge.{merging_of as came_to, unopened_so, ending_at, stop_ending, merge_ending, ending_of_merging, MergesFiles};
+ghost use Rattle.output_commands.specs.MergeSteps.{NamesMerged};
 
-use crate::blaming::{Halted, answer_inputs, failed_parts};
-use crate::failures::is_failed;
-use crate::inputs::{Room, add_refused, keep_inputs, make_room, open_inputs};
+use crate::halting::{Halted, complaint_at, name_of};
 use crate::merged_line::line_of_merged;
-use command_base::{Complaint, Counts, has_failed, lacks_memory, reading_complaint};
+use command_base::{Complaint, Counts, Status, has_failed, lacks_memory, reading_complaint};
 use mcap_io::{LiveStore, Sink, World, write_all_of};
 use mcap_merge::{MergeRefused, Merged, merge};
 use mcap_model::Stop;
 use mcap_wire::Text;
+use output_base::{
+    AsStores, FailedNames, FileWriting, Room, add_refused, answer_writing, is_failed, keep_inputs,
+    make_room, open_inputs,
+};
 use std::alloc::Global;
 
 /// What the merging of files came to.
@@ -76,22 +80,22 @@ fn merge_opened<W: World>(
     requires some { 1 ≤ chunk }
     requires within { chunk ≤ chunk_size_limit }
     requires few { InputsAreFew inputs.now }
-    requires many { vec_len room.stores ≡ length inputs.now }
+    requires many { vec_len room.objects ≡ length inputs.now }
     requires none { room.failed.items ≡ [] }
     requires room { length inputs.now ≤ vec_capacity room.failed }
-    ensures { (before : WorldState) → InputsOpened before (W.state world.old) inputs.now (map W.Store.state room.stores.items)
+    ensures { (before : WorldState) → InputsOpened ObjectKind.Store StoreSeen before (W.state world.old) inputs.now (map W.Store.state room.objects.items)
         → before.faults < 2 ^ 64 → before.input_faults < 2 ^ 64 → before.output_faults < 2 ^ 64
         → NamesMerged chunk inputs.now out.now before (W.state world.new) result }
 {
     let Room {
-        mut stores,
+        objects: mut stores,
         mut failed,
     } = room;
     let live = match world.live(out) {
         Ok(live) => live,
         Err(why) => {
             let out_failed = is_failed(why);
-            keep_inputs(world, inputs, stores, &mut failed);
+            keep_inputs(&AsStores, world, inputs, stores, &mut failed);
             return Outcome {
                 merging: unopened(out_failed),
                 inputs_failed: failed,
@@ -101,7 +105,7 @@ fn merge_opened<W: World>(
     };
     let (live, answer) = merge(alloc, &mut stores, live, chunk);
     let live_faults = live.faults();
-    keep_inputs(world, inputs, stores, &mut failed);
+    keep_inputs(&AsStores, world, inputs, stores, &mut failed);
     let live_kept = world.keep_live(out, live);
     Outcome {
         merging: merging_of(answer),
@@ -127,7 +131,7 @@ fn merge_names<W: World>(
     ensures { NamesMerged chunk inputs.now out.now (W.state world.old) (W.state world.new) result }
 {
     let Room {
-        mut stores,
+        objects: mut stores,
         mut failed,
     } = match make_room(alloc, inputs.len()) {
         Ok(room) => room,
@@ -139,14 +143,23 @@ fn merge_names<W: World>(
             };
         }
     };
-    match open_inputs(world, inputs, &mut stores) {
+    match open_inputs(&AsStores, world, inputs, &mut stores) {
         Ok(()) => {
-            let room = Room { stores, failed };
+            let room = Room {
+                objects: stores,
+                failed,
+            };
             return merge_opened(alloc, chunk, inputs, out, room, world);
         }
         Err(why) => {
             let input_failed = is_failed(why);
-            keep_inputs(world, &inputs[..stores.len()], stores, &mut failed);
+            keep_inputs(
+                &AsStores,
+                world,
+                &inputs[..stores.len()],
+                stores,
+                &mut failed,
+            );
             add_refused(&mut failed, input_failed);
             return Outcome {
                 merging: unopened(input_failed),
@@ -159,7 +172,7 @@ fn merge_names<W: World>(
 
 // Prints the line of what was merged, if something was. It takes no memory.
 fn print_merging<O: Sink>(out: &mut O, inputs: &[Text], merging: &Merging)
-    ensures { Takes (O.state out.old) (O.state out.new) (joined_text (ending_of_merging inputs.now merging.now)) }
+    ensures { Takes (O.state out.old) (O.state out.new) (ending_of_merging inputs.now merging.now).text }
 {
     match merging {
         Merging::Made { merged } => {
@@ -174,21 +187,10 @@ fn print_merging<O: Sink>(out: &mut O, inputs: &[Text], merging: &Merging)
     }
 }
 
-// The name of the input of that number, from 0, or an empty one where there is none.
-fn name_of(inputs: &[Text], number: u32) -> &str
-    ensures { result.now ≡ name_at inputs.now number }
-{
-    let n = number as usize;
-    if n >= inputs.len() {
-        return "";
-    }
-    return inputs[n].as_str();
-}
-
 // The input that was halted, and the complaint of it, if there is one.
-#[tactic(auto, using(crate::proofs::Halting::halted_some, crate::proofs::Halting::halted_none))]
+#[tactic(auto, using(crate::proofs::RefusedReadings::halted_some, crate::proofs::RefusedReadings::halted_none))]
 fn halted_at(input: u32, complaint: Option<Complaint<'_>>) -> Option<Halted<'_>>
-    ensures { (ending : OneEnding) → complained complaint.entry ≡ troubles_in ending → halted_lists result ≡ halts_in (ending_at input ending) }
+    ensures { (ending : OneEnding) → complained complaint.entry ≡ troubles_in ending → halted_lists result ≡ (ending_at input ending).halts }
 {
     match complaint {
         Some(complaint) => Some(Halted {
@@ -201,16 +203,19 @@ fn halted_at(input: u32, complaint: Option<Complaint<'_>>) -> Option<Halted<'_>>
 
 // The input that couldn't be read, and the complaint of it, where a merge was refused for that.
 fn halted_by<'a>(inputs: &'a [Text], why: &'a MergeRefused) -> Option<Halted<'a>>
-    ensures { halted_lists result ≡ halts_in (merge_ending inputs.now why.now) }
+    ensures { halted_lists result ≡ (merge_ending inputs.now why.now).halts }
 {
     match why {
         MergeRefused::Halted { input, why } => {
-            return halted_at(*input, reading_complaint(name_of(inputs, *input), why));
+            return halted_at(
+                *input,
+                reading_complaint(name_of(inputs, *input as usize), why),
+            );
         }
         MergeRefused::Changed { input, offset } => return Some(Halted {
             input: *input as usize,
             complaint: Complaint::Grammar {
-                name: name_of(inputs, *input),
+                name: name_of(inputs, *input as usize),
                 offset: *offset,
             },
         }),
@@ -221,7 +226,7 @@ fn halted_by<'a>(inputs: &'a [Text], why: &'a MergeRefused) -> Option<Halted<'a>
 
 // The same of what a merging came to.
 fn halted_in<'a>(inputs: &'a [Text], merging: &'a Merging) -> Option<Halted<'a>>
-    ensures { halted_lists result ≡ halts_in (ending_of_merging inputs.now merging.now) }
+    ensures { halted_lists result ≡ (ending_of_merging inputs.now merging.now).halts }
 {
     match merging {
         Merging::Refused { why } => halted_by(inputs, why),
@@ -231,7 +236,7 @@ fn halted_in<'a>(inputs: &'a [Text], merging: &'a Merging) -> Option<Halted<'a>>
 
 // Whether the writing stopped at a limit.
 fn stops_at_limit(stop: &Stop) -> bool
-    ensures { result ≡ is_limited (stop_ending stop.now) }
+    ensures { result ≡ (stop_ending stop.now).passes_limit }
 {
     match stop {
         Stop::Limit { .. } => true,
@@ -241,7 +246,7 @@ fn stops_at_limit(stop: &Stop) -> bool
 
 // Whether it stopped for want of memory.
 fn stops_for_memory(stop: &Stop) -> bool
-    ensures { result ≡ is_merge_lack (stop_ending stop.now) }
+    ensures { result ≡ (stop_ending stop.now).lacks_memory }
 {
     match stop {
         Stop::Memory => true,
@@ -250,9 +255,9 @@ fn stops_for_memory(stop: &Stop) -> bool
 }
 
 // Whether a merge was refused since the output would pass a limit.
-#[tactic(auto, using(crate::proofs::Halting::halted_unlimited))]
+#[tactic(auto, using(crate::proofs::RefusedReadings::halted_unlimited))]
 fn is_refused_at_limit(why: &MergeRefused) -> bool
-    ensures { (inputs : List (List ℕ)) → result ≡ is_limited (merge_ending inputs why.now) }
+    ensures { (inputs : List (List ℕ)) → result ≡ (merge_ending inputs why.now).passes_limit }
 {
     match why {
         MergeRefused::TooManySchemas | MergeRefused::TooManyChannels => return true,
@@ -263,9 +268,9 @@ fn is_refused_at_limit(why: &MergeRefused) -> bool
 }
 
 // Whether it was for want of memory.
-#[tactic(auto, using(crate::proofs::Halting::halted_lack))]
+#[tactic(auto, using(crate::proofs::RefusedReadings::halted_lack))]
 fn is_refused_for_memory(why: &MergeRefused) -> bool
-    ensures { (inputs : List (List ℕ)) → result ≡ is_merge_lack (merge_ending inputs why.now) }
+    ensures { (inputs : List (List ℕ)) → result ≡ (merge_ending inputs why.now).lacks_memory }
 {
     match why {
         MergeRefused::Halted { input: _, why } => return lacks_memory(why),
@@ -277,7 +282,7 @@ fn is_refused_for_memory(why: &MergeRefused) -> bool
 
 // Whether the output would pass a limit.
 fn is_at_limit(merging: &Merging) -> bool
-    ensures { (inputs : List (List ℕ)) → result ≡ is_limited (ending_of_merging inputs merging.now) }
+    ensures { (inputs : List (List ℕ)) → result ≡ (ending_of_merging inputs merging.now).passes_limit }
 {
     match merging {
         Merging::Refused { why } => is_refused_at_limit(why),
@@ -287,7 +292,7 @@ fn is_at_limit(merging: &Merging) -> bool
 
 // Whether memory lacked.
 fn has_lacked(merging: &Merging) -> bool
-    ensures { (inputs : List (List ℕ)) → result ≡ is_merge_lack (ending_of_merging inputs merging.now) }
+    ensures { (inputs : List (List ℕ)) → result ≡ (ending_of_merging inputs merging.now).lacks_memory }
 {
     match merging {
         Merging::Refused { why } => is_refused_for_memory(why),
@@ -295,10 +300,30 @@ fn has_lacked(merging: &Merging) -> bool
     }
 }
 
+impl FileWriting for Merging {
+    ghost ending = { λ merging inputs some. ending_of_merging inputs merging };
+
+    fn print<O: Sink>(&self, inputs: &[Text], out: &mut O) {
+        print_merging(out, inputs, self);
+    }
+
+    fn halt<'a>(&'a self, inputs: &'a [Text], index: usize) -> Option<Complaint<'a>> {
+        complaint_at(halted_in(inputs, self), index)
+    }
+
+    fn passes_limit(&self) -> bool {
+        is_at_limit(self)
+    }
+
+    fn lacks_memory(&self, _some_failed: bool) -> bool {
+        has_lacked(self)
+    }
+}
+
 /// Merges 1 to 64 files under their names into a new file under another, in chunks of that size in bytes: their messages by log
 /// time, and of one time by the order of the inputs and the place in them, on channels that are numbered by content. Prints on
-/// `out` how many inputs, messages and records that were, and answers the status: 1 where an input breaks a rule or is
-/// compressed, 3 where the outside failed, 4 where an input passes a limit or the new file would, and 5 where memory lacked.
+/// `out` how many inputs, messages and records that were, and answers the status: refused
+/// where an input breaks a rule or is compressed, and a limit where an input passes one or the new file would.
 pub fn merge_file<W: World, O: Sink, E: Sink>(
     alloc: Global,
     chunk: u64,
@@ -307,7 +332,7 @@ pub fn merge_file<W: World, O: Sink, E: Sink>(
     world: &mut W,
     out: &mut O,
     err: &mut E,
-) -> u8
+) -> Status
     requires some { 1 ≤ chunk }
     requires within { chunk ≤ chunk_size_limit }
     requires few { InputsAreFew inputs.now }
@@ -318,15 +343,10 @@ pub fn merge_file<W: World, O: Sink, E: Sink>(
 {
     let before = Counts::of(world, out);
     let outcome = merge_names(alloc, chunk, inputs, out_name, world);
-    print_merging(out, inputs, &outcome.merging);
-    let now = Counts::of(world, out);
-    let failed = failed_parts(
-        &before,
-        &now,
-        outcome.inputs_failed.as_slice(),
-        outcome.out_failed,
-    );
-    let halted = halted_in(inputs, &outcome.merging);
-    let (limited, lacked) = (is_at_limit(&outcome.merging), has_lacked(&outcome.merging));
-    answer_inputs(err, inputs, out_name, halted, limited, lacked, failed)
+    let failed = FailedNames {
+        inputs: outcome.inputs_failed.as_slice(),
+        out: outcome.out_failed,
+    };
+    let merging = &outcome.merging;
+    answer_writing(merging, inputs, out_name, &before, failed, world, out, err)
 }

@@ -1,20 +1,23 @@
 //! Recovering what a file holds that may be cut or broken.
 ghost use Rattle.std.specs.Prelude.{◌≡◌, ◌≤◌, ◌<◌, ◌^◌, List, ℕ, true, false};
 ghost use Rattle.mcap_wire.specs.Limits.{chunk_size_limit};
-ghost use Rattle.command_base.specs.ComplaintTroubles.{complained};
 ghost use Rattle.command_base.specs.Printing.{Takes};
 ghost use Rattle.command_base.specs.Scenes.{scene};
-ghost use Rattle.output_commands.specs.OneOutput.{rewritten_text, input_halt, is_output_limited, is_recovery_lack};
+ghost use Rattle.output_commands.specs.Halting.{name_at};
+ghost use Rattle.output_commands.specs.HaltingSteps.{halted_lists};
 ghost use Rattle.output_commands.specs.Recover.{recovery_of as came_to, ending_of_recovery, RecoversFile};
-ghost use Rattle.output_commands.specs.OneOutputSteps.{unopened_recovery, NamesRecovered};
+ghost use Rattle.output_commands.specs.RecoverSteps.{unopened_recovery, NamesRecovered};
 
-use crate::failures::{answer_output, failures_of, is_failed};
+use crate::halting::{Halted, complaint_at, name_of};
 use crate::recovered_line::line_of_recovered;
-use command_base::{Complaint, Counts, has_failed};
+use command_base::{Complaint, Counts, Status, has_failed};
 use mcap_io::{LiveStore, Sink, Source, World, write_all_of};
 use mcap_model::{ReadingRefused, Stop};
 use mcap_recover::{RecoverRefused, Recovered, recover};
+use mcap_wire::Text;
+use output_base::{FailedNames, FileWriting, answer_writing, is_failed};
 use std::alloc::Global;
+use std::slice::from_ref;
 
 /// What the recovery of a file came to.
 #[derive(Drop)]
@@ -111,7 +114,7 @@ fn recover_names<W: World>(
 
 // Prints the line of what was recovered, if something was. It takes no memory.
 fn print_recovery<O: Sink>(out: &mut O, recovery: &Recovery)
-    ensures { (input : List ℕ) → Takes (O.state out.old) (O.state out.new) (rewritten_text (ending_of_recovery input recovery.now)) }
+    ensures { (input : List ℕ) → Takes (O.state out.old) (O.state out.new) (ending_of_recovery input recovery.now).text }
 {
     match recovery {
         Recovery::Made { recovered } => {
@@ -126,16 +129,19 @@ fn print_recovery<O: Sink>(out: &mut O, recovery: &Recovery)
     }
 }
 
-// The complaint of a source that doesn't begin with the magic.
-fn halt_complaint<'a>(input: &'a str, recovery: &Recovery) -> Option<Complaint<'a>>
-    ensures { complained result ≡ input_halt (ending_of_recovery input.now recovery.now) }
+// The input is told where it doesn't begin with the magic.
+fn halted_in<'a>(inputs: &'a [Text], recovery: &Recovery) -> Option<Halted<'a>>
+    ensures { halted_lists result ≡ (ending_of_recovery (name_at inputs.now 0) recovery.now).halts }
 {
     match recovery {
         Recovery::Refused {
             why: RecoverRefused::NoMagic,
-        } => Some(Complaint::Grammar {
-            name: input,
-            offset: 0,
+        } => Some(Halted {
+            input: 0,
+            complaint: Complaint::Grammar {
+                name: name_of(inputs, 0),
+                offset: 0,
+            },
         }),
         Recovery::Refused {
             why: RecoverRefused::Refused { .. } | RecoverRefused::Stopped { .. },
@@ -146,7 +152,7 @@ fn halt_complaint<'a>(input: &'a str, recovery: &Recovery) -> Option<Complaint<'
 
 // Whether the output would pass a limit.
 fn is_at_limit(recovery: &Recovery) -> bool
-    ensures { (input : List ℕ) → result ≡ is_output_limited (ending_of_recovery input recovery.now) }
+    ensures { (input : List ℕ) → result ≡ (ending_of_recovery input recovery.now).passes_limit }
 {
     match recovery {
         Recovery::Refused {
@@ -160,7 +166,7 @@ fn is_at_limit(recovery: &Recovery) -> bool
 
 // Whether memory lacked.
 fn has_lacked(recovery: &Recovery) -> bool
-    ensures { (input : List ℕ) → result ≡ is_recovery_lack (ending_of_recovery input recovery.now) }
+    ensures { (input : List ℕ) → result ≡ (ending_of_recovery input recovery.now).lacks_memory }
 {
     match recovery {
         Recovery::Refused {
@@ -175,19 +181,38 @@ fn has_lacked(recovery: &Recovery) -> bool
     }
 }
 
+impl FileWriting for Recovery {
+    ghost ending = { λ recovery inputs some. ending_of_recovery (name_at inputs 0) recovery };
+
+    fn print<O: Sink>(&self, _inputs: &[Text], out: &mut O) {
+        print_recovery(out, self);
+    }
+
+    fn halt<'a>(&'a self, inputs: &'a [Text], index: usize) -> Option<Complaint<'a>> {
+        complaint_at(halted_in(inputs, self), index)
+    }
+
+    fn passes_limit(&self) -> bool {
+        is_at_limit(self)
+    }
+
+    fn lacks_memory(&self, _some_failed: bool) -> bool {
+        has_lacked(self)
+    }
+}
+
 /// Writes what a reading of the file under the one name keeps as a new file under the other, in chunks of that size in bytes,
-/// prints on `out` what was recovered and why the reading stopped, and answers the status: 0 also where it stopped early, 1
-/// where the file doesn't begin with the magic, 3 where the outside failed, 4 where the new file would pass a limit, and 5
-/// where memory lacked.
+/// prints on `out` what was recovered and why the reading stopped, and answers the status: done also where it stopped early,
+/// refused where the file doesn't begin with the magic, and a limit where the new file would pass one.
 pub fn recover_file<W: World, O: Sink, E: Sink>(
     alloc: Global,
     chunk: u64,
-    input: &str,
+    input: &Text,
     out_name: &str,
     world: &mut W,
     out: &mut O,
     err: &mut E,
-) -> u8
+) -> Status
     requires some { 1 ≤ chunk }
     requires within { chunk ≤ chunk_size_limit }
     ensures { RecoversFile chunk input.now out_name.now
@@ -196,14 +221,13 @@ pub fn recover_file<W: World, O: Sink, E: Sink>(
         result }
 {
     let before = Counts::of(world, out);
-    let restored = recover_names(alloc, chunk, input, out_name, world);
-    print_recovery(out, &restored.recovery);
-    let now = Counts::of(world, out);
-    let failed = failures_of(&before, &now, restored.input_failed, restored.out_failed);
-    let halt = halt_complaint(input, &restored.recovery);
-    let (limited, lacked) = (
-        is_at_limit(&restored.recovery),
-        has_lacked(&restored.recovery),
-    );
-    answer_output(err, input, out_name, halt, limited, lacked, failed)
+    let restored = recover_names(alloc, chunk, input.as_str(), out_name, world);
+    let flags = from_ref(&restored.input_failed);
+    let inputs = from_ref(input);
+    let failed = FailedNames {
+        inputs: flags,
+        out: restored.out_failed,
+    };
+    let recovery = &restored.recovery;
+    answer_writing(recovery, inputs, out_name, &before, failed, world, out, err)
 }

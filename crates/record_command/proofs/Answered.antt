@@ -1,26 +1,30 @@
 -- From the parts of a recording to what the program promises of it.
-use Rattle.std.proofs.Common.{◌≡◌, ℕ, zero, suc, ◌^◌, ◌<◌, ◌≤◌, length, Bool, true, false, cond, map, List, [], ◌∷◌, ◌++◌, Option, Some, None, refl, sym, ap, subst, inl, inr, ◌∙◌, arith}
-use Rattle.mcap_io.specs.Outside.{SinkState}
-use Rattle.mcap_model.specs.Places.{Each}
-use Rattle.mcap_model.proofs.Places.{at_none}
+use Rattle.std.proofs.Common.{◌≡◌, ◌⊎◌, ℕ, ◌^◌, ◌<◌, ◌≤◌, length, Bool, true, false, not, List, [], ◌∷◌, ◌++◌, Option, Some, None, refl, sym, ap, subst, inl, inr, ◌∙◌, if◌then◌else◌, arith}
+use Rattle.std.specs.Prelude.{◌↔◌}
+use Rattle.std.proofs.lemmas.Bool.{both_ways, false_from_ne_true}
 use Rattle.std.proofs.lemmas.List.{length-map}
-use Rattle.std.proofs.lemmas.Option.{same_Some}
+use Rattle.mcap_io.specs.Outside.{SinkState, WorldState, Opening}
+use Rattle.mcap_io.specs.declared.outside.ObjectKind.TheVariants as kinds
 use Rattle.recorder.specs.declared.report.Report.{Report}
-use Rattle.feed_lane.specs.declared.report.FeedReport.{FeedReport}
 use Rattle.recorder.specs.declared.options.RecordOptions.{RecordOptions}
 use Rattle.command_base.specs.declared.faults.Counts.{Counts}
-use Rattle.record_command.specs.declared.answering.Failures.{Failures}
-use Rattle.record_command.specs.declared.answering.Outcome.{Outcome}
+use Rattle.command_base.specs.declared.statuses.Status.{Status}
+use Rattle.command_base.specs.declared.statuses.Status.TheVariants as statuses
 use Rattle.command_base.specs.Printing.{Tells, Takes}
 use Rattle.command_base.specs.Texts.{status_of}
+use Rattle.command_base.specs.Ran.{Scene, counts_in, AnyRose, has_failed}
+use Rattle.output_base.specs.Endings.{all_halts, status_besides}
+use Rattle.output_base.specs.Outputs.{inputs_and_output, WritesOutput}
+use Rattle.output_base.specs.OutputSteps.{NamesEnd}
+use Rattle.report_findings.specs.Findings.{passes_limit, limit_passed}
+use Rattle.record_command.specs.declared.answering.Outcome.{Outcome}
 use Rattle.record_command.specs.ReportTexts.{file_line, printed, feed_lines}
-use Rattle.record_command.specs.Answer.{feed_flags, PartFailed, LacksMemory, RecordingFaultsShow, Answers}
-use Rattle.command_base.specs.Ran.{Scene, counts_in, AnyRose, has_failed, IsCaused, Blames, Failed, blamed_names, named_when, troubles_of}
-use Rattle.record_command.specs.Record.{feeds_and_output, failed_feeds, any_failed, report_text, reports_in, recording_findings, end_status, worst, LackIsTold, StatusFollows, limit_was_passed, Records}
+use Rattle.record_command.specs.Record.{report_text, reports_in, ends_of, ends_status, worst, report_lack, fails_in, ending_of_recording, StatusFollows, Records}
 use Rattle.record_command.specs.RecordSteps.{NamesRecorded}
-use Rattle.record_command.proofs.Statuses.{any, status_of_due, status_not_two, some_part, no_part, where_lacked, where_enough}
-use Rattle.record_command.proofs.Flags.{flags_long, every_caused, each_blamed, some_blamed, none_behind, Showing, outcomes_show}
-use Rattle.record_command.proofs.Whole.{read_of, as_many, decided, whole}
+use Rattle.record_command.proofs.Halts.{ends_long, ends_halt}
+use Rattle.record_command.proofs.Statuses.{asked_ends, worst_joined}
+use Rattle.record_command.proofs.Flags.{outcomes_show}
+use Rattle.record_command.proofs.Whole.{LackIsTold, read_of, as_many, decided, whole}
 
 -- ---- what is printed
 
@@ -38,64 +42,7 @@ pub takes_report : (before now : SinkState) (report : Option Report) (r : Report
 takes_report before now report r is tells =
     subst (λ (x : Option Report). Takes before now (report_text x)) (sym is) (record { tells = tells; silent = λ none. absurd (report_is_said r none) })
 
--- ---- what failed
-
--- where no count rose, no part failed
-nothing_failed : (before now : Counts) (feeds : List (List ℕ)) (outcome : Outcome) (failed : Failures) → 1 ≤ length feeds → RecordingFaultsShow before now feeds outcome failed → (AnyRose before now → ⊥) → PartFailed failed → ⊥
-nothing_failed before now feeds outcome failed many shows quiet some = elim some [
-  | inl every ↦ elim (shows.causes.feed_cause (every_caused feeds failed (inl every) many)) [ inl world ↦ quiet (inl world) | inr inputs ↦ quiet (inr (inl inputs)) ]
-  | inr (inl feed) ↦ elim (shows.causes.feed_cause (every_caused feeds failed (inr feed) many)) [ inl world ↦ quiet (inl world) | inr inputs ↦ quiet (inr (inl inputs)) ]
-  | inr (inr (inl e)) ↦ elim (shows.causes.out_cause e) [ inl world ↦ quiet (inl world) | inr outputs ↦ quiet (inr (inr (inl outputs))) ]
-  | inr (inr (inr e)) ↦ quiet (inr (inr (inr (shows.printing.0 e))))
-]
-
-lacks : (before now : Counts) (feeds : List (List ℕ)) (outcome : Outcome) (report : Option Report) (failed : Failures) (lacked : Bool) → 1 ≤ length feeds → RecordingFaultsShow before now feeds outcome failed → LacksMemory report failed lacked → LackIsTold before now report lacked
-lacks before now feeds outcome None failed lacked many shows lacking =
-    (λ quiet. lacking.0 (nothing_failed before now feeds outcome failed many shows quiet), λ is risen. lacking.1 is (shows.any risen))
-lacks before now feeds outcome (Some r) failed lacked many shows lacking = lacking
-
--- ---- which names are blamed
-
--- as many answers as feeds, or fewer
-few_flags : (options : RecordOptions) (out : List ℕ) (feeds : List (List ℕ)) (old new : Scene) (outcome : Outcome) (failed : Failures) → NamesRecorded options out feeds old.world new.world outcome → RecordingFaultsShow (counts_in old) (counts_in new) feeds outcome failed
-    → length (feed_flags feeds failed) ≤ length feeds
-few_flags options out feeds old new outcome failed made shows =
-    flags_long feeds failed (omega (arith, ap length (shows.told ∙ made.feeds_failed), length-map made.inputs has_failed, made.few))
-
-only_name : (out name : List ℕ) (n : ℕ) (P : List ℕ → Type 0) (b : Bool) → (b ≡ true → P out) → Each P (named_when b out ++ [])
-only_name out name n P true is zero x at = subst P (same_Some out x at) (is refl)
-only_name out name n P true is (suc k) x at = absurd (at_none k x at)
-only_name out name n P false is k x at = absurd (at_none k x at)
-
-out_named : (out : List ℕ) (b : Bool) → b ≡ true → named_when b out ++ [] ≡ [] → ⊥
-out_named out true is none = absurd cc
-out_named out false is none = absurd cc
-
-blames : (options : RecordOptions) (out : List ℕ) (feeds : List (List ℕ)) (old new : Scene) (outcome : Outcome) (failed : Failures) → (made : NamesRecorded options out feeds old.world new.world outcome) → RecordingFaultsShow (counts_in old) (counts_in new) feeds outcome failed
-    → Showing old.world new.world outcome.feeds_failed.items outcome.out_failed
-    → Blames (feeds_and_output out feeds) old.world new.world made.entries (blamed_names (feeds_and_output out feeds) (failed_feeds (feed_flags feeds failed) failed.out))
-blames options out feeds old new outcome failed made shows showing = record {
-  exact = λ on.
-      let first : feed_flags feeds failed ≡ outcome.feeds_failed.items = shows.feeds_are (showing.inputs_told on.inputs) in
-      let second : failed.out ≡ outcome.out_failed = shows.out_is (showing.outputs_told on.outputs) (showing.world_told on.world) in
-      ap (λ (l : List Bool). blamed_names (feeds_and_output out feeds) (failed_feeds l failed.out)) first
-      ∙ ap (λ (b : Bool). blamed_names (feeds_and_output out feeds) (failed_feeds outcome.feeds_failed.items b)) second
-      ∙ sym made.failed;
-  caused = each_blamed (IsCaused (feeds_and_output out feeds) old.world new.world) feeds (feed_flags feeds failed) (named_when failed.out out ++ [])
-      (λ name some has. elim (shows.causes.feed_cause some) [ inl world ↦ inl world | inr inputs ↦ inr (inl (has, inputs)) ])
-      (only_name out out 0 (IsCaused (feeds_and_output out feeds) old.world new.world) failed.out (λ is. elim (shows.causes.out_cause is) [ inl world ↦ inl world | inr outputs ↦ inr (inr ((0, refl), outputs)) ]));
-  told = λ on risen none.
-      let few = few_flags options out feeds old new outcome failed made shows in
-      let feed_told : any_failed (feed_flags feeds failed) ≡ true → ⊥ = λ some. some_blamed feeds (feed_flags feeds failed) (named_when failed.out out ++ []) few some none in
-      let out_told : failed.out ≡ true → ⊥ = λ some. out_named out failed.out some (none_behind feeds (feed_flags feeds failed) (named_when failed.out out ++ []) none) in
-      elim risen [
-        | inl world ↦ elim (shows.causes.world_told world) [ inl some ↦ feed_told some | inr some ↦ out_told some ]
-        | inr (inl inputs) ↦ feed_told (shows.causes.inputs_told inputs)
-        | inr (inr outputs) ↦ out_told (shows.causes.outputs_told outputs)
-      ];
-}
-
--- ---- the status
+-- ---- the names
 
 some_reported : (options : RecordOptions) (out : List ℕ) (feeds : List (List ℕ)) (old new : Scene) (outcome : Outcome) (report : Option Report) → outcome.report ≡ report → old.world.input_faults < 2 ^ 64 → old.world.output_faults < 2 ^ 64
     → NamesRecorded options out feeds old.world new.world outcome → length (reports_in report) ≤ length feeds
@@ -103,82 +50,84 @@ some_reported options out feeds old new outcome None is inputs_fit outputs_fit m
 some_reported options out feeds old new outcome (Some r) is inputs_fit outputs_fit made =
     omega (arith, as_many options feeds old.world new.world r (read_of options out feeds old.world new.world made.entries r (made.reported r is) made.counts) inputs_fit outputs_fit)
 
-ended : (out : List ℕ) (feeds : List (List ℕ)) (before now : Counts) (outcome : Outcome) (report : Option Report) (failed : Failures) (err err_now : SinkState) (answer : ℕ) → 1 ≤ length feeds → length (reports_in report) ≤ length feeds → length (feed_flags feeds failed) ≤ length feeds
-    → (a : Answers out feeds report failed err err_now answer) → RecordingFaultsShow before now feeds outcome failed → StatusFollows before now report a.lacked answer
-ended out feeds before now outcome report failed err err_now answer many few few_flags a shows =
-    let number = worst (map (λ (f : FeedReport). end_status f.end) (reports_in report)) in
-    let rest = cond (limit_was_passed report) 4 number in
-    let flags = feed_flags feeds failed in
-    let parts = cond (any flags failed.out failed.printing) 3 rest in
-    let status : answer ≡ cond a.lacked 5 parts = a.told.status_is ∙ status_of_due out feeds report flags failed.out failed.printing a.lacked few few_flags in
-    let causes = shows.causes in
-    let rise : AnyRose before now → any flags failed.out failed.printing ≡ true = λ risen. some_part flags failed.out failed.printing (elim risen [
-      | inl world ↦ elim (causes.world_told world) [ inl some ↦ inl some | inr some ↦ inr (inl some) ]
-      | inr (inl inputs) ↦ inl (causes.inputs_told inputs)
-      | inr (inr (inl outputs)) ↦ inr (inl (causes.outputs_told outputs))
-      | inr (inr (inr printing)) ↦ inr (inr (shows.printing.1 printing))
-    ]) in
-    let none : (AnyRose before now → ⊥) → any flags failed.out failed.printing ≡ false = λ quiet. no_part (any_failed flags) failed.out failed.printing
-    (λ some. elim (causes.feed_cause some) [ inl world ↦ quiet (inl world) | inr inputs ↦ quiet (inr (inl inputs)) ])
-    (λ some. elim (causes.out_cause some) [ inl world ↦ quiet (inl world) | inr outputs ↦ quiet (inr (inr (inl outputs))) ])
-    (λ some. quiet (inr (inr (inr (shows.printing.0 some))))) in
+fails_some : (report : Option Report) (some : Bool) → fails_in report some ≡ true → some ≡ true
+fails_some None some is = is
+fails_some (Some r) some is = absurd cc
+
+-- what became of the names of a recording
+pub names_end : (options : RecordOptions) (out : List ℕ) (feeds : List (List ℕ)) (old new : WorldState) (outcome : Outcome) → (made : NamesRecorded options out feeds old new outcome) → old.faults < 2 ^ 64 → old.input_faults < 2 ^ 64 → old.output_faults < 2 ^ 64
+    → NamesEnd (inputs_and_output kinds.Source feeds out) old new made.entries outcome.feeds_failed.items outcome.out_failed (ending_of_recording feeds outcome.report)
+names_end options out feeds old new outcome made world_fits inputs_fit outputs_fit =
+    let showing = outcomes_show options out feeds old new outcome made world_fits inputs_fit outputs_fit in
     record {
-      memory = where_lacked a.lacked parts answer status;
-      rose = λ enough risen. where_enough a.lacked parts answer status enough ∙ ap (λ (b : Bool). cond b 3 rest) (rise risen);
-      calm = λ enough quiet r here.
-          where_enough a.lacked parts answer status enough
-          ∙ ap (λ (b : Bool). cond b 3 rest) (none quiet)
-          ∙ ap (λ (x : Option Report). cond (limit_was_passed x) 4 (worst (map (λ (f : FeedReport). end_status f.end) (reports_in x)))) here;
+      names = record {
+        opened = made.opened;
+        leaves = made.leaves;
+        counts = made.counts;
+        few = omega (arith, ap length made.feeds_failed, length-map made.inputs has_failed, made.few);
+        names_are = made.failed;
+        input_cause = showing.feed_cause;
+        out_cause = showing.out_cause;
+        inputs_told = showing.inputs_told;
+        outputs_told = showing.outputs_told;
+        world_told = showing.world_told;
+      };
+      well = λ some. record { few = ends_long feeds (reports_in outcome.report); halt = ends_halt feeds (reports_in outcome.report) };
+      sure = λ some fails. inr (inr (fails_some outcome.report some fails));
     }
 
+-- ---- the status
+
+not_true : (b : Bool) → (b ≡ true → ⊥) → not b ≡ true
+not_true true quiet = absurd (quiet refl)
+not_true false quiet = refl
+
+true_not : (b : Bool) → not b ≡ true → b ≡ true → ⊥
+true_not true is on = cc
+true_not false is on = cc
+
+lacks : (before now : Counts) (report : Option Report) (some : Bool) → ((some ≡ true) ↔ AnyRose before now) → LackIsTold before now report (report_lack report some)
+lacks before now None some rose = (λ quiet. not_true some (λ on. quiet (rose.0 on)), λ is risen. true_not some is (rose.1 risen))
+lacks before now (Some r) some rose = refl
+
+-- where memory was enough and nothing failed, the rest decides
+rest_of : (lacks fails : Bool) (s : Status) → lacks ≡ false → (fails ≡ true → ⊥) → (if lacks then statuses.Memory else (if fails then statuses.Fault else s)) ≡ s
+rest_of true fails s enough well = absurd cc
+rest_of false true s enough well = absurd (well refl)
+rest_of false false s enough well = refl
+
+besides : (feeds : List (List ℕ)) (report : Option Report) (some : Bool) (r : Report) → length (reports_in report) ≤ length feeds → report ≡ Some r → status_besides (ending_of_recording feeds report some) ≡ (if passes_limit r then statuses.Limit else ends_status r)
+besides feeds report some r few here =
+    ap (λ (s : Status). if limit_passed report then statuses.Limit else s) (worst_joined feeds (reports_in report) few)
+    ∙ ap (λ (x : Option Report). if limit_passed x then statuses.Limit else worst (asked_ends (reports_in x))) here
+
+ended : (out : List ℕ) (feeds : List (List ℕ)) (old new : Scene) (entries : List Opening) (report : Option Report) (answer : Status) → length (reports_in report) ≤ length feeds → (wrote : WritesOutput (inputs_and_output kinds.Source feeds out) old new entries (ending_of_recording feeds report) answer)
+    → StatusFollows (counts_in old) (counts_in new) report (report_lack report wrote.some) answer
+ended out feeds old new entries report answer few wrote = record {
+  memory = λ lacks. wrote.ran.memory.1 lacks;
+  rose = λ enough risen. elim (wrote.ran.rose risen) [ inl is ↦ is | inr is ↦ absurd (both_ways (report_lack report wrote.some) enough (wrote.ran.memory.0 is)) ];
+  calm = λ enough quiet r here.
+      let (unnamed, unfailing, is) = wrote.ran.calm quiet in
+      is ∙ rest_of (report_lack report wrote.some) (fails_in report wrote.some) (status_besides (ending_of_recording feeds report wrote.some)) enough unfailing ∙ besides feeds report wrote.some r few here;
+}
+
+-- ---- the command
+
 -- all that the program promises of a recording
-pub recorded : (options : RecordOptions) (out : List ℕ) (feeds : List (List ℕ)) (old new : Scene) (outcome : Outcome) (failed : Failures) (answer : ℕ) → 1 ≤ length feeds
-    → old.world.faults < 2 ^ 64 → old.world.input_faults < 2 ^ 64 → old.world.output_faults < 2 ^ 64 → NamesRecorded options out feeds old.world new.world outcome → Takes old.out new.out (report_text outcome.report)
-    → Answers out feeds outcome.report failed old.err new.err answer → RecordingFaultsShow (counts_in old) (counts_in new) feeds outcome failed → Records options out feeds old new outcome.report answer
-recorded options out feeds old new outcome failed answer many world_fits inputs_fit outputs_fit made prints a shows =
-    let before = counts_in old in
-    let now = counts_in new in
+pub recorded : (options : RecordOptions) (out : List ℕ) (feeds : List (List ℕ)) (old new : Scene) (outcome : Outcome) (answer : Status) → old.world.input_faults < 2 ^ 64 → old.world.output_faults < 2 ^ 64
+    → (made : NamesRecorded options out feeds old.world new.world outcome) → WritesOutput (inputs_and_output kinds.Source feeds out) old new made.entries (ending_of_recording feeds outcome.report) answer → Records options out feeds old new outcome.report answer
+recorded options out feeds old new outcome answer inputs_fit outputs_fit made wrote =
     let few = some_reported options out feeds old new outcome outcome.report refl inputs_fit outputs_fit made in
-    let ends = ended out feeds before now outcome outcome.report failed old.err new.err answer many few (few_flags options out feeds old new outcome failed made shows) a shows in
-    let lacking = lacks before now feeds outcome outcome.report failed a.lacked many shows a.lacks in
+    let lacked = report_lack outcome.report wrote.some in
+    let ends = ended out feeds old new made.entries outcome.report answer few wrote in
+    let lacking = lacks (counts_in old) (counts_in new) outcome.report wrote.some wrote.some_rose in
     record {
       entries = made.entries;
       reported = made.reported;
       unreported = made.unreported;
       spares = made.spares;
-      lacked = a.lacked;
-      lacks = lacking;
-      ran = record {
-        opened = made.opened;
-        leaves = made.leaves;
-        counts = made.counts;
-        printed = prints;
-        failed = failed_feeds (feed_flags feeds failed) failed.out;
-        blames = blames options out feeds old new outcome failed made shows (outcomes_show options out feeds old.world new.world outcome made world_fits inputs_fit outputs_fit);
-        printing = failed.printing;
-        blames_output = shows.printing;
-        said = a.told;
-      };
-      feeds_blamed = feed_flags feeds failed;
-      out_blamed = failed.out;
-      failed_are = refl;
-      causes = shows.causes;
+      wrote = wrote;
       ended = ends;
-      decided = decided options out feeds old new outcome.report a.lacked made.entries answer inputs_fit outputs_fit made.counts made.reported lacking ends;
-      whole = whole options out feeds old new outcome.report a.lacked made.entries answer inputs_fit outputs_fit made.counts made.reported lacking ends;
+      decided = decided options out feeds old new outcome.report lacked made.entries answer inputs_fit outputs_fit made.counts made.reported lacking ends;
+      whole = whole options out feeds old new outcome.report lacked made.entries answer inputs_fit outputs_fit made.counts made.reported lacking ends;
     }
-
--- the status of a recording is not that of bad words
-pub not_two : (options : RecordOptions) (out : List ℕ) (feeds : List (List ℕ)) (old new : Scene) (report : Option Report) (answer : ℕ) → Records options out feeds old new report answer → answer ≡ 2 → ⊥
-not_two options out feeds old new report answer all two =
-    let due = ap (λ (f : Failed). troubles_of (feeds_and_output out feeds) (recording_findings out feeds report all.lacked) f all.ran.printing) all.failed_are in
-    status_not_two out feeds report all.feeds_blamed all.out_blamed all.ran.printing all.lacked (ap status_of (sym due) ∙ sym all.ran.said.status_is ∙ two)
-
--- what holds of counts holds of equal ones
-pub shows_in : (b before n now : Counts) (feeds : List (List ℕ)) (outcome : Outcome) (failed : Failures) → b ≡ before → n ≡ now → RecordingFaultsShow b n feeds outcome failed → RecordingFaultsShow before now feeds outcome failed
-shows_in b before n now feeds outcome failed same same_now shows =
-    subst (λ (x : Counts). RecordingFaultsShow before x feeds outcome failed) same_now (subst (λ (x : Counts). RecordingFaultsShow x n feeds outcome failed) same shows)
-
--- what is so of counts is so of equal ones
-pub counts_same : (P : Counts → Counts → Type 0) (b before n now : Counts) → b ≡ before → n ≡ now → P before now → P b n
-counts_same P b before n now same same_now holds = subst (λ (x : Counts). P x n) (sym same) (subst (P before) (sym same_now) holds)

@@ -9,8 +9,8 @@ use Rattle.mcap_io.specs.OutsideCalls.{HasCause, Opens, OpenCause, CountsStand, 
 use Rattle.mcap_io.specs.declared.outside.Failed.{Failed}
 use Rattle.mcap_io.specs.declared.outside.ObjectKind.{ObjectKind}
 use Rattle.mcap_io.specs.declared.outside.ObjectKind.TheVariants as kinds
-use Rattle.mcap_io.specs.declared.outside.OpenRefused.{OpenRefused}
-use Rattle.mcap_io.specs.declared.outside.OpenRefused.TheVariants as open_refusals
+use Rattle.mcap_io.specs.declared.outside.OutsideRefused.{OutsideRefused}
+use Rattle.mcap_io.specs.declared.outside.OutsideRefused.TheVariants as outside_refusals
 use Rattle.mcap_io.proofs.Notes.{noted_in}
 use Rattle.mcap_model.specs.Places.{At, Has, Each}
 use Rattle.mcap_model.proofs.Places.{at_none, at_within, at_read, at_one, at_kept}
@@ -102,8 +102,8 @@ not_out : (other : List ℕ) (kind : ObjectKind) (name : List ℕ) → NoneIsOut
 not_out other kind name zero d within = λ is. let given = is.given in absurd cc
 not_out other kind name (suc n) d within = absurd (omega (arith, within))
 
-pub sink_refused : (name : List ℕ) (old new : WorldState) (why : OpenRefused) → Opens {T = Unit} old new kinds.Sink name (Err why) → CountsStand old new → OpenCause {T = Unit} old.faults new.faults (Err why) → NoSink old new (refusal_of kinds.Sink name why)
-sink_refused name old new open_refusals.Failed opens stands cause = record {
+pub sink_refused : (name : List ℕ) (old new : WorldState) (why : OutsideRefused) → Opens {T = Unit} old new kinds.Sink name (Err why) → CountsStand old new → OpenCause {T = Unit} old.faults new.faults (Err why) → NoSink old new (refusal_of kinds.Sink name why)
+sink_refused name old new outside_refusals.Failed opens stands cause = record {
   told = λ told here. (with_opening told (refused kinds.Sink name), tells_more old.told new.told (refused kinds.Sink name) told opens here, refl, refl);
   stands = stands;
   world = λ fits. cause.once;
@@ -117,7 +117,7 @@ sink_refused name old new open_refusals.Failed opens stands cause = record {
     one : Each (λ (entry : Opening). entry.kind ≡ kinds.Sink) (refused kinds.Sink name ∷ [])
     one zero entry at = ap (λ (e : Opening). e.kind) (sym (same_Some (refused kinds.Sink name) entry at))
     one (suc n) entry at = absurd (at_none n entry at)
-sink_refused name old new open_refusals.Memory opens stands cause = record {
+sink_refused name old new outside_refusals.Memory opens stands cause = record {
   told = λ told here. (told, opens ∙ here, refl, sym (append-nil told.log));
   stands = stands;
   world = λ fits. added_none old.faults new.faults fits cause;

@@ -10,12 +10,12 @@ use Rattle.mcap_model.specs.Places.{Has, Each}
 use Rattle.recorder.specs.declared.options.RecordOptions.{RecordOptions}
 use Rattle.command_base.specs.Ran.{first_failed, has_failed, failed_so, kept_failed, failures_keeping, failures_opening, object_faults, source_faults, live_faults, world_faults, input_faults, output_faults, blamed_among}
 use Rattle.command_base.proofs.Counting.{failed_often}
-use Rattle.record_command.specs.declared.answering.Failures.{Failures}
+use Rattle.output_base.specs.declared.blaming.FailedParts.{FailedParts}
 use Rattle.record_command.specs.declared.answering.Outcome.{Outcome}
-use Rattle.record_command.specs.Record.{any_failed}
 use Rattle.record_command.specs.RecordSteps.{NamesRecorded}
 use Rattle.record_command.proofs.Runs.{world_faults-append, input_faults-append, output_faults-append}
-use Rattle.record_command.specs.Answer.{feed_flags}
+use Rattle.output_base.specs.Outputs.{some_failed}
+use Rattle.output_base.specs.OutputSteps.{flags_of}
 
 first_of_all : (feeds : List (List ℕ)) (index : ℕ) → index + 1 ≤ length feeds → true ≡ first_failed (drop index (map (λ (feed : List ℕ). true) feeds))
 first_of_all [] index within = absurd (omega (arith, within))
@@ -26,29 +26,22 @@ pub every_of : (feeds : List (List ℕ)) (every : Bool) (flags : List Bool) (ind
 every_of feeds true flags index is within = first_of_all feeds index within
 every_of feeds false flags index is within = absurd cc
 
--- where all may have failed, each is blamed
-pub every_blamed : (feeds : List (List ℕ)) (failed : Failures) (index : ℕ) → failed.every_feed ≡ true → index + 1 ≤ length feeds → true ≡ first_failed (drop index (feed_flags feeds failed))
-every_blamed feeds failed index is within = every_of feeds failed.every_feed failed.feeds.now index is within
-
--- so there are some, and as many as feeds
-pub all_blamed : (feeds : List (List ℕ)) → 1 ≤ length feeds → any_failed (map (λ (feed : List ℕ). true) feeds) ≡ true
+-- there are some, and as many as feeds
+pub all_blamed : (feeds : List (List ℕ)) → 1 ≤ length feeds → some_failed (map (λ (feed : List ℕ). true) feeds) ≡ true
 all_blamed [] many = absurd (omega (arith, many))
 all_blamed (feed ∷ feeds) many = refl
 
-some_of : (feeds : List (List ℕ)) (every : Bool) (flags : List Bool) → (every ≡ true) ⊎ (any_failed flags ≡ true) → 1 ≤ length feeds → any_failed (if every then map (λ (feed : List ℕ). true) feeds else flags) ≡ true
+some_of : (feeds : List (List ℕ)) (every : Bool) (flags : List Bool) → (every ≡ true) ⊎ (some_failed flags ≡ true) → 1 ≤ length feeds → some_failed (if every then map (λ (feed : List ℕ). true) feeds else flags) ≡ true
 some_of feeds true flags some many = all_blamed feeds many
 some_of feeds false flags (inl is) many = absurd cc
 some_of feeds false flags (inr is) many = is
 
-pub every_caused : (feeds : List (List ℕ)) (failed : Failures) → (failed.every_feed ≡ true) ⊎ (any_failed failed.feeds.now ≡ true) → 1 ≤ length feeds → any_failed (feed_flags feeds failed) ≡ true
-every_caused feeds failed some many = some_of feeds failed.every_feed failed.feeds.now some many
+pub every_caused : (feeds : List (List ℕ)) (failed : FailedParts) → (failed.every_input ≡ true) ⊎ (some_failed failed.inputs.now ≡ true) → 1 ≤ length feeds → some_failed (flags_of feeds failed) ≡ true
+every_caused feeds failed some many = some_of feeds failed.every_input failed.inputs.now some many
 
 pub long_of : (feeds : List (List ℕ)) (every : Bool) (flags : List Bool) → length flags ≤ length feeds → length (if every then map (λ (feed : List ℕ). true) feeds else flags) ≤ length feeds
 long_of feeds true flags few = omega (arith, length-map feeds (λ (feed : List ℕ). true))
 long_of feeds false flags few = few
-
-pub flags_long : (feeds : List (List ℕ)) (failed : Failures) → length failed.feeds.now ≤ length feeds → length (feed_flags feeds failed) ≤ length feeds
-flags_long feeds failed few = long_of feeds failed.every_feed failed.feeds.now few
 
 -- ---- what entries tell of failures
 
@@ -119,9 +112,9 @@ AreKind kind entries = Each (λ (entry : Opening). entry.kind ≡ kind) entries
 pub rest_kind : (kind : ObjectKind) (x : Opening) (xs : List Opening) → AreKind kind (x ∷ xs) → AreKind kind xs
 rest_kind kind x xs are n entry at = are (suc n) entry at
 
-pub some_has_input : (xs : List Opening) → AreKind kinds.Source xs → any_failed (map has_failed xs) ≡ true → (1 ≤ world_faults xs) ⊎ (1 ≤ input_faults xs)
+pub some_has_input : (xs : List Opening) → AreKind kinds.Source xs → some_failed (map has_failed xs) ≡ true → (1 ≤ world_faults xs) ⊎ (1 ≤ input_faults xs)
 some_has_input [] are is = absurd cc
-some_has_input (x ∷ xs) are is = elim (which (has_failed x) (any_failed (map has_failed xs)) is) [
+some_has_input (x ∷ xs) are is = elim (which (has_failed x) (some_failed (map has_failed xs)) is) [
   | inl first ↦ elim (failing x.given x.kept first) [
     | inl world ↦ inl (omega (arith, world))
     | inr object ↦ inr (omega (arith, object, inputs_of x.kind (object_faults x.kept) (are 0 x refl)))
@@ -168,17 +161,17 @@ pub feeds_write_nothing : (xs : List Opening) → AreKind kinds.Source xs → ou
 feeds_write_nothing [] are = refl
 feeds_write_nothing (x ∷ xs) are = let more = feeds_write_nothing xs (rest_kind kinds.Source x xs are) in omega (arith, more, no_outputs_of x.kind (object_faults x.kept) (are 0 x refl))
 
-pub any_flag : (xs : List Opening) → any_failed (map has_failed xs) ≡ list_any has_failed xs
+pub any_flag : (xs : List Opening) → some_failed (map has_failed xs) ≡ list_any has_failed xs
 any_flag [] = refl
 any_flag (x ∷ xs) = ap (λ (b : Bool). has_failed x || b) (any_flag xs)
 
 -- what an outcome tells of failures shows in the counts, and the other way round
 pub record Showing (old new : WorldState) (feeds : List Bool) (out : Bool) : Type 0 where
-  pub feed_cause : any_failed feeds ≡ true → Rose old.faults new.faults ⊎ Rose old.input_faults new.input_faults
+  pub feed_cause : some_failed feeds ≡ true → Rose old.faults new.faults ⊎ Rose old.input_faults new.input_faults
   pub out_cause : out ≡ true → Rose old.faults new.faults ⊎ Rose old.output_faults new.output_faults
-  pub inputs_told : old.input_faults < 2 ^ 64 - 1 → Rose old.input_faults new.input_faults → any_failed feeds ≡ true
+  pub inputs_told : old.input_faults < 2 ^ 64 - 1 → Rose old.input_faults new.input_faults → some_failed feeds ≡ true
   pub outputs_told : old.output_faults < 2 ^ 64 - 1 → Rose old.output_faults new.output_faults → out ≡ true
-  pub world_told : old.faults < 2 ^ 64 - 1 → Rose old.faults new.faults → (any_failed feeds ≡ true) ⊎ (out ≡ true)
+  pub world_told : old.faults < 2 ^ 64 - 1 → Rose old.faults new.faults → (some_failed feeds ≡ true) ⊎ (out ≡ true)
 
 pub outcomes_show : (options : RecordOptions) (out : List ℕ) (feeds : List (List ℕ)) (old new : WorldState) (outcome : Outcome) → NamesRecorded options out feeds old new outcome → old.faults < 2 ^ 64 → old.input_faults < 2 ^ 64 → old.output_faults < 2 ^ 64
     → Showing old new outcome.feeds_failed.items outcome.out_failed
@@ -188,9 +181,9 @@ outcomes_show options out feeds old new outcome made world_fits inputs_fit outpu
     let outputs : output_faults made.entries ≡ output_faults made.inputs + output_faults made.outputs = ap output_faults made.parts ∙ output_faults-append made.inputs made.outputs in
     let no_inputs = stores_read_nothing made.outputs made.stores in
     let no_outputs = feeds_write_nothing made.inputs made.sources in
-    let flags : any_failed outcome.feeds_failed.items ≡ list_any has_failed made.inputs = ap any_failed made.feeds_failed ∙ any_flag made.inputs in
+    let flags : some_failed outcome.feeds_failed.items ≡ list_any has_failed made.inputs = ap some_failed made.feeds_failed ∙ any_flag made.inputs in
     record {
-      feed_cause = λ is. elim (some_has_input made.inputs made.sources (ap any_failed (sym made.feeds_failed) ∙ is)) [
+      feed_cause = λ is. elim (some_has_input made.inputs made.sources (ap some_failed (sym made.feeds_failed) ∙ is)) [
         | inl some ↦ inl (omega (arith, made.counts.world, world, some, world_fits))
         | inr some ↦ inr (omega (arith, made.counts.inputs, inputs, some, inputs_fit))
       ];
@@ -205,25 +198,3 @@ outcomes_show options out feeds old new outcome made world_fits inputs_fit outpu
         | inr some ↦ inr (made.out_failed ∙ world_has made.outputs some)
       ];
     }
-
--- ---- which names are blamed
-
-pub each_blamed : (P : List ℕ → Type 0) (names : List (List ℕ)) (flags : List Bool) (behind : List (List ℕ)) → ((name : List ℕ) → any_failed flags ≡ true → Has names name → P name) → Each P behind → Each P (blamed_among names flags behind)
-each_blamed P [] flags behind first last k name at = last k name at
-each_blamed P (n ∷ names) [] behind first last k name at = last k name at
-each_blamed P (n ∷ names) (true ∷ flags) behind first last zero name at = subst P (same_Some n name at) (first n refl (0, refl))
-each_blamed P (n ∷ names) (true ∷ flags) behind first last (suc k) name at = each_blamed P names flags behind (λ x some has. first x refl (suc has.0, has.1)) last k name at
-each_blamed P (n ∷ names) (false ∷ flags) behind first last k name at = each_blamed P names flags behind (λ x some has. first x some (suc has.0, has.1)) last k name at
-
-pub some_blamed : (names : List (List ℕ)) (flags : List Bool) (behind : List (List ℕ)) → length flags ≤ length names → any_failed flags ≡ true → blamed_among names flags behind ≡ [] → ⊥
-some_blamed [] [] behind few some none = absurd cc
-some_blamed [] (b ∷ flags) behind few some none = absurd (omega (arith, few))
-some_blamed (n ∷ names) [] behind few some none = absurd cc
-some_blamed (n ∷ names) (true ∷ flags) behind few some none = absurd cc
-some_blamed (n ∷ names) (false ∷ flags) behind few some none = some_blamed names flags behind (omega (arith, few)) some none
-
-pub none_behind : (names : List (List ℕ)) (flags : List Bool) (behind : List (List ℕ)) → blamed_among names flags behind ≡ [] → behind ≡ []
-none_behind [] flags behind none = none
-none_behind (n ∷ names) [] behind none = none
-none_behind (n ∷ names) (true ∷ flags) behind none = absurd cc
-none_behind (n ∷ names) (false ∷ flags) behind none = none_behind names flags behind none

@@ -14,7 +14,7 @@ use Rattle.mcap_model.specs.Pieces.{joined, back_of, file_pieces, pieces_before}
 use Rattle.mcap_model.proofs.Pieces.{pieces_make_files, stops_leave_prefixes}
 use Rattle.mcap_model.proofs.Prefixes.{begins_with}
 use Rattle.chunk_writer.specs.Stops.{numbers, Ends}
-use Rattle.recorder.specs.Recorded.{end_answer, TookFront}
+use Rattle.recorder.specs.Recorded.{answer_of, TookFront}
 use Rattle.recorder.specs.declared.report.WriterReport.{WriterReport}
 use Rattle.record_command.specs.Record.{OutputHolds}
 
@@ -35,7 +35,7 @@ long text front more n split size = omega (arith, ap length split, length-append
 file_begins : (options : FileOptions) (history : List Rec) → file_of options [] history ≡ front options.profile ++ joined (map piece_bytes (pieces_of options.chunk history) ++ back_of options [] history ∷ [])
 file_begins options history = sym (pieces_make_files options [] history)
 
-some_held : (options : FileOptions) (before now : Option (List ℕ)) (history : List Rec) (w : WriterReport) (end : End) → w.end ≡ end → Ends options [] before now history (numbers w.blocks w.bytes) (end_answer end) → TookFront options history w.bytes → before ≡ Some [] → Holds options history w now
+some_held : (options : FileOptions) (before now : Option (List ℕ)) (history : List Rec) (w : WriterReport) (end : End) → w.end ≡ end → Ends options [] before now history (numbers w.blocks w.bytes) (answer_of end) → TookFront options history w.bytes → before ≡ Some [] → Holds options history w now
 some_held options before now history w ends.Closed is all begun none = record {
   text = file_of options [] history;
   is = all.0 [] none;
@@ -61,7 +61,7 @@ some_held options before now history w (ends.Stopped stop) is stopped begun none
       ];
     }
 
-pub holds : (options : FileOptions) (before now : Option (List ℕ)) (history : List Rec) (w : WriterReport) → Ends options [] before now history (numbers w.blocks w.bytes) (end_answer w.end) → TookFront options history w.bytes → before ≡ Some [] → Holds options history w now
+pub holds : (options : FileOptions) (before now : Option (List ℕ)) (history : List Rec) (w : WriterReport) → Ends options [] before now history (numbers w.blocks w.bytes) (answer_of w.end) → TookFront options history w.bytes → before ≡ Some [] → Holds options history w now
 holds options before now history w wrote begun none = some_held options before now history w w.end refl wrote begun none
 
 abbrev some_text : List ℕ → Option (List ℕ)

@@ -1,4 +1,4 @@
-mod Due
+mod Halts
 mod Statuses
 pub mod Whole
 mod Held

@@ -10,8 +10,8 @@ use Rattle.mcap_io.specs.OutsideCalls.{HasCause, Opens, OpenCause, CountsStand, 
 use Rattle.mcap_io.specs.declared.outside.Failed.{Failed}
 use Rattle.mcap_io.specs.declared.outside.ObjectKind.{ObjectKind}
 use Rattle.mcap_io.specs.declared.outside.ObjectKind.TheVariants as kinds
-use Rattle.mcap_io.specs.declared.outside.OpenRefused.{OpenRefused}
-use Rattle.mcap_io.specs.declared.outside.OpenRefused.TheVariants as open_refusals
+use Rattle.mcap_io.specs.declared.outside.OutsideRefused.{OutsideRefused}
+use Rattle.mcap_io.specs.declared.outside.OutsideRefused.TheVariants as outside_refusals
 use Rattle.mcap_io.proofs.Notes.{noted_in}
 use Rattle.mcap_model.specs.Places.{At, Has, Each}
 use Rattle.mcap_model.proofs.Places.{at_none}
@@ -19,9 +19,10 @@ use Rattle.mcap_model.proofs.Lists.{at_either, cut_at}
 use Rattle.recorder.specs.declared.options.RecordOptions.{RecordOptions}
 use Rattle.recorder.specs.declared.report.Report.{Report}
 use Rattle.recorder.specs.Recorded.{sides, Recorded}
+use Rattle.output_base.specs.Outputs.{inputs_and_output, failed_of, LeftUnderName}
 use Rattle.record_command.specs.declared.answering.Outcome.{Outcome}
 use Rattle.command_base.specs.Ran.{Wanted, wanted, kept, refused, has_failed, failed_so, failed_names, blamed_among, blamed_names, named_when, input_faults, output_faults, world_faults, AreOpened, IsGivenLive}
-use Rattle.record_command.specs.Record.{feeds_and_output, failed_feeds, FeedKept, feed_entry, live_entry, feed_names_kept, back_sources, LeftUnderName, Reported, Unreported}
+use Rattle.record_command.specs.Record.{FeedKept, feed_entry, live_entry, feed_names_kept, back_sources, Reported, Unreported}
 use Rattle.record_command.specs.RecordSteps.{NamesRecorded}
 use Rattle.record_command.specs.Sources.{feed_given, with_feed_openings, FeedsOpened, FeedRefused, NoSourceOut, FeedsKept, feed_flags_with}
 use Rattle.command_base.proofs.Counting.{added_none, kept_adds}
@@ -95,9 +96,9 @@ opened_all (k ∷ ks) rest behind opens = inr (record { well = k.well; faults = 
 
 -- ---- an opening that is refused
 
-abbrev pub refusal_of : ObjectKind → List ℕ → OpenRefused → List Opening
-refusal_of kind name open_refusals.Failed = refused kind name ∷ []
-refusal_of kind name open_refusals.Memory = []
+abbrev pub refusal_of : ObjectKind → List ℕ → OutsideRefused → List Opening
+refusal_of kind name outside_refusals.Failed = refused kind name ∷ []
+refusal_of kind name outside_refusals.Memory = []
 
 -- it leaves the names, and the counts but for its own failure; it gives nothing to be kept or written
 record Refusal (old new : WorldState) (behind : List Opening) : Type 0 where
@@ -114,9 +115,9 @@ not_out : (kind : ObjectKind) (other : List ℕ) (name : List ℕ) → NoneIsOut
 not_out kind other name zero d within = λ is. let given = is.given in absurd cc
 not_out kind other name (suc n) d within = absurd (omega (arith, within))
 
-refused_so : (kind : ObjectKind) (name : List ℕ) (old new : WorldState) (why : OpenRefused) → ((n : ℕ) → input_faults (refused kind name ∷ []) ≡ 0) → ((n : ℕ) → output_faults (refused kind name ∷ []) ≡ 0) → Opens {T = Unit} old new kind name (Err why) → CountsStand old new → OpenCause {T = Unit} old.faults new.faults (Err why)
+refused_so : (kind : ObjectKind) (name : List ℕ) (old new : WorldState) (why : OutsideRefused) → ((n : ℕ) → input_faults (refused kind name ∷ []) ≡ 0) → ((n : ℕ) → output_faults (refused kind name ∷ []) ≡ 0) → Opens {T = Unit} old new kind name (Err why) → CountsStand old new → OpenCause {T = Unit} old.faults new.faults (Err why)
     → Refusal old new (refusal_of kind name why)
-refused_so kind name old new open_refusals.Failed no_inputs no_outputs opens stands cause = record {
+refused_so kind name old new outside_refusals.Failed no_inputs no_outputs opens stands cause = record {
   told = λ told here. (with_opening told (refused kind name), tells_more old.told new.told (refused kind name) told opens here, refl, refl);
   stands = stands;
   world = λ fits. cause.once;
@@ -126,7 +127,7 @@ refused_so kind name old new open_refusals.Failed no_inputs no_outputs opens sta
   left = λ told. each_alone (LeftUnderName told) (refused kind name) (λ feed keeping is. let none : None ≡ Some keeping = ap kept_in is in absurd cc);
   failed = refl;
 }
-refused_so kind name old new open_refusals.Memory no_inputs no_outputs opens stands cause = record {
+refused_so kind name old new outside_refusals.Memory no_inputs no_outputs opens stands cause = record {
   told = λ told here. (told, opens ∙ here, refl, sym (append-nil told.log));
   stands = stands;
   world = λ fits. added_none old.faults new.faults fits cause;
@@ -175,10 +176,10 @@ module _ (w0 w1 w2 w3 : WorldState) (fs : List (List ℕ)) (ss : List SourceStat
   no_outputs : output_faults entries ≡ 0
   no_outputs = omega (arith, output_faults-append (map feed_entry it.kept.kept) behind, sources_write_nothing it.kept.kept, it.refusal.outputs)
 
-  unrecorded : (options : RecordOptions) (out : List ℕ) (feeds : List (List ℕ)) (outcome : Outcome) (inputs outputs : List Opening) → AreOpened (wanted (feeds_and_output out feeds)) entries → entries ≡ inputs ++ outputs → length inputs ≤ length feeds
+  unrecorded : (options : RecordOptions) (out : List ℕ) (feeds : List (List ℕ)) (outcome : Outcome) (inputs outputs : List Opening) → AreOpened (wanted (inputs_and_output kinds.Source feeds out)) entries → entries ≡ inputs ++ outputs → length inputs ≤ length feeds
       → Each (λ (entry : Opening). entry.kind ≡ kinds.Source) inputs → Each (λ (entry : Opening). entry.kind ≡ kinds.Live) outputs
       → outcome.report ≡ None → outcome.feeds_failed.items ≡ map has_failed inputs → outcome.out_failed ≡ list_any has_failed outputs
-      → failed_names entries ≡ blamed_names (feeds_and_output out feeds) (failed_feeds outcome.feeds_failed.items outcome.out_failed) → NamesRecorded options out feeds w0 w3 outcome
+      → failed_names entries ≡ blamed_names (inputs_and_output kinds.Source feeds out) (failed_of outcome.feeds_failed.items outcome.out_failed) → NamesRecorded options out feeds w0 w3 outcome
   unrecorded options out feeds outcome inputs outputs opens parts few sources stores none flags_are out_is names =
       let second = it.refusal.world (omega (arith, it.opened.still, it.world_fits)) in
       let third = it.kept.world (omega (arith, second)) in
@@ -224,7 +225,7 @@ blamed_kept (k ∷ ks) names flags behind =
 
 -- the names of the outcome are those of the entries
 pub names_same : (out : List ℕ) (feeds more : List (List ℕ)) (ks : List FeedKept) (behind : List Opening) (flags : List Bool) (o : Bool) (all : List Bool) → feeds ≡ feed_names_kept ks ++ more → all ≡ map has_failed (map feed_entry ks) ++ flags
-    → failed_names behind ≡ blamed_among more flags (named_when o out ++ []) → failed_names (map feed_entry ks ++ behind) ≡ blamed_names (feeds_and_output out feeds) (failed_feeds all o)
+    → failed_names behind ≡ blamed_among more flags (named_when o out ++ []) → failed_names (map feed_entry ks ++ behind) ≡ blamed_names (inputs_and_output kinds.Source feeds out) (failed_of all o)
 names_same out feeds more ks behind flags o all feeds_are all_are behind_are =
     flat_map-append (λ (entry : Opening). named_when (has_failed entry) entry.name) (map feed_entry ks) behind
     ∙ ap (λ (l : List (List ℕ)). failed_names (map feed_entry ks) ++ l) behind_are
@@ -234,14 +235,14 @@ names_same out feeds more ks behind flags o all feeds_are all_are behind_are =
 
 -- ---- the output wasn't given
 
-pub out_refused : (options : RecordOptions) (out : List ℕ) (feeds : List (List ℕ)) (w0 w1 w2 w3 : WorldState) (ss : List SourceState) (flags : List Bool) (why : OpenRefused) (failed : Bool) (outcome : Outcome) → FeedsOpened w0 w1 feeds ss
+pub out_refused : (options : RecordOptions) (out : List ℕ) (feeds : List (List ℕ)) (w0 w1 w2 w3 : WorldState) (ss : List SourceState) (flags : List Bool) (why : OutsideRefused) (failed : Bool) (outcome : Outcome) → FeedsOpened w0 w1 feeds ss
     → Opens {T = Unit} w1 w2 kinds.Live out (Err why) → CountsStand w1 w2 → OpenCause {T = Unit} w1.faults w2.faults (Err why) → FeedsKept w2 w3 feeds ss flags
     → w0.faults < 2 ^ 64 → w0.input_faults < 2 ^ 64 → w0.output_faults < 2 ^ 64
-    → (failed ≡ true → why ≡ open_refusals.Failed) → (failed ≡ false → why ≡ open_refusals.Memory) → unmade flags failed outcome → NamesRecorded options out feeds w0 w3 outcome
+    → (failed ≡ true → why ≡ outside_refusals.Failed) → (failed ≡ false → why ≡ outside_refusals.Memory) → unmade flags failed outcome → NamesRecorded options out feeds w0 w3 outcome
 out_refused options out feeds w0 w1 w2 w3 ss flags why failed outcome opened opens stands cause kept world_fits inputs_fit outputs_fit is_failed is_memory made =
     let it : Unread w0 w1 w2 w3 feeds ss (refusal_of kinds.Live out why) flags = record { opened = opened; refusal = refused_so kinds.Live out w1 w2 why (λ n. refl) (λ n. refl) opens stands cause; kept = kept; world_fits = world_fits; inputs_fit = inputs_fit; outputs_fit = outputs_fit } in
     unrecorded w0 w1 w2 w3 feeds ss (refusal_of kinds.Live out why) flags it options out feeds outcome (map feed_entry kept.kept) (refusal_of kinds.Live out why)
-    (subst (λ (l : List (List ℕ)). AreOpened (wanted (feeds_and_output out l)) (map feed_entry kept.kept ++ refusal_of kinds.Live out why)) (sym kept.names_are) (opened_all kept.kept ((kinds.Live, out) ∷ []) (refusal_of kinds.Live out why) (opens_out why)))
+    (subst (λ (l : List (List ℕ)). AreOpened (wanted (inputs_and_output kinds.Source l out)) (map feed_entry kept.kept ++ refusal_of kinds.Live out why)) (sym kept.names_are) (opened_all kept.kept ((kinds.Live, out) ∷ []) (refusal_of kinds.Live out why) (opens_out why)))
     refl
     (omega (arith, length-map kept.kept feed_entry, length-map kept.kept (λ (k : FeedKept). k.name), ap length kept.names_are))
     (are_sources kept.kept)
@@ -252,41 +253,41 @@ out_refused options out feeds w0 w1 w2 w3 ss flags why failed outcome opened ope
     (names_same out feeds [] kept.kept (refusal_of kinds.Live out why) [] outcome.out_failed outcome.feeds_failed.items (kept.names_are ∙ sym (append-nil (feed_names_kept kept.kept))) (made.1 ∙ kept.failed_are ∙ sym (map_kept kept.kept) ∙ sym (append-nil (map has_failed (map feed_entry kept.kept))))
     (named_so why failed is_failed is_memory ∙ ap (λ (b : Bool). named_when b out ++ []) (sym made.2)))
   where
-    named_so : (why : OpenRefused) (failed : Bool) → (failed ≡ true → why ≡ open_refusals.Failed) → (failed ≡ false → why ≡ open_refusals.Memory) → failed_names (refusal_of kinds.Live out why) ≡ named_when failed out ++ []
-    named_so open_refusals.Failed true a b = refl
-    named_so open_refusals.Failed false a b = absurd (let e = b refl in cc)
-    named_so open_refusals.Memory true a b = absurd (let e = a refl in cc)
-    named_so open_refusals.Memory false a b = refl
+    named_so : (why : OutsideRefused) (failed : Bool) → (failed ≡ true → why ≡ outside_refusals.Failed) → (failed ≡ false → why ≡ outside_refusals.Memory) → failed_names (refusal_of kinds.Live out why) ≡ named_when failed out ++ []
+    named_so outside_refusals.Failed true a b = refl
+    named_so outside_refusals.Failed false a b = absurd (let e = b refl in cc)
+    named_so outside_refusals.Memory true a b = absurd (let e = a refl in cc)
+    named_so outside_refusals.Memory false a b = refl
 
-    opens_out : (why : OpenRefused) → AreOpened ((kinds.Live, out) ∷ []) (refusal_of kinds.Live out why)
-    opens_out open_refusals.Failed = inl (refl, refl)
-    opens_out open_refusals.Memory = tt
+    opens_out : (why : OutsideRefused) → AreOpened ((kinds.Live, out) ∷ []) (refusal_of kinds.Live out why)
+    opens_out outside_refusals.Failed = inl (refl, refl)
+    opens_out outside_refusals.Memory = tt
 
-    is_store : (why : OpenRefused) → Each (λ (entry : Opening). entry.kind ≡ kinds.Live) (refusal_of kinds.Live out why)
-    is_store open_refusals.Failed = each_alone (λ (entry : Opening). entry.kind ≡ kinds.Live) (refused kinds.Live out) refl
-    is_store open_refusals.Memory = each_none (λ (entry : Opening). entry.kind ≡ kinds.Live)
+    is_store : (why : OutsideRefused) → Each (λ (entry : Opening). entry.kind ≡ kinds.Live) (refusal_of kinds.Live out why)
+    is_store outside_refusals.Failed = each_alone (λ (entry : Opening). entry.kind ≡ kinds.Live) (refused kinds.Live out) refl
+    is_store outside_refusals.Memory = each_none (λ (entry : Opening). entry.kind ≡ kinds.Live)
 
-    told_so : (why : OpenRefused) (failed : Bool) → (failed ≡ true → why ≡ open_refusals.Failed) → (failed ≡ false → why ≡ open_refusals.Memory) → failed ≡ list_any has_failed (refusal_of kinds.Live out why)
-    told_so open_refusals.Failed true a b = refl
-    told_so open_refusals.Failed false a b = absurd (let e = b refl in cc)
-    told_so open_refusals.Memory true a b = absurd (let e = a refl in cc)
-    told_so open_refusals.Memory false a b = refl
+    told_so : (why : OutsideRefused) (failed : Bool) → (failed ≡ true → why ≡ outside_refusals.Failed) → (failed ≡ false → why ≡ outside_refusals.Memory) → failed ≡ list_any has_failed (refusal_of kinds.Live out why)
+    told_so outside_refusals.Failed true a b = refl
+    told_so outside_refusals.Failed false a b = absurd (let e = b refl in cc)
+    told_so outside_refusals.Memory true a b = absurd (let e = a refl in cc)
+    told_so outside_refusals.Memory false a b = refl
 
 -- ---- a feed wasn't given
 
-pub feed_refused : (options : RecordOptions) (out : List ℕ) (feeds : List (List ℕ)) (w0 w2 w3 : WorldState) (ss : List SourceState) (flags : List Bool) (why : OpenRefused) (failed : Bool) (outcome : Outcome) → FeedRefused w0 w2 feeds ss why → FeedsKept w2 w3 (take (length ss) feeds) ss flags
+pub feed_refused : (options : RecordOptions) (out : List ℕ) (feeds : List (List ℕ)) (w0 w2 w3 : WorldState) (ss : List SourceState) (flags : List Bool) (why : OutsideRefused) (failed : Bool) (outcome : Outcome) → FeedRefused w0 w2 feeds ss why → FeedsKept w2 w3 (take (length ss) feeds) ss flags
     → w0.faults < 2 ^ 64 → w0.input_faults < 2 ^ 64 → w0.output_faults < 2 ^ 64
-    → (failed ≡ true → why ≡ open_refusals.Failed) → (failed ≡ false → why ≡ open_refusals.Memory) → unmade (feed_flags_with flags failed) false outcome → NamesRecorded options out feeds w0 w3 outcome
+    → (failed ≡ true → why ≡ outside_refusals.Failed) → (failed ≡ false → why ≡ outside_refusals.Memory) → unmade (feed_flags_with flags failed) false outcome → NamesRecorded options out feeds w0 w3 outcome
 feed_refused options out feeds w0 w2 w3 ss flags why failed outcome refuses kept world_fits inputs_fit outputs_fit is_failed is_memory made =
     let name = refuses.name in
     let behind = refusal_of kinds.Source name why in
     let cut = cut_at feeds (length ss) name refuses.next in
     let split : feeds ≡ feed_names_kept kept.kept ++ name ∷ cut.0 = cut.1 ∙ ap (λ (l : List (List ℕ)). l ++ name ∷ cut.0) kept.names_are in
     let it : Unread w0 refuses.between w2 w3 (take (length ss) feeds) ss behind flags = record { opened = refuses.first; refusal = refused_so kinds.Source name refuses.between w2 why (λ n. refl) (λ n. refl) refuses.refuses refuses.stands refuses.cause; kept = kept; world_fits = world_fits; inputs_fit = inputs_fit; outputs_fit = outputs_fit } in
-    let wanted_are : map (λ (n : List ℕ). (kinds.Source, n)) (feed_names_kept kept.kept) ++ (map (λ (n : List ℕ). (kinds.Source, n)) (name ∷ cut.0) ++ (kinds.Live, out) ∷ []) ≡ wanted (feeds_and_output out feeds) =
+    let wanted_are : map (λ (n : List ℕ). (kinds.Source, n)) (feed_names_kept kept.kept) ++ (map (λ (n : List ℕ). (kinds.Source, n)) (name ∷ cut.0) ++ (kinds.Live, out) ∷ []) ≡ wanted (inputs_and_output kinds.Source feeds out) =
     sym (append_assoc (map (λ (n : List ℕ). (kinds.Source, n)) (feed_names_kept kept.kept)) (map (λ (n : List ℕ). (kinds.Source, n)) (name ∷ cut.0)) ((kinds.Live, out) ∷ []))
     ∙ ap (λ (l : List Wanted). l ++ (kinds.Live, out) ∷ []) (sym (map-append (λ (n : List ℕ). (kinds.Source, n)) (feed_names_kept kept.kept) (name ∷ cut.0)))
-    ∙ ap (λ (l : List (List ℕ)). wanted (feeds_and_output out l)) (sym split) in
+    ∙ ap (λ (l : List (List ℕ)). wanted (inputs_and_output kinds.Source l out)) (sym split) in
     let lengths : length feeds ≡ length kept.kept + suc (length cut.0) = ap length split ∙ length-append (feed_names_kept kept.kept) (name ∷ cut.0) ∙ ap (λ (n : ℕ). n + suc (length cut.0)) (length-map kept.kept (λ (k : FeedKept). k.name)) in
     unrecorded w0 refuses.between w2 w3 (take (length ss) feeds) ss behind flags it options out feeds outcome (map feed_entry kept.kept ++ behind) []
     (subst (λ (l : List Wanted). AreOpened l (map feed_entry kept.kept ++ behind)) wanted_are (opened_all kept.kept (map (λ (n : List ℕ). (kinds.Source, n)) (name ∷ cut.0) ++ (kinds.Live, out) ∷ []) behind (opens_next why name (map (λ (n : List ℕ). (kinds.Source, n)) cut.0 ++ (kinds.Live, out) ∷ []))))
@@ -312,30 +313,30 @@ feed_refused options out feeds w0 w2 w3 ss flags why failed outcome refuses kept
     flags_so true flags ks are = ap (λ (l : List Bool). l ++ true ∷ []) (are ∙ sym (map_kept ks))
     flags_so false flags ks are = are ∙ sym (map_kept ks) ∙ sym (append-nil (map has_failed (map feed_entry ks)))
 
-    named_so : (why : OpenRefused) (failed : Bool) (name : List ℕ) (more : List (List ℕ)) → (failed ≡ true → why ≡ open_refusals.Failed) → (failed ≡ false → why ≡ open_refusals.Memory) → failed_names (refusal_of kinds.Source name why) ≡ blamed_among (name ∷ more) (flag_of failed) (named_when false out ++ [])
-    named_so open_refusals.Failed true name more a b = ap (λ (l : List (List ℕ)). name ∷ l) (sym (none_more more []))
-    named_so open_refusals.Failed false name more a b = absurd (let e = b refl in cc)
-    named_so open_refusals.Memory true name more a b = absurd (let e = a refl in cc)
-    named_so open_refusals.Memory false name more a b = refl
+    named_so : (why : OutsideRefused) (failed : Bool) (name : List ℕ) (more : List (List ℕ)) → (failed ≡ true → why ≡ outside_refusals.Failed) → (failed ≡ false → why ≡ outside_refusals.Memory) → failed_names (refusal_of kinds.Source name why) ≡ blamed_among (name ∷ more) (flag_of failed) (named_when false out ++ [])
+    named_so outside_refusals.Failed true name more a b = ap (λ (l : List (List ℕ)). name ∷ l) (sym (none_more more []))
+    named_so outside_refusals.Failed false name more a b = absurd (let e = b refl in cc)
+    named_so outside_refusals.Memory true name more a b = absurd (let e = a refl in cc)
+    named_so outside_refusals.Memory false name more a b = refl
 
-    opens_next : (why : OpenRefused) (name : List ℕ) (more : List Wanted) → AreOpened ((kinds.Source, name) ∷ more) (refusal_of kinds.Source name why)
-    opens_next open_refusals.Failed name more = inl (refl, refl)
-    opens_next open_refusals.Memory name more = tt
+    opens_next : (why : OutsideRefused) (name : List ℕ) (more : List Wanted) → AreOpened ((kinds.Source, name) ∷ more) (refusal_of kinds.Source name why)
+    opens_next outside_refusals.Failed name more = inl (refl, refl)
+    opens_next outside_refusals.Memory name more = tt
 
-    at_most_one : (why : OpenRefused) (name : List ℕ) → length (refusal_of kinds.Source name why) ≤ 1
-    at_most_one open_refusals.Failed name = omega arith
-    at_most_one open_refusals.Memory name = omega arith
+    at_most_one : (why : OutsideRefused) (name : List ℕ) → length (refusal_of kinds.Source name why) ≤ 1
+    at_most_one outside_refusals.Failed name = omega arith
+    at_most_one outside_refusals.Memory name = omega arith
 
-    is_source : (why : OpenRefused) (name : List ℕ) → Each (λ (entry : Opening). entry.kind ≡ kinds.Source) (refusal_of kinds.Source name why)
-    is_source open_refusals.Failed name = each_alone (λ (entry : Opening). entry.kind ≡ kinds.Source) (refused kinds.Source name) refl
-    is_source open_refusals.Memory name = each_none (λ (entry : Opening). entry.kind ≡ kinds.Source)
+    is_source : (why : OutsideRefused) (name : List ℕ) → Each (λ (entry : Opening). entry.kind ≡ kinds.Source) (refusal_of kinds.Source name why)
+    is_source outside_refusals.Failed name = each_alone (λ (entry : Opening). entry.kind ≡ kinds.Source) (refused kinds.Source name) refl
+    is_source outside_refusals.Memory name = each_none (λ (entry : Opening). entry.kind ≡ kinds.Source)
 
-    told_so : (why : OpenRefused) (failed : Bool) (name : List ℕ) → (failed ≡ true → why ≡ open_refusals.Failed) → (failed ≡ false → why ≡ open_refusals.Memory) → (ks : List FeedKept) (flags : List Bool) → flags ≡ map (λ (k : FeedKept). has_failed (feed_entry k)) ks
+    told_so : (why : OutsideRefused) (failed : Bool) (name : List ℕ) → (failed ≡ true → why ≡ outside_refusals.Failed) → (failed ≡ false → why ≡ outside_refusals.Memory) → (ks : List FeedKept) (flags : List Bool) → flags ≡ map (λ (k : FeedKept). has_failed (feed_entry k)) ks
         → feed_flags_with flags failed ≡ map has_failed (map feed_entry ks ++ refusal_of kinds.Source name why)
-    told_so open_refusals.Failed true name a b ks flags are = ap (λ (l : List Bool). l ++ true ∷ []) (are ∙ sym (map_kept ks)) ∙ sym (map-append has_failed (map feed_entry ks) (refused kinds.Source name ∷ []))
-    told_so open_refusals.Failed false name a b ks flags are = absurd (let e = b refl in cc)
-    told_so open_refusals.Memory true name a b ks flags are = absurd (let e = a refl in cc)
-    told_so open_refusals.Memory false name a b ks flags are = are ∙ sym (map_kept ks) ∙ ap (map has_failed) (sym (append-nil (map feed_entry ks)))
+    told_so outside_refusals.Failed true name a b ks flags are = ap (λ (l : List Bool). l ++ true ∷ []) (are ∙ sym (map_kept ks)) ∙ sym (map-append has_failed (map feed_entry ks) (refused kinds.Source name ∷ []))
+    told_so outside_refusals.Failed false name a b ks flags are = absurd (let e = b refl in cc)
+    told_so outside_refusals.Memory true name a b ks flags are = absurd (let e = a refl in cc)
+    told_so outside_refusals.Memory false name a b ks flags are = are ∙ sym (map_kept ks) ∙ ap (map has_failed) (sym (append-nil (map feed_entry ks)))
 
 -- ---- memory lacked before anything was opened
 
@@ -460,7 +461,7 @@ module _ (options : RecordOptions) (out : List ℕ) (feeds : List (List ℕ)) (w
       → ((r : Report) → outcome.report ≡ Some r → Reported options out feeds w0 w4 all_entries r) → (outcome.report ≡ None → Unreported out w0 w4 all_entries) → NamesRecorded options out feeds w0 w4 outcome
   all_recorded outcome flags_are out_is reported unreported = record {
     entries = all_entries;
-    opened = subst (λ (l : List (List ℕ)). AreOpened (wanted (feeds_and_output out l)) all_entries) (sym b.keeps.names_are) (opened_all ks ((kinds.Live, out) ∷ []) (store ∷ []) (inr (record { well = went_well live_kept; faults = live_now.faults; left = None; asked = 0 }, refl, refl)));
+    opened = subst (λ (l : List (List ℕ)). AreOpened (wanted (inputs_and_output kinds.Source l out)) all_entries) (sym b.keeps.names_are) (opened_all ks ((kinds.Live, out) ∷ []) (store ∷ []) (inr (record { well = went_well live_kept; faults = live_now.faults; left = None; asked = 0 }, refl, refl)));
     leaves = λ told here. let t = all_told told here in (t.0, t.1, t.3, unwritten_others told.names t.0.names t.2.others);
     counts = record { world = all_world; inputs = all_inputs; outputs = all_outputs };
     reported = reported;

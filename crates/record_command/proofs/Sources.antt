@@ -13,7 +13,7 @@ use Rattle.mcap_model.proofs.Places.{at_none, at_more}
 use Rattle.command_base.specs.Ran.{failed_so}
 use Rattle.command_base.proofs.Opened.{tells_more}
 use Rattle.record_command.specs.Record.{FeedKept, feed_entry}
-use Rattle.record_command.specs.Sources.{source_keeping, feed_given, with_feed_openings, FeedsOpened, SourceKept, NoSourceOut, FeedsKept}
+use Rattle.record_command.specs.Sources.{feed_keeping, feed_given, with_feed_openings, FeedsOpened, SourceKept, NoSourceOut, FeedsKept}
 
 -- ---- lists
 
@@ -96,7 +96,7 @@ one_kept w0 w1 w2 fs ss flags f s failed it one =
             back.0,
             back.1,
             back.2 ∙ first.2,
-            noted_in first.0.log back.0.log log (map feed_entry it.kept ++ behind) (feed_given f) kinds.Source f (source_keeping s one.well) (record {
+            noted_in first.0.log back.0.log log (map feed_entry it.kept ++ behind) (feed_given f) kinds.Source f (feed_keeping s one.well) (record {
               there = first.3 ∙ append_assoc log (feed_given f ∷ []) (map feed_entry it.kept ++ behind);
               out = record { kind_is = refl; name_is = refl; given = refl; out = refl };
               newest = none_out it.kept behind none f;

@@ -22,7 +22,7 @@ use Rattle.watching.specs.Text.{SealState, sealed_by, unsealed}
 use Rattle.watching.specs.Watching.{unwritten, written_by, IsQuiet, IsUntold, WritesTo}
 use Rattle.watched_recording.specs.Watched.{Watch, WatchTells, AsksView, AsksViews}
 use Rattle.command_base.specs.Ran.{has_failed, object_faults, world_faults}
-use Rattle.record_command.specs.Record.{any_failed}
+use Rattle.output_base.specs.Outputs.{some_failed}
 use Rattle.record_command.specs.Sinks.{SinkKept, sink_entry, back_sinks, sink_faults, watch_faults}
 use Rattle.record_command.specs.Watched.{FaultCause, IsCalm, EndsSo, view_faults, is_watch_fault, is_flaw, with_ends}
 use Rattle.record_command.specs.WatchedSteps.{or_at}
@@ -38,34 +38,34 @@ pub ends_nothing : (bs : List Bool) → with_ends bs [] ≡ bs
 ends_nothing [] = refl
 ends_nothing (b ∷ bs) = ap (λ (l : List Bool). b ∷ l) (ends_nothing bs)
 
-pub ends_why : (bs : List Bool) (rs : List WatchReport) → any_failed (with_ends bs rs) ≡ true → (any_failed bs ≡ true) ⊎ (list_any ended_so rs ≡ true)
+pub ends_why : (bs : List Bool) (rs : List WatchReport) → some_failed (with_ends bs rs) ≡ true → (some_failed bs ≡ true) ⊎ (list_any ended_so rs ≡ true)
 ends_why [] rs is = absurd (both_ways false refl is)
-ends_why (b ∷ bs) [] is = inl (ap any_failed (sym (ends_nothing (b ∷ bs))) ∙ is)
-ends_why (b ∷ bs) (r ∷ rs) is = elim (which (b || ended_so r) (any_failed (with_ends bs rs)) is) [
+ends_why (b ∷ bs) [] is = inl (ap some_failed (sym (ends_nothing (b ∷ bs))) ∙ is)
+ends_why (b ∷ bs) (r ∷ rs) is = elim (which (b || ended_so r) (some_failed (with_ends bs rs)) is) [
   | inl first ↦ elim (which b (ended_so r) first) [
-    | inl one ↦ inl (or_first b (any_failed bs) one)
+    | inl one ↦ inl (or_first b (some_failed bs) one)
     | inr two ↦ inr (or_first (ended_so r) (list_any ended_so rs) two)
   ]
   | inr later ↦ elim (ends_why bs rs later) [
-    | inl one ↦ inl (or_second b (any_failed bs) one)
+    | inl one ↦ inl (or_second b (some_failed bs) one)
     | inr two ↦ inr (or_second (ended_so r) (list_any ended_so rs) two)
   ]
 ]
 
-pub ends_first : (bs : List Bool) (rs : List WatchReport) → any_failed bs ≡ true → any_failed (with_ends bs rs) ≡ true
+pub ends_first : (bs : List Bool) (rs : List WatchReport) → some_failed bs ≡ true → some_failed (with_ends bs rs) ≡ true
 ends_first [] rs is = absurd (both_ways false refl is)
-ends_first (b ∷ bs) [] is = ap any_failed (ends_nothing (b ∷ bs)) ∙ is
-ends_first (b ∷ bs) (r ∷ rs) is = elim (which b (any_failed bs) is) [
-  | inl first ↦ or_first (b || ended_so r) (any_failed (with_ends bs rs)) (or_first b (ended_so r) first)
-  | inr later ↦ or_second (b || ended_so r) (any_failed (with_ends bs rs)) (ends_first bs rs later)
+ends_first (b ∷ bs) [] is = ap some_failed (ends_nothing (b ∷ bs)) ∙ is
+ends_first (b ∷ bs) (r ∷ rs) is = elim (which b (some_failed bs) is) [
+  | inl first ↦ or_first (b || ended_so r) (some_failed (with_ends bs rs)) (or_first b (ended_so r) first)
+  | inr later ↦ or_second (b || ended_so r) (some_failed (with_ends bs rs)) (ends_first bs rs later)
 ]
 
-pub ends_second : (bs : List Bool) (rs : List WatchReport) → length bs ≡ length rs → list_any ended_so rs ≡ true → any_failed (with_ends bs rs) ≡ true
+pub ends_second : (bs : List Bool) (rs : List WatchReport) → length bs ≡ length rs → list_any ended_so rs ≡ true → some_failed (with_ends bs rs) ≡ true
 ends_second bs [] same is = absurd (both_ways false refl is)
 ends_second [] (r ∷ rs) same is = absurd (omega (arith, same))
 ends_second (b ∷ bs) (r ∷ rs) same is = elim (which (ended_so r) (list_any ended_so rs) is) [
-  | inl first ↦ or_first (b || ended_so r) (any_failed (with_ends bs rs)) (or_second b (ended_so r) first)
-  | inr later ↦ or_second (b || ended_so r) (any_failed (with_ends bs rs)) (ends_second bs rs (omega (arith, same)) later)
+  | inl first ↦ or_first (b || ended_so r) (some_failed (with_ends bs rs)) (or_second b (ended_so r) first)
+  | inr later ↦ or_second (b || ended_so r) (some_failed (with_ends bs rs)) (ends_second bs rs (omega (arith, same)) later)
 ]
 
 pub or_at_within : (bs : List Bool) (n : ℕ) (other e : Bool) → n < length bs → or_at bs n e ≡ set bs n (get_or bs n other || e)
@@ -95,9 +95,9 @@ written_over len new old same size =
 faults_of : (kind : ObjectKind) (n : ℕ) → kind ≡ kinds.Sink → sink_faults kind n ≡ n
 faults_of kind n is = ap (λ (k : ObjectKind). sink_faults k n) is
 
-pub some_has_sink : (xs : List Opening) → AreKind kinds.Sink xs → any_failed (map has_failed xs) ≡ true → (1 ≤ world_faults xs) ⊎ (1 ≤ watch_faults xs)
+pub some_has_sink : (xs : List Opening) → AreKind kinds.Sink xs → some_failed (map has_failed xs) ≡ true → (1 ≤ world_faults xs) ⊎ (1 ≤ watch_faults xs)
 some_has_sink [] are is = absurd (both_ways false refl is)
-some_has_sink (x ∷ xs) are is = elim (which (has_failed x) (any_failed (map has_failed xs)) is) [
+some_has_sink (x ∷ xs) are is = elim (which (has_failed x) (some_failed (map has_failed xs)) is) [
   | inl first ↦ elim (failing x.given x.kept first) [
     | inl world ↦ inl (omega (arith, world))
     | inr object ↦ inr (omega (arith, object, faults_of x.kind (object_faults x.kept) (are 0 x refl)))
@@ -108,11 +108,11 @@ some_has_sink (x ∷ xs) are is = elim (which (has_failed x) (any_failed (map ha
   ]
 ]
 
-pub sinks_have : (xs : List Opening) → AreKind kinds.Sink xs → 1 ≤ watch_faults xs → any_failed (map has_failed xs) ≡ true
+pub sinks_have : (xs : List Opening) → AreKind kinds.Sink xs → 1 ≤ watch_faults xs → some_failed (map has_failed xs) ≡ true
 sinks_have [] are some = absurd (omega (arith, some))
 sinks_have (x ∷ xs) are some = elim (some_more (sink_faults x.kind (object_faults x.kept)) (watch_faults xs) some) [
-  | inl first ↦ or_first (has_failed x) (any_failed (map has_failed xs)) (told_object x.given x.kept (omega (arith, first, faults_of x.kind (object_faults x.kept) (are 0 x refl))))
-  | inr later ↦ or_second (has_failed x) (any_failed (map has_failed xs)) (sinks_have xs (rest_kind kinds.Sink x xs are) later)
+  | inl first ↦ or_first (has_failed x) (some_failed (map has_failed xs)) (told_object x.given x.kept (omega (arith, first, faults_of x.kind (object_faults x.kept) (are 0 x refl))))
+  | inr later ↦ or_second (has_failed x) (some_failed (map has_failed xs)) (sinks_have xs (rest_kind kinds.Sink x xs are) later)
 ]
 
 -- ---- faults of watchers

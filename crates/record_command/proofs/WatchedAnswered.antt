@@ -14,24 +14,29 @@ use Rattle.watching.specs.declared.report.WatchEnd.TheVariants as watch_ends
 use Rattle.watching.specs.declared.report.WatchReport.{WatchReport}
 use Rattle.watched_recording.specs.Watched.{Watch}
 use Rattle.command_base.specs.Printing.{Takes}
+use Rattle.command_base.specs.declared.statuses.Status.{Status}
+use Rattle.command_base.specs.declared.statuses.Status.TheVariants as statuses
 use Rattle.command_base.specs.Texts.{halt_status}
 use Rattle.command_base.specs.Ran.{Scene, has_failed, input_faults, output_faults}
 use Rattle.record_command.specs.declared.watched_names.WatchedOutcome.{WatchedOutcome}
 use Rattle.record_command.specs.declared.watched_answer.WatchedCounts.{WatchedCounts}
 use Rattle.record_command.specs.declared.watched_answer.WatchedFailures.{WatchedFailures}
-use Rattle.record_command.specs.Record.{feed_entry, live_entry, reports_in, any_failed, worst, report_text, limit_was_passed, recording_passes_limit, lacks_memory, FeedHalts}
-use Rattle.record_command.specs.Answer.{feed_flags}
+use Rattle.report_findings.specs.Findings.{limit_passed, passes_limit, lacks_memory}
+use Rattle.record_command.specs.Record.{feed_entry, live_entry, reports_in, worst, report_text, FeedHalts}
+use Rattle.output_base.specs.Outputs.{some_failed}
+use Rattle.output_base.specs.OutputSteps.{flags_of}
 use Rattle.record_command.specs.Sinks.{SinkKept, sink_entry}
 use Rattle.record_command.specs.Watched.{named, requested, reported_with, CountsBeside, ReportedBeside, is_watch_fault, is_flaw}
 use Rattle.record_command.specs.WatchedSteps.{NamesWatched, some_flaw, watch_flags_of, blamed_in, AnyPartFailed, WatchedPartsShow, LacksMemoryBeside, AnswersBeside}
 use Rattle.record_command.specs.WatchedAnswer.{watched_counts_in, AnyCountRose, is_memory_watch, lacks_beside, LackIsToldBeside, BlamesExactly, ends_status_beside, EndsBeside, RecordsAllBeside, RecordsWatched}
 use Rattle.record_command.proofs.Runs.{input_faults-append, output_faults-append}
-use Rattle.record_command.proofs.Flags.{flags_long, every_caused}
+use Rattle.output_base.proofs.Blamed.{flags_long}
+use Rattle.record_command.proofs.Flags.{every_caused}
 use Rattle.record_command.proofs.Parts.{shown_every, shown_some}
 use Rattle.record_command.proofs.Statuses.{where_lacked, where_enough}
-use Rattle.record_command.proofs.Whole.{Read, as_many, ends_decided, all_recorded, any_at, map_long, at_map, sources_write_nothing, unlimited, unlimited_status, limit_kept}
+use Rattle.record_command.proofs.Whole.{Read, as_many, ends_decided, all_recorded, any_at, map_long, at_map, sources_write_nothing, unlimited, unlimited_status, limit_kept, undone_memory, undone_fault}
 use Rattle.record_command.proofs.WatchedFlags.{watch_flags_long, blamed_long, ShowingBeside}
-use Rattle.record_command.proofs.WatchedStatuses.{any_part, watched_status, watched_not_two, worst_unflawed, none_flawed}
+use Rattle.record_command.proofs.WatchedStatuses.{any_part, watched_status, worst_unflawed, none_flawed}
 
 -- ---- what was read
 
@@ -88,10 +93,10 @@ module _ (options : RecordOptions) (range : Range) (out : List ℕ) (watches fee
 -- ---- what failed
 
 module _ (before now : WatchedCounts) (watches feeds : List (List ℕ)) (outcome : WatchedOutcome) (failed : WatchedFailures) (many_watches : 1 ≤ length watches) (many : 1 ≤ length feeds) (shows : WatchedPartsShow before now watches feeds outcome failed) where
-  feed_rose : (failed.parts.every_feed ≡ true) ⊎ (any_failed failed.parts.feeds.now ≡ true) → AnyCountRose before now
+  feed_rose : (failed.parts.every_input ≡ true) ⊎ (some_failed failed.parts.inputs.now ≡ true) → AnyCountRose before now
   feed_rose some = elim (shows.causes.feed_cause (every_caused feeds failed.parts some many)) [ inl world ↦ inl (inl world) | inr inputs ↦ inl (inr (inl inputs)) ]
 
-  watch_rose : any_failed (watch_flags_of watches failed) ≡ true → AnyCountRose before now
+  watch_rose : some_failed (watch_flags_of watches failed) ≡ true → AnyCountRose before now
   watch_rose some = elim (shows.causes.watch_cause some) [ inl world ↦ inl (inl world) | inr (inl outputs) ↦ inl (inr (inr (inl outputs))) | inr (inr sinks) ↦ inr sinks ]
 
   out_rose : failed.parts.out ≡ true → AnyCountRose before now
@@ -118,12 +123,12 @@ module _ (before now : WatchedCounts) (watches feeds : List (List ℕ)) (outcome
   -- ---- the status
 
   abbrev parts : Bool
-  parts = any_part (feed_flags feeds failed.parts) failed.parts.out (watch_flags_of watches failed) failed.parts.printing
+  parts = any_part (flags_of feeds failed.parts) failed.parts.out (watch_flags_of watches failed) failed.parts.printing
 
   rise : AnyCountRose before now → parts ≡ true
   rise risen =
-      let flags = any_failed (feed_flags feeds failed.parts) in
-      let sinks = any_failed (watch_flags_of watches failed) in
+      let flags = some_failed (flags_of feeds failed.parts) in
+      let sinks = some_failed (watch_flags_of watches failed) in
       elim risen [
         | inl (inl world) ↦ elim (shows.causes.world_told world) [
           | inl some ↦ some_of flags failed.parts.out sinks failed.parts.printing (inl some)
@@ -148,7 +153,7 @@ module _ (before now : WatchedCounts) (watches feeds : List (List ℕ)) (outcome
 
   fall : (AnyCountRose before now → ⊥) → parts ≡ false
   fall quiet =
-      none_of (any_failed (feed_flags feeds failed.parts)) failed.parts.out (any_failed (watch_flags_of watches failed)) failed.parts.printing
+      none_of (some_failed (flags_of feeds failed.parts)) failed.parts.out (some_failed (watch_flags_of watches failed)) failed.parts.printing
       (λ some. elim (shows.causes.feed_cause some) [ inl world ↦ quiet (inl (inl world)) | inr inputs ↦ quiet (inl (inr (inl inputs))) ])
       (λ some. quiet (out_rose some)) (λ some. quiet (watch_rose some)) (λ some. quiet (printing_rose some))
     where
@@ -159,31 +164,29 @@ module _ (before now : WatchedCounts) (watches feeds : List (List ℕ)) (outcome
       none_of false false false true first second third fourth = absurd (fourth refl)
       none_of false false false false first second third fourth = refl
 
-  ended : (out : List ℕ) (err err_now : SinkState) (answer : ℕ) → length (reports_in outcome.report) ≤ length feeds → length outcome.watches.items ≤ length watches → length (feed_flags feeds failed.parts) ≤ length feeds → length (watch_flags_of watches failed) ≤ length watches
+  ended : (out : List ℕ) (err err_now : SinkState) (answer : Status) → length (reports_in outcome.report) ≤ length feeds → length outcome.watches.items ≤ length watches → length (flags_of feeds failed.parts) ≤ length feeds → length (watch_flags_of watches failed) ≤ length watches
       → (a : AnswersBeside (named out watches feeds) outcome failed err err_now answer) → EndsBeside before now outcome.report outcome.watches.items a.lacked answer
   ended out err err_now answer few few_ends few_flags few_sinks a =
-      let number = ends_status_beside (reports_in outcome.report) outcome.watches.items in
-      let rest = cond (limit_was_passed outcome.report) 4 number in
-      let told = cond parts 3 rest in
-      let status : answer ≡ cond a.lacked 5 told = a.told.status_is ∙ watched_status out watches feeds outcome.report outcome.watches.items (blamed_in watches feeds failed) failed.parts.printing a.lacked few few_ends few_flags few_sinks in
+      let rest = cond (limit_passed outcome.report) statuses.Limit (ends_status_beside (reports_in outcome.report) outcome.watches.items) in
+      let told = cond parts statuses.Fault rest in
+      let status : answer ≡ cond a.lacked statuses.Memory told = a.told.status_is ∙ watched_status out watches feeds outcome.report outcome.watches.items (blamed_in watches feeds failed) failed.parts.printing a.lacked few few_ends few_flags few_sinks in
       record {
         memory = where_lacked a.lacked told answer status;
-        rose = λ enough risen. where_enough a.lacked told answer status enough ∙ ap (λ (b : Bool). cond b 3 rest) (rise risen);
+        rose = λ enough risen. where_enough a.lacked told answer status enough ∙ ap (λ (b : Bool). cond b statuses.Fault rest) (rise risen);
         calm = λ enough quiet r here.
             where_enough a.lacked told answer status enough
-            ∙ ap (λ (b : Bool). cond b 3 rest) (fall quiet)
-            ∙ ap (λ (x : Option Report). cond (limit_was_passed x) 4 (ends_status_beside (reports_in x) outcome.watches.items)) here;
+            ∙ ap (λ (b : Bool). cond b statuses.Fault rest) (fall quiet)
+            ∙ ap (λ (x : Option Report). cond (limit_passed x) statuses.Limit (ends_status_beside (reports_in x) outcome.watches.items)) here;
       }
 
--- ---- the status 0
+-- ---- all was done
 
-enough_memory : (before now : WatchedCounts) (report : Option Report) (reports : List WatchReport) (lacked : Bool) (answer : ℕ) → EndsBeside before now report reports lacked answer → answer ≡ 0 → lacked ≡ false
-enough_memory before now report reports lacked answer came is = false_from_ne_true lacked (λ lacks. let five = came.memory lacks in omega (arith, five, is))
+enough_memory : (before now : WatchedCounts) (report : Option Report) (reports : List WatchReport) (lacked : Bool) (answer : Status) → EndsBeside before now report reports lacked answer → answer ≡ statuses.Done → lacked ≡ false
+enough_memory before now report reports lacked answer came is = false_from_ne_true lacked (λ lacks. undone_memory answer (came.memory lacks) is)
 
-calm : (before now : WatchedCounts) (report : Option Report) (reports : List WatchReport) (lacked : Bool) (answer : ℕ) → EndsBeside before now report reports lacked answer → answer ≡ 0 → AnyCountRose before now → ⊥
+calm : (before now : WatchedCounts) (report : Option Report) (reports : List WatchReport) (lacked : Bool) (answer : Status) → EndsBeside before now report reports lacked answer → answer ≡ statuses.Done → AnyCountRose before now → ⊥
 calm before now report reports lacked answer came is risen =
-    let three = came.rose (enough_memory before now report reports lacked answer came is) risen in
-    omega (arith, three, is)
+    undone_fault answer (came.rose (enough_memory before now report reports lacked answer came is) risen) is
 
 -- nothing lacked, so that for none of the three memory did
 none_lacks : (a sealed c : Bool) → (a || (not sealed || c)) ≡ false → (a ≡ false) × ((sealed ≡ true) × (c ≡ false))
@@ -207,7 +210,7 @@ whole_or watch_ends.Memory no_fault no_flaw no_lack no_other = absurd (no_lack r
 -- ---- the whole
 
 module _ (options : RecordOptions) (range : Range) (out : List ℕ) (watches feeds : List (List ℕ)) (old new : Scene) (outcome : WatchedOutcome) (made : NamesWatched (requested options range out watches feeds) old.world new.world outcome)
-    (inputs_fit : old.world.input_faults < 2 ^ 64) (outputs_fit : old.world.output_faults < 2 ^ 64) (lacked : Bool) (answer : ℕ) where
+    (inputs_fit : old.world.input_faults < 2 ^ 64) (outputs_fit : old.world.output_faults < 2 ^ 64) (lacked : Bool) (answer : Status) where
   abbrev before : WatchedCounts
   before = watched_counts_in old
 
@@ -216,7 +219,7 @@ module _ (options : RecordOptions) (range : Range) (out : List ℕ) (watches fee
 
   module _ (report : Option Report) (here : outcome.report ≡ report) (lacking : LackIsToldBeside before after report outcome.sealed outcome.watches.items lacked) (came : EndsBeside before after report outcome.watches.items lacked answer) where
     decided_in : (r : Report) → report ≡ Some r → (told : Told) (halts : List Halt) → old.world.told ≡ Some told → AllZip (FeedHalts told) feeds halts
-        → (AnyCountRose before after → ⊥) → lacked ≡ false → recording_passes_limit r ≡ false → answer ≡ worst (map halt_status halts)
+        → (AnyCountRose before after → ⊥) → lacked ≡ false → passes_limit r ≡ false → answer ≡ worst (map halt_status halts)
     decided_in r is told halts there all quiet enough within =
         let lacking_here : lacked ≡ lacks_beside r outcome.sealed outcome.watches.items = subst (λ (x : Option Report). LackIsToldBeside before after x outcome.sealed outcome.watches.items lacked) is lacking in
         let none = none_lacks (lacks_memory r) outcome.sealed _ (sym lacking_here ∙ enough) in
@@ -224,20 +227,20 @@ module _ (options : RecordOptions) (range : Range) (out : List ℕ) (watches fee
         let unflawed : some_flaw outcome.watches.items ≡ false = ap some_flaw it.reports_are ∙ none_flaws it.seen (it.unflawed told there none.1.0) in
         let ends = ends_decided options feeds old.world new.world r (read_in options range out watches feeds old.world new.world outcome made inputs_fit outputs_fit r (here ∙ is)) inputs_fit outputs_fit
         (λ rose. quiet (inl (inr (inl rose)))) (λ rose. quiet (inl (inr (inr (inl rose))))) none.0 within told halts there all in
-        unlimited (recording_passes_limit r) (ends_status_beside r.feeds.items outcome.watches.items) answer (came.calm enough quiet r is) within
+        unlimited (passes_limit r) (ends_status_beside r.feeds.items outcome.watches.items) answer (came.calm enough quiet r is) within
         ∙ worst_unflawed r.feeds.items outcome.watches.items unflawed ∙ ap worst ends
 
-    whole_in : (r : Report) → report ≡ Some r → answer ≡ 0 → RecordsAllBeside options r outcome.sealed outcome.watches.items
-    whole_in r is zero_is =
+    whole_in : (r : Report) → report ≡ Some r → answer ≡ statuses.Done → RecordsAllBeside options r outcome.sealed outcome.watches.items
+    whole_in r is done =
         let reports = outcome.watches.items in
-        let enough = enough_memory before after report reports lacked answer came zero_is in
-        let quiet = calm before after report reports lacked answer came zero_is in
+        let enough = enough_memory before after report reports lacked answer came done in
+        let quiet = calm before after report reports lacked answer came done in
         let lacking_here : lacked ≡ lacks_beside r outcome.sealed reports = subst (λ (x : Option Report). LackIsToldBeside before after x outcome.sealed reports lacked) is lacking in
         let none = none_lacks (lacks_memory r) outcome.sealed _ (sym lacking_here ∙ enough) in
-        let number = ends_status_beside r.feeds.items reports in
+        let asked = ends_status_beside r.feeds.items reports in
         let status = came.calm enough quiet r is in
-        let within = limit_kept (recording_passes_limit r) number answer status zero_is in
-        let ends = unlimited_status (recording_passes_limit r) number answer status zero_is in
+        let within = limit_kept (passes_limit r) asked answer status done in
+        let ends = unlimited_status (passes_limit r) asked answer status done in
         let unflawed = none_flawed r.feeds.items reports ends in
         let it = made.reported r (here ∙ is) in
         record {
@@ -261,15 +264,15 @@ module _ (options : RecordOptions) (range : Range) (out : List ℕ) (watches fee
 
   decided : (report : Option Report) → outcome.report ≡ report → LackIsToldBeside before after report outcome.sealed outcome.watches.items lacked → EndsBeside before after report outcome.watches.items lacked answer
       → (told : Told) (halts : List Halt) → old.world.told ≡ Some told → AllZip (FeedHalts told) feeds halts
-      → (AnyCountRose before after → ⊥) → lacked ≡ false → limit_was_passed report ≡ false → answer ≡ worst (map halt_status halts)
+      → (AnyCountRose before after → ⊥) → lacked ≡ false → limit_passed report ≡ false → answer ≡ worst (map halt_status halts)
   decided None here lacking came told halts there all quiet enough within = absurd (no_report None here lacking came refl enough quiet)
   decided (Some r) here lacking came told halts there all quiet enough within = decided_in (Some r) here lacking came r refl told halts there all quiet enough within
 
   whole : (report : Option Report) → outcome.report ≡ report → LackIsToldBeside before after report outcome.sealed outcome.watches.items lacked → EndsBeside before after report outcome.watches.items lacked answer
-      → answer ≡ 0 → (r : Report) × (report ≡ Some r) × RecordsAllBeside options r outcome.sealed outcome.watches.items
-  whole None here lacking came zero_is =
-      absurd (no_report None here lacking came refl (enough_memory before after None outcome.watches.items lacked answer came zero_is) (calm before after None outcome.watches.items lacked answer came zero_is))
-  whole (Some r) here lacking came zero_is = (r, refl, whole_in (Some r) here lacking came r refl zero_is)
+      → answer ≡ statuses.Done → (r : Report) × (report ≡ Some r) × RecordsAllBeside options r outcome.sealed outcome.watches.items
+  whole None here lacking came done =
+      absurd (no_report None here lacking came refl (enough_memory before after None outcome.watches.items lacked answer came done) (calm before after None outcome.watches.items lacked answer came done))
+  whole (Some r) here lacking came done = (r, refl, whole_in (Some r) here lacking came r refl done)
 
 -- which names are blamed
 blames : (options : RecordOptions) (range : Range) (out : List ℕ) (watches feeds : List (List ℕ)) (old new : Scene) (outcome : WatchedOutcome) (failed : WatchedFailures) → (made : NamesWatched (requested options range out watches feeds) old.world new.world outcome)
@@ -290,7 +293,7 @@ blames options range out watches feeds old new outcome failed made shows showing
 }
 
 -- all that the program promises of a recording with watchers
-pub watched_recorded : (options : RecordOptions) (range : Range) (out : List ℕ) (watches feeds : List (List ℕ)) (old new : Scene) (outcome : WatchedOutcome) (failed : WatchedFailures) (answer : ℕ) → 1 ≤ length watches → 1 ≤ length feeds
+pub watched_recorded : (options : RecordOptions) (range : Range) (out : List ℕ) (watches feeds : List (List ℕ)) (old new : Scene) (outcome : WatchedOutcome) (failed : WatchedFailures) (answer : Status) → 1 ≤ length watches → 1 ≤ length feeds
     → old.world.input_faults < 2 ^ 64 → old.world.output_faults < 2 ^ 64 → NamesWatched (requested options range out watches feeds) old.world new.world outcome → ShowingBeside old.world new.world outcome → Takes old.out new.out (report_text outcome.report)
     → AnswersBeside (named out watches feeds) outcome failed old.err new.err answer → WatchedPartsShow (watched_counts_in old) (watched_counts_in new) watches feeds outcome failed → RecordsWatched (requested options range out watches feeds) old new outcome.report answer
 watched_recorded options range out watches feeds old new outcome failed answer many_watches many inputs_fit outputs_fit made showing prints a shows =
@@ -326,10 +329,6 @@ watched_recorded options range out watches feeds old new outcome failed answer m
       decided = decided options range out watches feeds old new outcome made inputs_fit outputs_fit a.lacked answer outcome.report refl lacking came;
       whole = whole options range out watches feeds old new outcome made inputs_fit outputs_fit a.lacked answer outcome.report refl lacking came;
     }
-
--- the status of a recording with watchers is not that of bad words
-pub not_two : (options : RecordOptions) (range : Range) (out : List ℕ) (watches feeds : List (List ℕ)) (old new : Scene) (report : Option Report) (answer : ℕ) → RecordsWatched (requested options range out watches feeds) old new report answer → answer ≡ 2 → ⊥
-not_two options range out watches feeds old new report answer all two = watched_not_two out watches feeds report all.reports all.blamed all.printing all.lacked (sym all.said.status_is ∙ two)
 
 -- what holds of counts holds of equal ones
 pub watched_shows_in : (b before n now : WatchedCounts) (watches feeds : List (List ℕ)) (outcome : WatchedOutcome) (failed : WatchedFailures) → b ≡ before → n ≡ now → WatchedPartsShow b n watches feeds outcome failed → WatchedPartsShow before now watches feeds outcome failed

@@ -11,7 +11,7 @@ use Rattle.watching.specs.declared.report.WatchReport.{WatchReport}
 use Rattle.command_base.specs.Ran.{has_failed, object_faults, source_faults, live_faults, world_faults, input_faults, output_faults}
 use Rattle.record_command.specs.declared.watched_names.WatchedOutcome.{WatchedOutcome}
 use Rattle.record_command.specs.declared.watched_answer.WatchedFailures.{WatchedFailures}
-use Rattle.record_command.specs.Record.{any_failed}
+use Rattle.output_base.specs.Outputs.{some_failed}
 use Rattle.record_command.specs.Watched.{requested, with_ends, watch_flags, is_watch_fault}
 use Rattle.record_command.specs.WatchedSteps.{NamesWatched, watch_flags_of}
 use Rattle.record_command.proofs.Runs.{world_faults-append, input_faults-append, output_faults-append}
@@ -33,14 +33,14 @@ pub sinks_hold_nothing : (xs : List Opening) → AreKind kinds.Sink xs → outpu
 sinks_hold_nothing [] are = refl
 sinks_hold_nothing (x ∷ xs) are = let more = sinks_hold_nothing xs (rest_kind kinds.Sink x xs are) in omega (arith, more, no_outputs_of x.kind (object_faults x.kept) (are 0 x refl))
 
-flags_kept : (flags : List Bool) (reports : List WatchReport) → any_failed flags ≡ true → any_failed (with_ends flags reports) ≡ true
+flags_kept : (flags : List Bool) (reports : List WatchReport) → some_failed flags ≡ true → some_failed (with_ends flags reports) ≡ true
 flags_kept [] reports some = absurd cc
-flags_kept (b ∷ flags) [] some = flagged b (any_failed flags) (any_failed (with_ends flags [])) some (flags_kept flags [])
+flags_kept (b ∷ flags) [] some = flagged b (some_failed flags) (some_failed (with_ends flags [])) some (flags_kept flags [])
   where
     flagged : (a b c : Bool) → (a || b) ≡ true → (b ≡ true → c ≡ true) → (a || c) ≡ true
     flagged true b c some later = refl
     flagged false b c some later = later some
-flags_kept (b ∷ flags) (w ∷ ws) some = flagged b (any_failed flags) (is_watch_fault w.end) (any_failed (with_ends flags ws)) some (flags_kept flags ws)
+flags_kept (b ∷ flags) (w ∷ ws) some = flagged b (some_failed flags) (is_watch_fault w.end) (some_failed (with_ends flags ws)) some (flags_kept flags ws)
   where
     flagged : (a b d c : Bool) → (a || b) ≡ true → (b ≡ true → c ≡ true) → ((a || d) || c) ≡ true
     flagged true b d c some later = refl
@@ -48,7 +48,7 @@ flags_kept (b ∷ flags) (w ∷ ws) some = flagged b (any_failed flags) (is_watc
     flagged false b false c some later = later some
 
 -- a watcher whose sink failed is blamed
-pub sink_blamed : (xs : List Opening) (reports : List WatchReport) → list_any has_failed xs ≡ true → any_failed (watch_flags xs reports) ≡ true
+pub sink_blamed : (xs : List Opening) (reports : List WatchReport) → list_any has_failed xs ≡ true → some_failed (watch_flags xs reports) ≡ true
 sink_blamed xs reports some = flags_kept (map has_failed xs) reports (any_flag xs ∙ some)
 
 flags_long_with : (flags : List Bool) (reports : List WatchReport) → length (with_ends flags reports) ≡ length flags
@@ -65,13 +65,13 @@ blamed_long watches failed few = long_of watches failed.every_watch failed.watch
 -- ---- the whole
 
 pub record ShowingBeside (old new : WorldState) (outcome : WatchedOutcome) : Type 0 where
-  pub feed_cause : any_failed outcome.feeds_failed.items ≡ true → Rose old.faults new.faults ⊎ Rose old.input_faults new.input_faults
+  pub feed_cause : some_failed outcome.feeds_failed.items ≡ true → Rose old.faults new.faults ⊎ Rose old.input_faults new.input_faults
   pub out_cause : outcome.out_failed ≡ true → Rose old.faults new.faults ⊎ Rose old.output_faults new.output_faults
-  pub watch_cause : any_failed outcome.watches_failed.items ≡ true → Rose old.faults new.faults ⊎ (Rose old.output_faults new.output_faults ⊎ Rose old.watch_faults new.watch_faults)
-  pub inputs_told : old.input_faults < 2 ^ 64 - 1 → Rose old.input_faults new.input_faults → any_failed outcome.feeds_failed.items ≡ true
+  pub watch_cause : some_failed outcome.watches_failed.items ≡ true → Rose old.faults new.faults ⊎ (Rose old.output_faults new.output_faults ⊎ Rose old.watch_faults new.watch_faults)
+  pub inputs_told : old.input_faults < 2 ^ 64 - 1 → Rose old.input_faults new.input_faults → some_failed outcome.feeds_failed.items ≡ true
   pub outputs_told : old.output_faults < 2 ^ 64 - 1 → Rose old.output_faults new.output_faults → outcome.out_failed ≡ true
-  pub watches_told : old.watch_faults < 2 ^ 64 - 1 → Rose old.watch_faults new.watch_faults → any_failed outcome.watches_failed.items ≡ true
-  pub world_told : old.faults < 2 ^ 64 - 1 → Rose old.faults new.faults → (any_failed outcome.feeds_failed.items ≡ true) ⊎ ((outcome.out_failed ≡ true) ⊎ (any_failed outcome.watches_failed.items ≡ true))
+  pub watches_told : old.watch_faults < 2 ^ 64 - 1 → Rose old.watch_faults new.watch_faults → some_failed outcome.watches_failed.items ≡ true
+  pub world_told : old.faults < 2 ^ 64 - 1 → Rose old.faults new.faults → (some_failed outcome.feeds_failed.items ≡ true) ⊎ ((outcome.out_failed ≡ true) ⊎ (some_failed outcome.watches_failed.items ≡ true))
 
 pub watched_outcomes_show : (options : RecordOptions) (range : Range) (out : List ℕ) (watches feeds : List (List ℕ)) (old new : WorldState) (outcome : WatchedOutcome) → NamesWatched (requested options range out watches feeds) old new outcome
     → old.faults < 2 ^ 64 → old.input_faults < 2 ^ 64 → old.output_faults < 2 ^ 64 → ShowingBeside old new outcome
@@ -87,9 +87,9 @@ watched_outcomes_show options range out watches feeds old new outcome made world
     let no_reads = sinks_read_nothing made.sinks made.writers in
     let no_outputs = feeds_write_nothing made.inputs made.sources in
     let no_holds = sinks_hold_nothing made.sinks made.writers in
-    let flags : any_failed outcome.feeds_failed.items ≡ list_any has_failed made.inputs = ap any_failed made.feeds_failed ∙ any_flag made.inputs in
+    let flags : some_failed outcome.feeds_failed.items ≡ list_any has_failed made.inputs = ap some_failed made.feeds_failed ∙ any_flag made.inputs in
     record {
-      feed_cause = λ is. elim (some_has_input made.inputs made.sources (ap any_failed (sym made.feeds_failed) ∙ is)) [
+      feed_cause = λ is. elim (some_has_input made.inputs made.sources (ap some_failed (sym made.feeds_failed) ∙ is)) [
         | inl some ↦ inl (omega (arith, made.counts.kept.world, world, some, world_fits))
         | inr some ↦ inr (omega (arith, made.counts.kept.inputs, inputs, some, inputs_fit))
       ];
@@ -105,7 +105,7 @@ watched_outcomes_show options range out watches feeds old new outcome made world
         | inl some ↦ inl (flags ∙ world_has made.inputs some)
         | inr some ↦ elim (some_more (world_faults made.outputs) (world_faults made.sinks) some) [
           | inl one ↦ inr (inl (made.out_failed ∙ world_has made.outputs one))
-          | inr one ↦ inr (inr (ap any_failed made.watches_failed ∙ sink_blamed made.sinks outcome.watches.items (world_has made.sinks one)))
+          | inr one ↦ inr (inr (ap some_failed made.watches_failed ∙ sink_blamed made.sinks outcome.watches.items (world_has made.sinks one)))
         ]
       ];
     }

@@ -6,7 +6,7 @@ use Rattle.mcap_io.specs.Outside.{Rose}
 use Rattle.record_command.specs.declared.watched_answer.WatchedCounts.{WatchedCounts}
 use Rattle.record_command.specs.declared.watched_answer.WatchedFailures.{WatchedFailures}
 use Rattle.record_command.specs.declared.watched_names.WatchedOutcome.{WatchedOutcome}
-use Rattle.record_command.specs.Record.{any_failed}
+use Rattle.output_base.specs.Outputs.{some_failed}
 use Rattle.record_command.specs.WatchedSteps.{WatchedPartsShow}
 use Rattle.record_command.proofs.Parts.{but, on_or_off, but_both, but_first, but_second, three, three_second, three_third, three_which, three_none, shown_every, shown_some, shown_which, shown_same}
 
@@ -28,20 +28,20 @@ which_of false b both is on = inr (sym is ∙ on)
 
 -- what the parts are, from what the counts and the outcome say
 pub watched_parts_show : (before now : WatchedCounts) (watches feeds : List (List ℕ)) (outcome : WatchedOutcome) (failed : WatchedFailures) (some some_watch told world inputs outputs sinks : Bool) → 1 ≤ length watches → 1 ≤ length feeds
-    → some ≡ any_failed outcome.feeds_failed.items → some_watch ≡ any_failed outcome.watches_failed.items → told ≡ (some || some_watch)
+    → some ≡ some_failed outcome.feeds_failed.items → some_watch ≡ some_failed outcome.watches_failed.items → told ≡ (some || some_watch)
     → ((world ≡ true) ↔ Rose before.seen.world now.seen.world) → ((inputs ≡ true) ↔ Rose before.seen.inputs now.seen.inputs) → ((outputs ≡ true) ↔ Rose before.seen.outputs now.seen.outputs) → ((sinks ≡ true) ↔ Rose before.watches now.watches)
     → ((failed.parts.printing ≡ true) ↔ Rose before.seen.printing now.seen.printing)
-    → failed.parts.feeds.now ≡ outcome.feeds_failed.items → failed.watches.now ≡ outcome.watches_failed.items → failed.parts.every_feed ≡ but inputs some → failed.every_watch ≡ but sinks some_watch
+    → failed.parts.inputs.now ≡ outcome.feeds_failed.items → failed.watches.now ≡ outcome.watches_failed.items → failed.parts.every_input ≡ but inputs some → failed.every_watch ≡ but sinks some_watch
     → failed.parts.out ≡ three outcome.out_failed outputs (but world told)
-    → (any_failed outcome.feeds_failed.items ≡ true → Rose before.seen.world now.seen.world ⊎ Rose before.seen.inputs now.seen.inputs) → (outcome.out_failed ≡ true → Rose before.seen.world now.seen.world ⊎ Rose before.seen.outputs now.seen.outputs)
-    → (any_failed outcome.watches_failed.items ≡ true → Rose before.seen.world now.seen.world ⊎ (Rose before.seen.outputs now.seen.outputs ⊎ Rose before.watches now.watches))
+    → (some_failed outcome.feeds_failed.items ≡ true → Rose before.seen.world now.seen.world ⊎ Rose before.seen.inputs now.seen.inputs) → (outcome.out_failed ≡ true → Rose before.seen.world now.seen.world ⊎ Rose before.seen.outputs now.seen.outputs)
+    → (some_failed outcome.watches_failed.items ≡ true → Rose before.seen.world now.seen.world ⊎ (Rose before.seen.outputs now.seen.outputs ⊎ Rose before.watches now.watches))
     → WatchedPartsShow before now watches feeds outcome failed
 watched_parts_show before now watches feeds outcome failed some some_watch told world inputs outputs sinks many_watches many some_is watch_is told_is is_world is_inputs is_outputs is_sinks is_printing feeds_told watches_told every_is every_watch_is out_is feed_cause out_cause watch_cause =
-    let every = failed.parts.every_feed in
-    let flags = failed.parts.feeds.now in
+    let every = failed.parts.every_input in
+    let flags = failed.parts.inputs.now in
     let out = failed.parts.out in
-    let same_some : any_failed flags ≡ some = ap any_failed feeds_told ∙ sym some_is in
-    let same_watch : any_failed failed.watches.now ≡ some_watch = ap any_failed watches_told ∙ sym watch_is in
+    let same_some : some_failed flags ≡ some = ap some_failed feeds_told ∙ sym some_is in
+    let same_watch : some_failed failed.watches.now ≡ some_watch = ap some_failed watches_told ∙ sym watch_is in
     let inputs_on : inputs ≡ true → (every ≡ true) ⊎ (some ≡ true) = λ on. elim (on_or_off some) [ inl yes_it ↦ inr yes_it | inr off ↦ inl (but_both inputs some every every_is on off) ] in
     let sinks_on : sinks ≡ true → (failed.every_watch ≡ true) ⊎ (some_watch ≡ true) = λ on. elim (on_or_off some_watch) [ inl yes_it ↦ inr yes_it | inr off ↦ inl (but_both sinks some_watch failed.every_watch every_watch_is on off) ] in
     let world_on : world ≡ true → (some ≡ true) ⊎ ((out ≡ true) ⊎ (some_watch ≡ true)) = λ on. elim (on_or_off told) [
@@ -90,8 +90,8 @@ watched_parts_show before now watches feeds outcome failed some some_watch told 
       ];
       feeds_told = feeds_told;
       watches_told = watches_told;
-      feeds_are = λ shows. shown_same feeds every flags (every_off inputs some every (any_failed outcome.feeds_failed.items) every_is some_is (λ on. shows (is_inputs.0 on))) ∙ feeds_told;
-      watches_are = λ shows. shown_same watches failed.every_watch failed.watches.now (every_off sinks some_watch failed.every_watch (any_failed outcome.watches_failed.items) every_watch_is watch_is (λ on. shows (is_sinks.0 on))) ∙ watches_told;
+      feeds_are = λ shows. shown_same feeds every flags (every_off inputs some every (some_failed outcome.feeds_failed.items) every_is some_is (λ on. shows (is_inputs.0 on))) ∙ feeds_told;
+      watches_are = λ shows. shown_same watches failed.every_watch failed.watches.now (every_off sinks some_watch failed.every_watch (some_failed outcome.watches_failed.items) every_watch_is watch_is (λ on. shows (is_sinks.0 on))) ∙ watches_told;
       out_is = λ first second. three_none outcome.out_failed outputs (but world told) out out_is (λ on. first (is_outputs.0 on))
           (λ on. elim (second (is_world.0 (but_first world told (but world told) refl on))) [
             | inl one ↦ absurd (both_ways told (but_second world told (but world told) refl on) (either some some_watch told told_is (inl (some_is ∙ one))))

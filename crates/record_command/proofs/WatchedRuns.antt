@@ -9,8 +9,8 @@ use Rattle.mcap_io.specs.Outside.{Opening, Told, SourceState, SinkState, LiveSta
 use Rattle.mcap_io.specs.OutsideCalls.{went_well}
 use Rattle.mcap_io.specs.declared.outside.ObjectKind.{ObjectKind}
 use Rattle.mcap_io.specs.declared.outside.ObjectKind.TheVariants as kinds
-use Rattle.mcap_io.specs.declared.outside.OpenRefused.{OpenRefused}
-use Rattle.mcap_io.specs.declared.outside.OpenRefused.TheVariants as open_refusals
+use Rattle.mcap_io.specs.declared.outside.OutsideRefused.{OutsideRefused}
+use Rattle.mcap_io.specs.declared.outside.OutsideRefused.TheVariants as outside_refusals
 use Rattle.mcap_model.specs.declared.ends.Stop.{Stop}
 use Rattle.mcap_model.specs.declared.ends.Stop.TheVariants as stops
 use Rattle.mcap_model.specs.declared.replay.Range.{Range}
@@ -31,9 +31,10 @@ use Rattle.watched_recording.specs.Files.{IsWatchedFile}
 use Rattle.command_words.specs.Commands.{NamesDiffer}
 use Rattle.command_base.specs.Ran.{Wanted, wanted, has_failed, failed_so, failed_names, named_when, object_faults, output_faults, world_faults, AreOpened, IsGivenLive}
 use Rattle.command_base.proofs.Counting.{not_risen}
+use Rattle.output_base.specs.Outputs.{inputs_and_output, some_failed, LeftUnderName}
 use Rattle.record_command.specs.declared.answering.Outcome.{Outcome}
 use Rattle.record_command.specs.declared.watched_names.WatchedOutcome.{WatchedOutcome}
-use Rattle.record_command.specs.Record.{feeds_and_output, any_failed, FeedKept, feed_entry, feed_names_kept, back_sources, LeftUnderName}
+use Rattle.record_command.specs.Record.{FeedKept, feed_entry, feed_names_kept, back_sources}
 use Rattle.record_command.specs.RecordSteps.{NamesRecorded}
 use Rattle.record_command.specs.Sources.{feed_flags_with}
 use Rattle.record_command.specs.Sinks.{SinkKept, sink_entry, sink_names, back_sinks, sink_faults, watch_faults}
@@ -49,7 +50,7 @@ use Rattle.record_command.proofs.WatchEnds.{ended_so, ends_nothing, ends_why, en
 -- ---- no watch file was reached
 
 -- a live store of the openings of a recording has the output's name
-live_named : (out : List ℕ) (feeds : List (List ℕ)) (entries : List Opening) → AreOpened (wanted (feeds_and_output out feeds)) entries → (n : ℕ) (e : Opening) → At entries n e → e.kind ≡ kinds.Live → e.name ≡ out
+live_named : (out : List ℕ) (feeds : List (List ℕ)) (entries : List Opening) → AreOpened (wanted (inputs_and_output kinds.Source feeds out)) entries → (n : ℕ) (e : Opening) → At entries n e → e.kind ≡ kinds.Live → e.name ≡ out
 live_named out feeds [] opens n e at kind = absurd (at_none n e at)
 live_named out [] (x ∷ xs) (inl (is, none)) zero e at kind = ap (λ (o : Opening). o.name) (sym (same_Some x e at) ∙ is)
 live_named out [] (x ∷ xs) (inl (is, none)) (suc n) e at kind = absurd (at_none n e (subst (λ (l : List Opening). At l n e) none at))
@@ -92,7 +93,7 @@ unreached options range out watches feeds w0 w3 outcome apart made still fits no
     out_apart out watches apart (subst (Has watches) (sym is.named ∙ live_named out feeds made.entries made.opened is.there.0 is.entry is.there.1 is.live) has) in
     record {
       entries = made.entries;
-      opened = opened_more (wanted (feeds_and_output out feeds)) (map (λ (name : List ℕ). (kinds.Sink, name)) watches) made.entries made.opened;
+      opened = opened_more (wanted (inputs_and_output kinds.Source feeds out)) (map (λ (name : List ℕ). (kinds.Sink, name)) watches) made.entries made.opened;
       leaves = λ told here. let l = made.leaves told here in (l.0, l.1, l.2, λ name unwritten. l.3 name (λ is. unwritten (record { entry = is.entry; there = is.there; written = inl is.live; given = is.given; named = is.named })));
       failures = 0;
       counts = record { kept = made.counts; watches = omega (arith, still, fits, no_faults) };
@@ -121,7 +122,7 @@ unreached options range out watches feeds w0 w3 outcome apart made still fits no
       out_failed = made.out_failed;
       watches_failed = no_flags;
       failed = ap failed_names (sym made.parts) ∙ made.failed;
-      watch_cause = λ is. absurd (both_ways false refl (ap any_failed (sym no_flags) ∙ is));
+      watch_cause = λ is. absurd (both_ways false refl (ap some_failed (sym no_flags) ∙ is));
       watch_told = λ on rose. not_risen _ w0.watch_faults w3.watch_faults on still rose;
     }
 
@@ -170,23 +171,23 @@ map_sinks (k ∷ ks) = ap (λ (l : List Bool). has_failed (sink_entry k) ∷ l) 
 
 -- ---- a watch file that was refused
 
-refused_opens : (why : OpenRefused) (name : List ℕ) (cut : List (List ℕ)) → AreOpened (map (λ (n : List ℕ). (kinds.Sink, n)) (name ∷ cut)) (refusal_of kinds.Sink name why)
-refused_opens open_refusals.Failed name cut = inl (refl, refl)
-refused_opens open_refusals.Memory name cut = tt
+refused_opens : (why : OutsideRefused) (name : List ℕ) (cut : List (List ℕ)) → AreOpened (map (λ (n : List ℕ). (kinds.Sink, n)) (name ∷ cut)) (refusal_of kinds.Sink name why)
+refused_opens outside_refusals.Failed name cut = inl (refl, refl)
+refused_opens outside_refusals.Memory name cut = tt
 
-refused_few : (why : OpenRefused) (name : List ℕ) → length (refusal_of kinds.Sink name why) ≤ 1
-refused_few open_refusals.Failed name = omega arith
-refused_few open_refusals.Memory name = omega arith
+refused_few : (why : OutsideRefused) (name : List ℕ) → length (refusal_of kinds.Sink name why) ≤ 1
+refused_few outside_refusals.Failed name = omega arith
+refused_few outside_refusals.Memory name = omega arith
 
-refused_names : (why : OpenRefused) (name : List ℕ) (cut : List (List ℕ)) → map (λ (entry : Opening). entry.name) (refusal_of kinds.Sink name why) ≡ take (length (refusal_of kinds.Sink name why)) (name ∷ cut)
-refused_names open_refusals.Failed name cut = refl
-refused_names open_refusals.Memory name cut = refl
+refused_names : (why : OutsideRefused) (name : List ℕ) (cut : List (List ℕ)) → map (λ (entry : Opening). entry.name) (refusal_of kinds.Sink name why) ≡ take (length (refusal_of kinds.Sink name why)) (name ∷ cut)
+refused_names outside_refusals.Failed name cut = refl
+refused_names outside_refusals.Memory name cut = refl
 
-refused_flags : (flags : List Bool) (why : OpenRefused) (failed : Bool) (name : List ℕ) → (failed ≡ true → why ≡ open_refusals.Failed) → (failed ≡ false → why ≡ open_refusals.Memory) → feed_flags_with flags failed ≡ flags ++ map has_failed (refusal_of kinds.Sink name why)
-refused_flags flags open_refusals.Failed true name a b = refl
-refused_flags flags open_refusals.Failed false name a b = absurd (let e = b refl in cc)
-refused_flags flags open_refusals.Memory true name a b = absurd (let e = a refl in cc)
-refused_flags flags open_refusals.Memory false name a b = sym (append-nil flags)
+refused_flags : (flags : List Bool) (why : OutsideRefused) (failed : Bool) (name : List ℕ) → (failed ≡ true → why ≡ outside_refusals.Failed) → (failed ≡ false → why ≡ outside_refusals.Memory) → feed_flags_with flags failed ≡ flags ++ map has_failed (refusal_of kinds.Sink name why)
+refused_flags flags outside_refusals.Failed true name a b = refl
+refused_flags flags outside_refusals.Failed false name a b = absurd (let e = b refl in cc)
+refused_flags flags outside_refusals.Memory true name a b = absurd (let e = a refl in cc)
+refused_flags flags outside_refusals.Memory false name a b = sym (append-nil flags)
 
 -- ---- what was recorded
 
@@ -274,10 +275,10 @@ module _ (options : RecordOptions) (range : Range) (out : List ℕ) (watches fee
       }
 
   abbrev Why : WatchedOutcome → Type 0
-  Why outcome = any_failed outcome.watches_failed.items ≡ true → (1 ≤ world_faults behind) ⊎ ((1 ≤ b.live_now.faults) ⊎ (1 ≤ watch_faults behind + sum b.views))
+  Why outcome = some_failed outcome.watches_failed.items ≡ true → (1 ≤ world_faults behind) ⊎ ((1 ≤ b.live_now.faults) ⊎ (1 ≤ watch_faults behind + sum b.views))
 
   abbrev Tells : WatchedOutcome → Type 0
-  Tells outcome = 1 ≤ watch_faults behind + sum b.views → any_failed outcome.watches_failed.items ≡ true
+  Tells outcome = 1 ≤ watch_faults behind + sum b.views → some_failed outcome.watches_failed.items ≡ true
 
   seen_watched : (outcome : WatchedOutcome) → outcome.feeds_failed.items ≡ b.flags → outcome.out_failed ≡ failed_so (went_well b.live_kept) b.live_now.faults → outcome.watches_failed.items ≡ watch_flags behind outcome.watches.items
       → AreOpened (map (λ (name : List ℕ). (kinds.Sink, name)) watches) behind → length behind ≤ length watches → map (λ (entry : Opening). entry.name) behind ≡ take (length behind) watches
@@ -398,18 +399,18 @@ module _ (options : RecordOptions) (range : Range) (out : List ℕ) (watches fee
   why_unreported : (outcome : WatchedOutcome) → outcome.watches_failed.items ≡ watch_flags behind outcome.watches.items → outcome.watches.items ≡ [] → Why outcome
   why_unreported outcome flags_are none is =
       let plain : outcome.watches_failed.items ≡ map has_failed behind = flags_are ∙ ap (λ (l : List WatchReport). watch_flags behind l) none ∙ ends_nothing (map has_failed behind) in
-      elim (some_has_sink behind writers_are (ap any_failed (sym plain) ∙ is)) [
+      elim (some_has_sink behind writers_are (ap some_failed (sym plain) ∙ is)) [
         | inl world ↦ inl world
         | inr faults ↦ inr (inr (omega (arith, faults)))
       ]
 
   tells_unreported : (outcome : WatchedOutcome) → outcome.watches_failed.items ≡ watch_flags behind outcome.watches.items → sum b.views ≡ 0 → Tells outcome
   tells_unreported outcome flags_are none some =
-      ap any_failed flags_are ∙ ends_first (map has_failed behind) outcome.watches.items (sinks_have behind writers_are (omega (arith, some, none)))
+      ap some_failed flags_are ∙ ends_first (map has_failed behind) outcome.watches.items (sinks_have behind writers_are (omega (arith, some, none)))
 
   -- ---- a watch file wasn't given
 
-  pub sink_refused_so : (outcome : WatchedOutcome) (name : List ℕ) (cut : List (List ℕ)) (why : OpenRefused) (failed : Bool) → more ≡ name ∷ cut → b.behind ≡ refusal_of kinds.Sink name why → (failed ≡ true → why ≡ open_refusals.Failed) → (failed ≡ false → why ≡ open_refusals.Memory)
+  pub sink_refused_so : (outcome : WatchedOutcome) (name : List ℕ) (cut : List (List ℕ)) (why : OutsideRefused) (failed : Bool) → more ≡ name ∷ cut → b.behind ≡ refusal_of kinds.Sink name why → (failed ≡ true → why ≡ outside_refusals.Failed) → (failed ≡ false → why ≡ outside_refusals.Memory)
       → b.ss_now ≡ b.ss → b.live_now ≡ b.live → b.ks_now ≡ b.ks → sum b.views ≡ 0
       → outcome.report ≡ None → outcome.watches.items ≡ [] → outcome.feeds_failed.items ≡ b.flags → outcome.out_failed ≡ failed_so (went_well b.live_kept) b.live_now.faults → outcome.watches_failed.items ≡ feed_flags_with b.sink_flags failed
       → NamesWatched (requested options range out watches feeds) b.w0 b.w8 outcome
@@ -514,7 +515,7 @@ module _ (options : RecordOptions) (range : Range) (out : List ℕ) (watches fee
   why_reported tells r sealed outcome it flags_are is =
       let total = totals_are tells r outcome.watches.items sealed it in
       let parts = watch_faults-append (map sink_entry sinks) b.behind in
-      elim (ends_why (map has_failed behind) outcome.watches.items (ap any_failed (sym flags_are) ∙ is)) [
+      elim (ends_why (map has_failed behind) outcome.watches.items (ap some_failed (sym flags_are) ∙ is)) [
         | inl entries ↦ elim (some_has_sink behind writers_are entries) [
           | inl world ↦ inl world
           | inr faults ↦ inr (inr (omega (arith, faults)))
@@ -526,7 +527,7 @@ module _ (options : RecordOptions) (range : Range) (out : List ℕ) (watches fee
       ]
 
   tells_reported : {X : Type 0} (tells : X → Option (List ℕ)) (r : Report) (sealed : Bool) (outcome : WatchedOutcome) → Watched tells r outcome.watches.items sealed → outcome.watches_failed.items ≡ watch_flags behind outcome.watches.items → b.behind ≡ [] → Tells outcome
-  tells_reported tells r sealed outcome it flags_are none some = ap any_failed flags_are ∙ elim (some_more (watch_faults behind) (sum b.views) some) [
+  tells_reported tells r sealed outcome it flags_are none some = ap some_failed flags_are ∙ elim (some_more (watch_faults behind) (sum b.views) some) [
     | inl faults ↦ ends_first (map has_failed behind) outcome.watches.items (sinks_have behind writers_are faults)
     | inr views ↦
         let long : length (map has_failed behind) ≡ length outcome.watches.items = length-map behind has_failed ∙ ap (λ (l : List Opening). length (map sink_entry sinks ++ l)) none ∙ ap length (append-nil (map sink_entry sinks)) ∙ length-map sinks sink_entry ∙ sym (length-map sinks (λ (k : SinkKept). k.back))

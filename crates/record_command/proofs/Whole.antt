@@ -1,5 +1,6 @@
 -- What the bytes of the feeds and the status say of their recording.
-use Rattle.std.proofs.Common.{◌≡◌, ◌⊎◌, ℕ, zero, suc, ◌==◌, length, map, ◌^◌, ◌<◌, ◌≤◌, subst, Bool, true, false, ◌||◌, if◌then◌else◌, List, [], ◌∷◌, Option, Some, None, refl, sym, ap, inl, inr, ◌∙◌, arith}
+use Rattle.std.proofs.Common.{◌≡◌, ◌⊎◌, ℕ, zero, suc, length, map, ◌^◌, ◌<◌, ◌≤◌, subst, Bool, true, false, ◌||◌, if◌then◌else◌, List, [], ◌∷◌, Option, Some, None, refl, sym, ap, inl, inr, ◌∙◌, arith}
+use Rattle.std.specs.Prelude.{◌↔◌}
 use Rattle.std.specs.List.{list_any, AllZip}
 use Rattle.std.proofs.lemmas.Option.{same_Some}
 use Rattle.std.proofs.lemmas.Bool.{both_ways, false_from_ne_true, or_right}
@@ -21,21 +22,24 @@ use Rattle.mcap_model.specs.declared.refusals.ReadingRefused.TheVariants as refu
 use Rattle.feed_lane.specs.declared.report.FeedEnd.{FeedEnd}
 use Rattle.feed_lane.specs.declared.report.FeedEnd.TheVariants as feed_ends
 use Rattle.feed_lane.specs.declared.report.Refused.{Refused}
-use Rattle.feed_lane.specs.declared.report.Cause.{Cause}
-use Rattle.feed_lane.specs.declared.report.Cause.TheVariants as causes
+use Rattle.record_core.specs.declared.answers.CallRefused.{CallRefused}
+use Rattle.record_core.specs.declared.answers.CallRefused.TheVariants as refusing
 use Rattle.feed_lane.specs.Lanes.{LastFindsEnd as IntakeEnds, CauseFits}
 use Rattle.feed_lane.specs.Feeds.{FeedEnds, TakesMessages}
 use Rattle.recorder.specs.declared.options.RecordOptions.{RecordOptions}
 use Rattle.recorder.specs.declared.report.Report.{Report}
 use Rattle.buffer_swap.specs.Shown.{ShownBy}
-use Rattle.recorder.specs.Recorded.{FeedRecorded, Recorded, lane_of, sides, end_answer}
+use Rattle.recorder.specs.Recorded.{FeedRecorded, Recorded, lane_of, sides, answer_of}
 use Rattle.recorder.specs.Laws.{RefusesNoneAsFull}
 use Rattle.command_base.specs.declared.faults.Counts.{Counts}
-use Rattle.command_base.specs.Texts.{halt_status}
+use Rattle.command_base.specs.declared.statuses.Status.{Status}
+use Rattle.command_base.specs.declared.statuses.Status.TheVariants as statuses
+use Rattle.command_base.specs.Texts.{is_status, halt_status}
 use Rattle.command_base.specs.Ran.{Scene, counts_in, AnyRose, CountsKept, input_faults, output_faults}
 use Rattle.recorder.proofs.Unfull.{lossless_refuses_none_as_full}
 use Rattle.feed_lane.specs.Causes.{is_over, is_memory, goes_on}
-use Rattle.record_command.specs.Record.{FeedKept, feed_entry, live_entry, back_sources, Reported, StatusFollows, worst, ends_status, IsAllRecorded, RecordsAll, FeedHalts, refusal_status, end_status, is_full, is_limit_end, feed_lacked_memory, writer_lacked_memory, recording_passes_limit, lacks_memory, limit_was_passed, LackIsTold}
+use Rattle.report_findings.specs.Findings.{is_limit, is_memory_end, is_memory_writer, passes_limit, lacks_memory, limit_passed}
+use Rattle.record_command.specs.Record.{FeedKept, feed_entry, live_entry, back_sources, Reported, StatusFollows, worst, ends_status, IsAllRecorded, RecordsAll, FeedHalts, refusal_status, end_status, is_full}
 use Rattle.record_command.proofs.Runs.{input_faults-append, output_faults-append}
 use Rattle.record_command.proofs.Sources.{zip_long}
 
@@ -69,11 +73,11 @@ pub map_long : {X Y : Type 0} (f : X → Y) (xs : List X) → length (map f xs) 
 map_long f [] = refl
 map_long f (x ∷ xs) = ap suc (map_long f xs)
 
-same_lists : (xs ys : List ℕ) → length xs ≡ length ys → ((n x y : ℕ) → At xs n x → At ys n y → x ≡ y) → xs ≡ ys
+same_lists : (xs ys : List Status) → length xs ≡ length ys → ((n : ℕ) (x y : Status) → At xs n x → At ys n y → x ≡ y) → xs ≡ ys
 same_lists [] [] long each = refl
 same_lists [] (y ∷ ys) long each = absurd (omega (arith, long))
 same_lists (x ∷ xs) [] long each = absurd (omega (arith, long))
-same_lists (x ∷ xs) (y ∷ ys) long each = ap (λ (z : ℕ). z ∷ xs) (each 0 x y refl refl) ∙ ap (λ (l : List ℕ). y ∷ l) (same_lists xs ys (omega (arith, long)) (λ n a b at_a at_b. each (suc n) a b at_a at_b))
+same_lists (x ∷ xs) (y ∷ ys) long each = ap (λ (z : Status). z ∷ xs) (each 0 x y refl refl) ∙ ap (λ (l : List Status). y ∷ l) (same_lists xs ys (omega (arith, long)) (λ n a b at_a at_b. each (suc n) a b at_a at_b))
 
 -- ---- what a report names
 
@@ -91,41 +95,43 @@ none_at p xs k x none at = false_from_ne_true (p x) (λ is. both_ways (list_any 
 
 feed_lacks : (r : Report) (n : ℕ) (f : FeedReport) → At r.feeds.items n f → f.end ≡ feed_ends.Refused refusals.Memory → lacks_memory r ≡ true
 feed_lacks r n f at is =
-    or_right (writer_lacked_memory r.writer.end) _ (any_at (λ (g : FeedReport). feed_lacked_memory g.end || list_any (λ (x : Refused). is_memory x.cause) g.refused.items) r.feeds.items n f at
-    (or_left (feed_lacked_memory f.end) _ (ap feed_lacked_memory is)))
+    or_right (is_memory_writer r.writer.end) _ (any_at (λ (g : FeedReport). is_memory_end g.end || list_any (λ (x : Refused). is_memory x.cause) g.refused.items) r.feeds.items n f at
+    (or_left (is_memory_end f.end) _ (ap is_memory_end is)))
 
 message_lacks : (r : Report) (n : ℕ) (f : FeedReport) (k : ℕ) (x : Refused) → At r.feeds.items n f → At f.refused.items k x → is_memory x.cause ≡ true → lacks_memory r ≡ true
 message_lacks r n f k x at_f at is =
-    or_right (writer_lacked_memory r.writer.end) _ (any_at (λ (g : FeedReport). feed_lacked_memory g.end || list_any (λ (y : Refused). is_memory y.cause) g.refused.items) r.feeds.items n f at_f
-    (or_right (feed_lacked_memory f.end) _ (any_at (λ (y : Refused). is_memory y.cause) f.refused.items k x at is)))
+    or_right (is_memory_writer r.writer.end) _ (any_at (λ (g : FeedReport). is_memory_end g.end || list_any (λ (y : Refused). is_memory y.cause) g.refused.items) r.feeds.items n f at_f
+    (or_right (is_memory_end f.end) _ (any_at (λ (y : Refused). is_memory y.cause) f.refused.items k x at is)))
 
-message_passes : (r : Report) (n : ℕ) (f : FeedReport) (k : ℕ) (x : Refused) → At r.feeds.items n f → At f.refused.items k x → is_over x.cause ≡ true → recording_passes_limit r ≡ true
+message_passes : (r : Report) (n : ℕ) (f : FeedReport) (k : ℕ) (x : Refused) → At r.feeds.items n f → At f.refused.items k x → is_over x.cause ≡ true → passes_limit r ≡ true
 message_passes r n f k x at_f at is =
-    or_right (is_limit_end r.writer.end) _ (any_at (λ (g : FeedReport). list_any (λ (y : Refused). is_over y.cause) g.refused.items) r.feeds.items n f at_f
+    or_right (is_limit r.writer.end) _ (any_at (λ (g : FeedReport). list_any (λ (y : Refused). is_over y.cause) g.refused.items) r.feeds.items n f at_f
     (any_at (λ (y : Refused). is_over y.cause) f.refused.items k x at is))
 
 -- ---- full buffers
 
-full_is : (c : Cause) → is_full c ≡ true → (held : ℕ) × (from : ℕ) × (to : ℕ) × (c ≡ causes.Full held from to)
-full_is (causes.Full held from to) is = (held, from, to, refl)
-full_is (causes.TooLarge len) is = absurd cc
-full_is (causes.Closed at) is = absurd cc
-full_is (causes.Stopped at stop) is = absurd cc
-full_is causes.TooManySchemas is = absurd cc
-full_is causes.TooManyChannels is = absurd cc
-full_is (causes.TooManyRecords count) is = absurd cc
-full_is causes.Memory is = absurd cc
+full_is : (c : CallRefused) → is_full c ≡ true → (held : ℕ) × (from : ℕ) × (to : ℕ) × (c ≡ refusing.Full held from to)
+full_is (refusing.Full held from to) is = (held, from, to, refl)
+full_is (refusing.TooLarge len) is = absurd cc
+full_is (refusing.Closed at) is = absurd cc
+full_is (refusing.Stopped at stop) is = absurd cc
+full_is refusing.UnknownChannel is = absurd cc
+full_is (refusing.TooManyRecords count) is = absurd cc
+full_is refusing.TooManySchemas is = absurd cc
+full_is refusing.TooManyChannels is = absurd cc
+full_is refusing.Memory is = absurd cc
 
 -- the lane goes on behind one
-full_goes_on : (c : Cause) → is_full c ≡ true → goes_on c ≡ true
-full_goes_on (causes.Full held from to) is = refl
-full_goes_on (causes.TooLarge len) is = absurd cc
-full_goes_on (causes.Closed at) is = absurd cc
-full_goes_on (causes.Stopped at stop) is = absurd cc
-full_goes_on causes.TooManySchemas is = absurd cc
-full_goes_on causes.TooManyChannels is = absurd cc
-full_goes_on (causes.TooManyRecords count) is = absurd cc
-full_goes_on causes.Memory is = absurd cc
+full_goes_on : (c : CallRefused) → is_full c ≡ true → goes_on c ≡ true
+full_goes_on (refusing.Full held from to) is = refl
+full_goes_on (refusing.TooLarge len) is = absurd cc
+full_goes_on (refusing.Closed at) is = absurd cc
+full_goes_on (refusing.Stopped at stop) is = absurd cc
+full_goes_on refusing.UnknownChannel is = absurd cc
+full_goes_on (refusing.TooManyRecords count) is = absurd cc
+full_goes_on refusing.TooManySchemas is = absurd cc
+full_goes_on refusing.TooManyChannels is = absurd cc
+full_goes_on refusing.Memory is = absurd cc
 
 -- ---- the counts
 
@@ -145,7 +151,7 @@ sources_write_nothing (k ∷ ks) = let more = sources_write_nothing ks in omega 
 
 -- what stands in the way of recorded feeds: a count rose, memory lacked, or a limit would be passed
 abbrev Hindered : WorldState → WorldState → Report → Type 0
-Hindered old new r = Rose old.input_faults new.input_faults ⊎ (Rose old.output_faults new.output_faults ⊎ ((lacks_memory r ≡ true) ⊎ (recording_passes_limit r ≡ true)))
+Hindered old new r = Rose old.input_faults new.input_faults ⊎ (Rose old.output_faults new.output_faults ⊎ ((lacks_memory r ≡ true) ⊎ (passes_limit r ≡ true)))
 
 -- The sources of feeds were recorded into a store, and both were taken back.
 pub record Read (options : RecordOptions) (feeds : List (List ℕ)) (old new : WorldState) (r : Report) : Type 0 where
@@ -180,10 +186,10 @@ module _ (options : RecordOptions) (feeds : List (List ℕ)) (old new : WorldSta
   -- a writer that stopped had a reason
   stopped_why : (stop : Stop) → r.writer.end ≡ ends.Stopped stop → Hindered old new r
   stopped_why (stops.Fault faults) stopped =
-      let why = subst (λ (e : End). WriterCause {X = Unit} is.live.faults is.live_now.faults (end_answer e)) stopped is.recorded.writer.cause in
+      let why = subst (λ (e : End). WriterCause {X = Unit} is.live.faults is.live_now.faults (answer_of e)) stopped is.recorded.writer.cause in
       inr (inl (first_rose old.output_faults new.output_faults is.live_now.faults outputs_fit is.outputs (omega (arith, why.0.once))))
-  stopped_why (stops.Limit blocks bytes) stopped = inr (inr (inr (or_left (is_limit_end r.writer.end) _ (ap is_limit_end stopped))))
-  stopped_why stops.Memory stopped = inr (inr (inl (or_left (writer_lacked_memory r.writer.end) _ (ap writer_lacked_memory stopped))))
+  stopped_why (stops.Limit blocks bytes) stopped = inr (inr (inr (or_left (is_limit r.writer.end) _ (ap is_limit stopped))))
+  stopped_why stops.Memory stopped = inr (inr (inl (or_left (is_memory_writer r.writer.end) _ (ap is_memory_writer stopped))))
 
   closed_or : (end : End) → r.writer.end ≡ end → (r.writer.end ≡ ends.Closed) ⊎ Hindered old new r
   closed_or ends.Closed same = inl same
@@ -210,15 +216,16 @@ module _ (options : RecordOptions) (feeds : List (List ℕ)) (old new : WorldSta
     ended_why handled index place (ends.Stopped stop) e = stopped_why stop (sym ((shown.found e.found e.shown).same (ends.Stopped stop) e.ended))
 
     -- why a message was refused
-    refused_why : (handled k index : ℕ) (cause : Cause) → At f.feed.refused.items k (record { index = index; cause = cause }) → CauseFits (flat f.reports.tops) handled f.pass index cause → (is_full cause ≡ true) ⊎ Hindered old new r
-    refused_why handled k index (causes.Full held from to) there fits = inl refl
-    refused_why handled k index (causes.TooLarge len) there fits = inr (inr (inr (inr (message_passes r n f.feed k _ report_at there refl))))
-    refused_why handled k index (causes.Closed place) there fits = inr (ended_why handled index place ends.Closed fits)
-    refused_why handled k index (causes.Stopped place stop) there fits = inr (ended_why handled index place (ends.Stopped stop) fits)
-    refused_why handled k index causes.TooManySchemas there fits = inr (inr (inr (inr (message_passes r n f.feed k _ report_at there refl))))
-    refused_why handled k index causes.TooManyChannels there fits = inr (inr (inr (inr (message_passes r n f.feed k _ report_at there refl))))
-    refused_why handled k index (causes.TooManyRecords count) there fits = inr (inr (inr (inr (message_passes r n f.feed k _ report_at there refl))))
-    refused_why handled k index causes.Memory there fits = inr (inr (inr (inl (message_lacks r n f.feed k _ report_at there refl))))
+    refused_why : (handled k index : ℕ) (cause : CallRefused) → At f.feed.refused.items k (record { index = index; cause = cause }) → CauseFits (flat f.reports.tops) handled f.pass index cause → (is_full cause ≡ true) ⊎ Hindered old new r
+    refused_why handled k index (refusing.Full held from to) there fits = inl refl
+    refused_why handled k index (refusing.TooLarge len) there fits = inr (inr (inr (inr (message_passes r n f.feed k _ report_at there refl))))
+    refused_why handled k index (refusing.Closed place) there fits = inr (ended_why handled index place ends.Closed fits)
+    refused_why handled k index (refusing.Stopped place stop) there fits = inr (ended_why handled index place (ends.Stopped stop) fits)
+    refused_why handled k index refusing.TooManySchemas there fits = inr (inr (inr (inr (message_passes r n f.feed k _ report_at there refl))))
+    refused_why handled k index refusing.TooManyChannels there fits = inr (inr (inr (inr (message_passes r n f.feed k _ report_at there refl))))
+    refused_why handled k index (refusing.TooManyRecords count) there fits = inr (inr (inr (inr (message_passes r n f.feed k _ report_at there refl))))
+    refused_why handled k index refusing.UnknownChannel there fits = absurd fits
+    refused_why handled k index refusing.Memory there fits = inr (inr (inr (inl (message_lacks r n f.feed k _ report_at there refl))))
 
     each_refused : (k : ℕ) (x : Refused) → At f.feed.refused.items k x → (is_full x.cause ≡ true) ⊎ Hindered old new r
     each_refused k x there = refused_why f.reports.handled k x.index x.cause there (f.reports.fits.refuses k x there)
@@ -241,14 +248,14 @@ module _ (options : RecordOptions) (feeds : List (List ℕ)) (old new : WorldSta
     memory_why : f.feed.end ≡ feed_ends.Refused refusals.Memory → Hindered old new r
     memory_why lacked = inr (inr (inl (feed_lacks r n f.feed report_at lacked)))
 
-    refusal_why : (why : ReadingRefused) → f.feed.end ≡ feed_ends.Refused why → refusal_status why ≡ 0 → Hindered old new r
+    refusal_why : (why : ReadingRefused) → f.feed.end ≡ feed_ends.Refused why → refusal_status why ≡ statuses.Done → Hindered old new r
     refusal_why (refusals.Fault faults) same status = fault_why faults same
-    refusal_why (refusals.Grammar m rule) same status = absurd (omega (arith, status))
-    refusal_why (refusals.Compressed m name) same status = absurd (omega (arith, status))
-    refusal_why (refusals.Limit m) same status = absurd (omega (arith, status))
+    refusal_why (refusals.Grammar m rule) same status = absurd cc
+    refusal_why (refusals.Compressed m name) same status = absurd cc
+    refusal_why (refusals.Limit m) same status = absurd cc
     refusal_why refusals.Memory same status = memory_why same
 
-    done_or : (end : FeedEnd) → f.feed.end ≡ end → end_status end ≡ 0 → (f.feed.end ≡ feed_ends.Done) ⊎ Hindered old new r
+    done_or : (end : FeedEnd) → f.feed.end ≡ end → end_status end ≡ statuses.Done → (f.feed.end ≡ feed_ends.Done) ⊎ Hindered old new r
     done_or feed_ends.Done same status = inl same
     done_or (feed_ends.Refused why) same status = inr (refusal_why why same status)
     done_or feed_ends.Ended same status = inr (end_why same)
@@ -321,81 +328,91 @@ module _ (options : RecordOptions) (feeds : List (List ℕ)) (old new : WorldSta
 -- ---- the status
 
 -- nothing stands in the way
-free_of : (old new : WorldState) (r : Report) → (Rose old.input_faults new.input_faults → ⊥) → (Rose old.output_faults new.output_faults → ⊥) → lacks_memory r ≡ false → recording_passes_limit r ≡ false → Hindered old new r → ⊥
+free_of : (old new : WorldState) (r : Report) → (Rose old.input_faults new.input_faults → ⊥) → (Rose old.output_faults new.output_faults → ⊥) → lacks_memory r ≡ false → passes_limit r ≡ false → Hindered old new r → ⊥
 free_of old new r no_inputs no_outputs enough within why = elim why [
   | inl inputs ↦ no_inputs inputs
   | inr (inl outputs) ↦ no_outputs outputs
   | inr (inr (inl lacks)) ↦ both_ways (lacks_memory r) enough lacks
-  | inr (inr (inr passes)) ↦ both_ways (recording_passes_limit r) within passes
+  | inr (inr (inr passes)) ↦ both_ways (passes_limit r) within passes
 ]
 
-pub limit_kept : (limited : Bool) (number answer : ℕ) → answer ≡ (if limited then 4 else number) → answer ≡ 0 → limited ≡ false
-limit_kept true number answer is zero_is = absurd (omega (arith, is, zero_is))
-limit_kept false number answer is zero_is = refl
+pub limit_kept : (limited : Bool) (other answer : Status) → answer ≡ (if limited then statuses.Limit else other) → answer ≡ statuses.Done → limited ≡ false
+limit_kept true other answer is done = absurd cc
+limit_kept false other answer is done = refl
 
-pub unlimited : (limited : Bool) (number answer : ℕ) → answer ≡ (if limited then 4 else number) → limited ≡ false → answer ≡ number
-unlimited true number answer is none = absurd cc
-unlimited false number answer is none = is
+pub unlimited : (limited : Bool) (other answer : Status) → answer ≡ (if limited then statuses.Limit else other) → limited ≡ false → answer ≡ other
+unlimited true other answer is none = absurd cc
+unlimited false other answer is none = is
 
-pub unlimited_status : (limited : Bool) (number answer : ℕ) → answer ≡ (if limited then 4 else number) → answer ≡ 0 → number ≡ 0
-unlimited_status true number answer is zero_is = absurd (omega (arith, is, zero_is))
-unlimited_status false number answer is zero_is = sym is ∙ zero_is
+pub unlimited_status : (limited : Bool) (other answer : Status) → answer ≡ (if limited then statuses.Limit else other) → answer ≡ statuses.Done → other ≡ statuses.Done
+unlimited_status true other answer is done = absurd cc
+unlimited_status false other answer is done = sym is ∙ done
 
-abbrev worse : Bool → Bool → ℕ
-worse four one = if four then 4 else (if one then 1 else 0)
+abbrev worse : Bool → Bool → Status
+worse limits refuses = if limits then statuses.Limit else (if refuses then statuses.Refused else statuses.Done)
 
-neither : (four one : Bool) → worse four one ≡ 0 → (four ≡ false) × (one ≡ false)
-neither true one is = absurd (omega (arith, is))
-neither false true is = absurd (omega (arith, is))
+neither : (limits refuses : Bool) → worse limits refuses ≡ statuses.Done → (limits ≡ false) × (refuses ≡ false)
+neither true refuses is = absurd cc
+neither false true is = absurd cc
 neither false false is = (refl, refl)
 
-no_refusal : (why : ReadingRefused) → (refusal_status why == 4) ≡ false → (refusal_status why == 1) ≡ false → refusal_status why ≡ 0
+no_refusal : (why : ReadingRefused) → is_status statuses.Limit (refusal_status why) ≡ false → is_status statuses.Refused (refusal_status why) ≡ false → refusal_status why ≡ statuses.Done
 no_refusal (refusals.Fault faults) four one = refl
 no_refusal (refusals.Grammar n rule) four one = absurd cc
 no_refusal (refusals.Compressed n name) four one = absurd cc
 no_refusal (refusals.Limit n) four one = absurd cc
 no_refusal refusals.Memory four one = refl
 
-no_other : (end : FeedEnd) → (end_status end == 4) ≡ false → (end_status end == 1) ≡ false → end_status end ≡ 0
+no_other : (end : FeedEnd) → is_status statuses.Limit (end_status end) ≡ false → is_status statuses.Refused (end_status end) ≡ false → end_status end ≡ statuses.Done
 no_other feed_ends.Done four one = refl
 no_other (feed_ends.Refused why) four one = no_refusal why four one
 no_other feed_ends.Ended four one = refl
 
--- where none is worse than 0 each is 0
-none_worse : (reports : List FeedReport) (n : ℕ) (f : FeedReport) → worst (map (λ (g : FeedReport). end_status g.end) reports) ≡ 0 → At reports n f → end_status f.end ≡ 0
+-- where the worst is that all was done, each is
+none_worse : (reports : List FeedReport) (n : ℕ) (f : FeedReport) → worst (map (λ (g : FeedReport). end_status g.end) reports) ≡ statuses.Done → At reports n f → end_status f.end ≡ statuses.Done
 none_worse reports n f is at =
     let all = map (λ (g : FeedReport). end_status g.end) reports in
-    let none = neither (list_any (λ (k : ℕ). k == 4) all) (list_any (λ (k : ℕ). k == 1) all) is in
+    let none = neither (list_any (is_status statuses.Limit) all) (list_any (is_status statuses.Refused) all) is in
     let there = map_at (λ (g : FeedReport). end_status g.end) reports n f at in
-    no_other f.end (none_at (λ (k : ℕ). k == 4) all n (end_status f.end) none.0 there) (none_at (λ (k : ℕ). k == 1) all n (end_status f.end) none.1 there)
+    no_other f.end (none_at (is_status statuses.Limit) all n (end_status f.end) none.0 there) (none_at (is_status statuses.Refused) all n (end_status f.end) none.1 there)
 
 -- the bytes decide the ends of the feeds, unless a count rises, memory lacks, or a limit would be passed
 pub ends_decided : (options : RecordOptions) (feeds : List (List ℕ)) (old new : WorldState) (r : Report) → Read options feeds old new r → old.input_faults < 2 ^ 64 → old.output_faults < 2 ^ 64
-    → (Rose old.input_faults new.input_faults → ⊥) → (Rose old.output_faults new.output_faults → ⊥) → lacks_memory r ≡ false → recording_passes_limit r ≡ false
+    → (Rose old.input_faults new.input_faults → ⊥) → (Rose old.output_faults new.output_faults → ⊥) → lacks_memory r ≡ false → passes_limit r ≡ false
     → (told : Told) (halts : List Halt) → old.told ≡ Some told → AllZip (FeedHalts told) feeds halts → map (λ (g : FeedReport). end_status g.end) r.feeds.items ≡ map halt_status halts
 ends_decided options feeds old new r is inputs_fit outputs_fit no_inputs no_outputs enough within told halts here all =
     decided_all options feeds old new r is inputs_fit outputs_fit (free_of old new r no_inputs no_outputs enough within) told halts here all
 
+-- memory lacked exactly where the report names that; or it isn't there though no count rose
+abbrev pub LackIsTold : Counts → Counts → Option Report → Bool → Type 0
+LackIsTold before now None lacked = (AnyRose before now → ⊥) ↔ (lacked ≡ true)
+LackIsTold before now (Some r) lacked = lacked ≡ lacks_memory r
+
 -- so they decide the status
-pub decided : (options : RecordOptions) (out : List ℕ) (feeds : List (List ℕ)) (old new : Scene) (report : Option Report) (lacked : Bool) (entries : List Opening) (answer : ℕ) → old.world.input_faults < 2 ^ 64 → old.world.output_faults < 2 ^ 64 → CountsKept old.world new.world entries
+pub decided : (options : RecordOptions) (out : List ℕ) (feeds : List (List ℕ)) (old new : Scene) (report : Option Report) (lacked : Bool) (entries : List Opening) (answer : Status) → old.world.input_faults < 2 ^ 64 → old.world.output_faults < 2 ^ 64 → CountsKept old.world new.world entries
     → ((r : Report) → report ≡ Some r → Reported options out feeds old.world new.world entries r) → LackIsTold (counts_in old) (counts_in new) report lacked → StatusFollows (counts_in old) (counts_in new) report lacked answer
     → (told : Told) (halts : List Halt) → old.world.told ≡ Some told → AllZip (FeedHalts told) feeds halts
-    → (AnyRose (counts_in old) (counts_in new) → ⊥) → lacked ≡ false → limit_was_passed report ≡ false → answer ≡ worst (map halt_status halts)
+    → (AnyRose (counts_in old) (counts_in new) → ⊥) → lacked ≡ false → limit_passed report ≡ false → answer ≡ worst (map halt_status halts)
 decided options out feeds old new None lacked entries answer inputs_fit outputs_fit kept reported lacking came told halts here all quiet enough within = absurd (both_ways lacked enough (lacking.0 quiet))
 decided options out feeds old new (Some r) lacked entries answer inputs_fit outputs_fit kept reported lacking came told halts here all quiet enough within =
     let is = read_of options out feeds old.world new.world entries r (reported r refl) kept in
     let status = came.calm enough quiet r refl in
     let ends = ends_decided options feeds old.world new.world r is inputs_fit outputs_fit (λ rose. quiet (inr (inl rose))) (λ rose. quiet (inr (inr (inl rose)))) (sym lacking ∙ enough) within told halts here all in
-    unlimited (recording_passes_limit r) (ends_status r) answer status within ∙ ap worst ends
+    unlimited (passes_limit r) (ends_status r) answer status within ∙ ap worst ends
 
--- with the status 0 memory was enough, and no count rose
-enough_memory : (before now : Counts) (report : Option Report) (lacked : Bool) (answer : ℕ) → StatusFollows before now report lacked answer → answer ≡ 0 → lacked ≡ false
-enough_memory before now report lacked answer came is = false_from_ne_true lacked (λ lacks. let five = came.memory lacks in omega (arith, five, is))
+-- where all was done memory was enough, and no count rose
+pub undone_memory : (answer : Status) → answer ≡ statuses.Memory → answer ≡ statuses.Done → ⊥
+undone_memory answer lacks done = cc
 
-pub calm : (before now : Counts) (report : Option Report) (lacked : Bool) (answer : ℕ) → StatusFollows before now report lacked answer → answer ≡ 0 → AnyRose before now → ⊥
+pub undone_fault : (answer : Status) → answer ≡ statuses.Fault → answer ≡ statuses.Done → ⊥
+undone_fault answer fails done = cc
+
+enough_memory : (before now : Counts) (report : Option Report) (lacked : Bool) (answer : Status) → StatusFollows before now report lacked answer → answer ≡ statuses.Done → lacked ≡ false
+enough_memory before now report lacked answer came is = false_from_ne_true lacked (λ lacks. undone_memory answer (came.memory lacks) is)
+
+pub calm : (before now : Counts) (report : Option Report) (lacked : Bool) (answer : Status) → StatusFollows before now report lacked answer → answer ≡ statuses.Done → AnyRose before now → ⊥
 calm before now report lacked answer came is risen =
-    let three = came.rose (enough_memory before now report lacked answer came is) risen in
-    omega (arith, three, is)
+    undone_fault answer (came.rose (enough_memory before now report lacked answer came is) risen) is
 
 -- a list without a member is empty
 none_there : (xs : List Refused) → ((k : ℕ) (x : Refused) → At xs k x → ⊥) → xs ≡ []
@@ -404,14 +421,14 @@ none_there (x ∷ xs) none = absurd (none 0 x refl)
 
 -- all of the feeds was recorded where no count rose, memory was enough, no limit would be passed, and no end is a trouble
 pub all_recorded : (options : RecordOptions) (feeds : List (List ℕ)) (old new : WorldState) (r : Report) → Read options feeds old new r → old.input_faults < 2 ^ 64 → old.output_faults < 2 ^ 64
-    → (Rose old.input_faults new.input_faults → ⊥) → (Rose old.output_faults new.output_faults → ⊥) → lacks_memory r ≡ false → recording_passes_limit r ≡ false → ends_status r ≡ 0 → RecordsAll options r
+    → (Rose old.input_faults new.input_faults → ⊥) → (Rose old.output_faults new.output_faults → ⊥) → lacks_memory r ≡ false → passes_limit r ≡ false → ends_status r ≡ statuses.Done → RecordsAll options r
 all_recorded options feeds old new r is inputs_fit outputs_fit no_inputs no_outputs enough within none =
     let free = free_of old new r no_inputs no_outputs enough within in
     record {
       each = λ n g at.
           let found = report_of options feeds old new r is inputs_fit outputs_fit n g at in
           let f = found.0 in
-          let ended : end_status f.feed.end ≡ 0 = ap (λ (x : FeedReport). end_status x.end) (sym found.2) ∙ none_worse r.feeds.items n g none at in
+          let ended : end_status f.feed.end ≡ statuses.Done = ap (λ (x : FeedReport). end_status x.end) (sym found.2) ∙ none_worse r.feeds.items n g none at in
           let full : Each (λ (x : Refused). is_full x.cause ≡ true) f.feed.refused.items = λ k x there. elim (each_refused options feeds old new r is inputs_fit outputs_fit n f found.1 k x there) [ inl yes_it ↦ yes_it | inr why ↦ absurd (free why) ] in
           let never : options.lossless ≡ true → RefusesNoneAsFull f.feed = λ lossless. subst RefusesNoneAsFull found.2 (lossless_refuses_none_as_full options (sides is.given is.live) (sides (back_sources is.kept_feeds) is.live_now) r is.recorded lossless n g at) in
           let all : IsAllRecorded options.lossless f.feed = record {
@@ -423,20 +440,20 @@ all_recorded options feeds old new r is inputs_fit outputs_fit no_inputs no_outp
       closed = elim (closed_or options feeds old new r is inputs_fit outputs_fit r.writer.end refl) [ inl closed ↦ closed | inr why ↦ absurd (free why) ];
     }
 
--- the status 0 says that
-pub whole : (options : RecordOptions) (out : List ℕ) (feeds : List (List ℕ)) (old new : Scene) (report : Option Report) (lacked : Bool) (entries : List Opening) (answer : ℕ) → old.world.input_faults < 2 ^ 64 → old.world.output_faults < 2 ^ 64 → CountsKept old.world new.world entries
+-- that all was done says that
+pub whole : (options : RecordOptions) (out : List ℕ) (feeds : List (List ℕ)) (old new : Scene) (report : Option Report) (lacked : Bool) (entries : List Opening) (answer : Status) → old.world.input_faults < 2 ^ 64 → old.world.output_faults < 2 ^ 64 → CountsKept old.world new.world entries
     → ((r : Report) → report ≡ Some r → Reported options out feeds old.world new.world entries r) → LackIsTold (counts_in old) (counts_in new) report lacked → StatusFollows (counts_in old) (counts_in new) report lacked answer
-    → answer ≡ 0 → (r : Report) × (report ≡ Some r) × RecordsAll options r
-whole options out feeds old new None lacked entries answer inputs_fit outputs_fit kept reported lacking came zero_is =
-    let enough = enough_memory (counts_in old) (counts_in new) None lacked answer came zero_is in
-    absurd (both_ways lacked enough (lacking.0 (calm (counts_in old) (counts_in new) None lacked answer came zero_is)))
-whole options out feeds old new (Some r) lacked entries answer inputs_fit outputs_fit kept reported lacking came zero_is =
+    → answer ≡ statuses.Done → (r : Report) × (report ≡ Some r) × RecordsAll options r
+whole options out feeds old new None lacked entries answer inputs_fit outputs_fit kept reported lacking came done =
+    let enough = enough_memory (counts_in old) (counts_in new) None lacked answer came done in
+    absurd (both_ways lacked enough (lacking.0 (calm (counts_in old) (counts_in new) None lacked answer came done)))
+whole options out feeds old new (Some r) lacked entries answer inputs_fit outputs_fit kept reported lacking came done =
     let is = read_of options out feeds old.world new.world entries r (reported r refl) kept in
-    let enough = enough_memory (counts_in old) (counts_in new) (Some r) lacked answer came zero_is in
-    let quiet = calm (counts_in old) (counts_in new) (Some r) lacked answer came zero_is in
-    let status : answer ≡ (if recording_passes_limit r then 4 else ends_status r) = came.calm enough quiet r refl in
-    let within = limit_kept (recording_passes_limit r) (ends_status r) answer status zero_is in (
+    let enough = enough_memory (counts_in old) (counts_in new) (Some r) lacked answer came done in
+    let quiet = calm (counts_in old) (counts_in new) (Some r) lacked answer came done in
+    let status : answer ≡ (if passes_limit r then statuses.Limit else ends_status r) = came.calm enough quiet r refl in
+    let within = limit_kept (passes_limit r) (ends_status r) answer status done in (
       r,
       refl,
-      all_recorded options feeds old.world new.world r is inputs_fit outputs_fit (λ rose. quiet (inr (inl rose))) (λ rose. quiet (inr (inr (inl rose)))) (sym lacking ∙ enough) within (unlimited_status (recording_passes_limit r) (ends_status r) answer status zero_is),
+      all_recorded options feeds old.world new.world r is inputs_fit outputs_fit (λ rose. quiet (inr (inl rose))) (λ rose. quiet (inr (inr (inl rose)))) (sym lacking ∙ enough) within (unlimited_status (passes_limit r) (ends_status r) answer status done),
     )

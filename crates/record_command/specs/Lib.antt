@@ -7,6 +7,5 @@ pub mod WatchedAnswer
 -- What the functions of this crate and its proofs say besides.
 pub mod RecordSteps
 pub mod Sources
-pub mod Answer
 pub mod SinkSteps
 pub mod WatchedSteps

@@ -1,12 +1,10 @@
 -- What a recording does: to the names of the feeds and of the output, what it reports, and how it ends.
-use Rattle.std.specs.Prelude.{◌≡◌, ◌⊎◌, ◌↔◌, ◌≤◌, ◌||◌, ◌==◌, ℕ, List, [], ◌∷◌, ◌++◌, map, length, Bool, true, false, if◌then◌else◌, Option, Some, None}
+use Rattle.std.specs.Prelude.{◌≡◌, ◌⊎◌, ◌≤◌, not, ℕ, List, [], ◌∷◌, ◌++◌, map, length, Bool, true, false, if◌then◌else◌, Option, Some, None}
 use Rattle.std.specs.List.{list_any, AllZip}
 use Rattle.mcap_io.specs.Outside.{Rose, WorldState, SourceState, LiveState, Told, Keeping, Opening, TellsName}
 use Rattle.mcap_io.specs.declared.outside.ObjectKind.TheVariants as kinds
 use Rattle.rec_data.specs.declared.owned.Rec.{Rec}
-use Rattle.mcap_model.specs.declared.ends.End.{End}
 use Rattle.mcap_model.specs.declared.ends.End.TheVariants as ends
-use Rattle.mcap_model.specs.declared.ends.Stop.TheVariants as stops
 use Rattle.mcap_model.specs.declared.refusals.ReadingRefused.{ReadingRefused}
 use Rattle.mcap_model.specs.declared.refusals.ReadingRefused.TheVariants as refusals
 use Rattle.mcap_model.specs.declared.options.FileOptions.{FileOptions}
@@ -14,9 +12,8 @@ use Rattle.mcap_model.specs.Places.{Has, Each}
 use Rattle.mcap_model.specs.Tops.{Top}
 use Rattle.mcap_model.specs.Kept.{Halt, reading_limits, Halts}
 use Rattle.mcap_model.specs.File.{front, file_of, IsPrefix}
-use Rattle.feed_lane.specs.declared.report.Cause.{Cause}
-use Rattle.feed_lane.specs.Causes.{is_over, is_memory_stop, is_memory}
-use Rattle.feed_lane.specs.declared.report.Cause.TheVariants as causes
+use Rattle.record_core.specs.declared.answers.CallRefused.{CallRefused}
+use Rattle.record_core.specs.declared.answers.CallRefused.TheVariants as refusing
 use Rattle.feed_lane.specs.declared.report.Refused.{Refused}
 use Rattle.feed_lane.specs.declared.report.FeedReport.{FeedReport}
 use Rattle.feed_lane.specs.declared.report.FeedEnd.{FeedEnd}
@@ -26,14 +23,15 @@ use Rattle.recorder.specs.declared.report.Report.{Report}
 use Rattle.recorder.specs.declared.report.WriterReport.{WriterReport}
 use Rattle.recorder.specs.Recorded.{sides, Recorded}
 use Rattle.command_base.specs.declared.faults.Counts.{Counts}
-use Rattle.command_base.specs.Texts.{Trouble, output_limit, halt_status}
-use Rattle.command_base.specs.OneFile.{refusal_ending, troubles_in, is_lack}
+use Rattle.command_base.specs.declared.statuses.Status.{Status}
+use Rattle.command_base.specs.declared.statuses.Status.TheVariants as statuses
+use Rattle.command_base.specs.Texts.{Trouble, is_status, halt_status}
+use Rattle.command_base.specs.OneFile.{refusal_ending, troubles_in}
+use Rattle.report_findings.specs.Findings.{passes_limit, lacks_memory, limit_passed}
+use Rattle.output_base.specs.Endings.{WritingEnding}
+use Rattle.output_base.specs.Outputs.{inputs_and_output, LeftUnderName, WritesOutput}
 use Rattle.record_command.specs.ReportTexts.{printed}
-use Rattle.command_base.specs.Ran.{Scene, counts_in, AnyRose, Files, kept, input_faults, output_faults, when, Findings, Failed, Ran}
-
--- the names of a recording
-abbrev pub feeds_and_output : List ℕ → List (List ℕ) → Files
-feeds_and_output out feeds = record { kind = kinds.Source; inputs = feeds; outputs = out ∷ [] }
+use Rattle.command_base.specs.Ran.{Scene, counts_in, AnyRose, kept, input_faults, output_faults}
 
 -- ---- with a report
 
@@ -87,10 +85,6 @@ pub record Reported (options : RecordOptions) (out : List ℕ) (feeds : List (Li
 
 -- ---- without a report
 
--- what a feed that was kept has left is what stands under its name
-abbrev pub LeftUnderName : Told → Opening → Type 0
-LeftUnderName told entry = (feed : List ℕ) (keeping : Keeping) → entry ≡ kept kinds.Source feed keeping → keeping.left ≡ told.names feed
-
 -- Nothing was read from the feeds and nothing written: the output's name holds what it held, or nothing.
 pub record Unreported (out : List ℕ) (old new : WorldState) (entries : List Opening) : Type 0 where
   pub inputs : input_faults entries ≡ 0
@@ -117,17 +111,17 @@ end_troubles feed (feed_ends.Refused why) = troubles_in (refusal_ending feed why
 end_troubles feed feed_ends.Ended = []
 
 -- the status that a refused reading of a feed asks for; a fault and a want of memory are told by themselves
-abbrev pub refusal_status : ReadingRefused → ℕ
-refusal_status (refusals.Fault faults) = 0
-refusal_status (refusals.Grammar n rule) = 1
-refusal_status (refusals.Compressed n name) = 1
-refusal_status (refusals.Limit n) = 4
-refusal_status refusals.Memory = 0
+abbrev pub refusal_status : ReadingRefused → Status
+refusal_status (refusals.Fault faults) = statuses.Done
+refusal_status (refusals.Grammar n rule) = statuses.Refused
+refusal_status (refusals.Compressed n name) = statuses.Refused
+refusal_status (refusals.Limit n) = statuses.Limit
+refusal_status refusals.Memory = statuses.Done
 
-abbrev pub end_status : FeedEnd → ℕ
-end_status feed_ends.Done = 0
+abbrev pub end_status : FeedEnd → Status
+end_status feed_ends.Done = statuses.Done
 end_status (feed_ends.Refused why) = refusal_status why
-end_status feed_ends.Ended = 0
+end_status feed_ends.Ended = statuses.Done
 
 -- the ends of all feeds, in their order
 abbrev pub ends_of : List (List ℕ) → List FeedReport → List (List Trouble)
@@ -135,90 +129,51 @@ ends_of [] reports = []
 ends_of (feed ∷ feeds) [] = []
 ends_of (feed ∷ feeds) (report ∷ reports) = end_troubles feed report.end ∷ ends_of feeds reports
 
-abbrev pub is_limit_end : End → Bool
-is_limit_end ends.Closed = false
-is_limit_end (ends.Stopped (stops.Fault faults)) = false
-is_limit_end (ends.Stopped (stops.Limit blocks bytes)) = true
-is_limit_end (ends.Stopped stops.Memory) = false
-
--- the file or a message would pass a limit
-abbrev pub recording_passes_limit : Report → Bool
-recording_passes_limit r = is_limit_end r.writer.end || list_any (λ f. list_any (λ x. is_over x.cause) f.refused.items) r.feeds.items
-
--- memory lacked for a feed, for the file, or for a message
-abbrev pub feed_lacked_memory : FeedEnd → Bool
-feed_lacked_memory feed_ends.Done = false
-feed_lacked_memory (feed_ends.Refused why) = is_lack (refusal_ending [] why)
-feed_lacked_memory feed_ends.Ended = false
-
-abbrev pub writer_lacked_memory : End → Bool
-writer_lacked_memory ends.Closed = false
-writer_lacked_memory (ends.Stopped stop) = is_memory_stop stop
-
-abbrev pub lacks_memory : Report → Bool
-lacks_memory r = writer_lacked_memory r.writer.end || list_any (λ f. feed_lacked_memory f.end || list_any (λ x. is_memory x.cause) f.refused.items) r.feeds.items
-
 -- the same where there may be no report
 abbrev pub reports_in : Option Report → List FeedReport
 reports_in None = []
 reports_in (Some r) = r.feeds.items
 
-abbrev pub limit_was_passed : Option Report → Bool
-limit_was_passed None = false
-limit_was_passed (Some r) = recording_passes_limit r
+-- whether memory lacked, as the report names it; where there is none it did, unless some part of the outside failed
+abbrev pub report_lack : Option Report → Bool → Bool
+report_lack None some = not some
+report_lack (Some r) some = lacks_memory r
 
--- what there is to tell of besides faults
-abbrev pub recording_findings : List ℕ → List (List ℕ) → Option Report → Bool → Findings
-recording_findings out feeds report lacked = record { halts = ends_of feeds (reports_in report); limits = when (limit_was_passed report) (output_limit out); lacked = lacked }
+abbrev pub fails_in : Option Report → Bool → Bool
+fails_in None some = some
+fails_in (Some r) some = false
 
--- memory lacked exactly where the report names that; or it isn't there though no count rose
-abbrev pub LackIsTold : Counts → Counts → Option Report → Bool → Type 0
-LackIsTold before now None lacked = (AnyRose before now → ⊥) ↔ (lacked ≡ true)
-LackIsTold before now (Some r) lacked = lacked ≡ lacks_memory r
-
--- one of the answers is that it failed
-abbrev pub any_failed : List Bool → Bool
-any_failed failed = list_any (λ (b : Bool). b) failed
-
--- Which of the feeds are blamed, in their order, and whether the output is, as the counts tell: each with its cause, and none
--- is left out.
-pub record FeedCauses (before now : Counts) (feeds : List Bool) (out : Bool) : Type 0 where
-  pub feed_cause : any_failed feeds ≡ true → Rose before.world now.world ⊎ Rose before.inputs now.inputs
-  pub out_cause : out ≡ true → Rose before.world now.world ⊎ Rose before.outputs now.outputs
-  pub inputs_told : Rose before.inputs now.inputs → any_failed feeds ≡ true
-  pub outputs_told : Rose before.outputs now.outputs → out ≡ true
-  pub world_told : Rose before.world now.world → (any_failed feeds ≡ true) ⊎ (out ≡ true)
-
--- the names that are blamed
-abbrev pub failed_feeds : List Bool → Bool → Failed
-failed_feeds feeds out = record { inputs = feeds; outputs = out ∷ [] }
+-- How a recording ended, by whether some part of the outside failed.
+abbrev pub ending_of_recording : List (List ℕ) → Option Report → Bool → WritingEnding
+ending_of_recording feeds report some = record {
+  text = report_text report;
+  halts = ends_of feeds (reports_in report);
+  passes_limit = limit_passed report;
+  lacks_memory = report_lack report some;
+  fails = fails_in report some;
+}
 
 -- ---- the status
 
--- the first of 4 and 1 that stands among the statuses, or 0
-abbrev pub worst : List ℕ → ℕ
-worst statuses = if list_any (λ (n : ℕ). n == 4) statuses then 4 else (if list_any (λ (n : ℕ). n == 1) statuses then 1 else 0)
+-- a limit, or else a refusal, if it stands among the statuses; or else that all was done
+abbrev pub worst : List Status → Status
+worst asked = if list_any (is_status statuses.Limit) asked then statuses.Limit else (if list_any (is_status statuses.Refused) asked then statuses.Refused else statuses.Done)
 
-abbrev pub ends_status : Report → ℕ
+abbrev pub ends_status : Report → Status
 ends_status r = worst (map (λ (f : FeedReport). end_status f.end) r.feeds.items)
 
--- 5 where memory lacked; else 3 where a count rose; else 4 where a limit would be passed; else that of the feeds' ends
-pub record StatusFollows (before now : Counts) (report : Option Report) (lacked : Bool) (status : ℕ) : Type 0 where
-  pub memory : lacked ≡ true → status ≡ 5
-  pub rose : lacked ≡ false → AnyRose before now → status ≡ 3
+-- a want of memory where memory lacked; else a fault where a count rose; else a limit where one would be passed; else that of the
+-- feeds' ends
+pub record StatusFollows (before now : Counts) (report : Option Report) (lacked : Bool) (status : Status) : Type 0 where
+  pub memory : lacked ≡ true → status ≡ statuses.Memory
+  pub rose : lacked ≡ false → AnyRose before now → status ≡ statuses.Fault
   pub calm : lacked ≡ false → (AnyRose before now → ⊥) → (r : Report) → report ≡ Some r
-      → status ≡ (if recording_passes_limit r then 4 else ends_status r)
+      → status ≡ (if passes_limit r then statuses.Limit else ends_status r)
 
 -- the buffer stood at its limit
-abbrev pub is_full : Cause → Bool
-is_full (causes.Full held from to) = true
-is_full (causes.TooLarge len) = false
-is_full (causes.Closed at) = false
-is_full (causes.Stopped at stop) = false
-is_full causes.TooManySchemas = false
-is_full causes.TooManyChannels = false
-is_full (causes.TooManyRecords count) = false
-is_full causes.Memory = false
+abbrev pub is_full : CallRefused → Bool
+is_full (refusing.Full held from to) = true
+is_full cause = false
 
 -- The whole feed was recorded: its Data End was read, and none of its messages was refused, but for a full buffer where lanes
 -- don't wait for room.
@@ -242,7 +197,7 @@ pub record FeedHalts (told : Told) (feed : List ℕ) (halt : Halt) : Type 0 wher
 -- ---- the command
 
 -- what `record` does
-pub record Records (options : RecordOptions) (out : List ℕ) (feeds : List (List ℕ)) (old new : Scene) (report : Option Report) (status : ℕ) : Type 0 where
+pub record Records (options : RecordOptions) (out : List ℕ) (feeds : List (List ℕ)) (old new : Scene) (report : Option Report) (status : Status) : Type 0 where
   pub entries : List Opening
   -- with a report the feeds were recorded, and the output holds the file
   pub reported : (r : Report) → report ≡ Some r → Reported options out feeds old.world new.world entries r
@@ -250,18 +205,12 @@ pub record Records (options : RecordOptions) (out : List ℕ) (feeds : List (Lis
   pub unreported : report ≡ None → Unreported out old.world new.world entries
   pub spares : SparesOutput out feeds old.world new.world
   -- these names are opened; both outputs are told of the report, of its troubles, and of which part failed
-  pub lacked : Bool
-  pub lacks : LackIsTold (counts_in old) (counts_in new) report lacked
-  pub ran : Ran (feeds_and_output out feeds) old new entries (report_text report) (recording_findings out feeds report lacked) status
-  pub feeds_blamed : List Bool
-  pub out_blamed : Bool
-  pub failed_are : ran.failed ≡ failed_feeds feeds_blamed out_blamed
-  pub causes : FeedCauses (counts_in old) (counts_in new) feeds_blamed out_blamed
+  pub wrote : WritesOutput (inputs_and_output kinds.Source feeds out) old new entries (ending_of_recording feeds report) status
   -- the status says what became of it
-  pub ended : StatusFollows (counts_in old) (counts_in new) report lacked status
+  pub ended : StatusFollows (counts_in old) (counts_in new) report (report_lack report wrote.some) status
   -- where the world tells, the bytes under the feeds' names decide the status, unless a count rises, memory lacks, or a limit
   -- would be passed
   pub decided : (told : Told) (halts : List Halt) → old.world.told ≡ Some told → AllZip (FeedHalts told) feeds halts
-      → (AnyRose (counts_in old) (counts_in new) → ⊥) → lacked ≡ false → limit_was_passed report ≡ false → status ≡ worst (map halt_status halts)
-  -- the status 0 says that all of the feeds was recorded
-  pub whole : status ≡ 0 → (r : Report) × (report ≡ Some r) × RecordsAll options r
+      → (AnyRose (counts_in old) (counts_in new) → ⊥) → report_lack report wrote.some ≡ false → limit_passed report ≡ false → status ≡ worst (map halt_status halts)
+  -- that all was done says that all of the feeds was recorded
+  pub whole : status ≡ statuses.Done → (r : Report) × (report ≡ Some r) × RecordsAll options r

@@ -12,8 +12,9 @@ use Rattle.recorder.specs.declared.report.Report.{Report}
 use Rattle.record_command.specs.declared.answering.Outcome.{Outcome}
 use Rattle.command_base.specs.Texts.{Trouble}
 use Rattle.command_words.specs.Commands.{feed_limit}
+use Rattle.output_base.specs.Outputs.{inputs_and_output, failed_of}
 use Rattle.command_base.specs.Ran.{wanted, AreOpened, Leaves, CountsKept, has_failed, failed_names, blamed_names}
-use Rattle.record_command.specs.Record.{feeds_and_output, Reported, Unreported, SparesOutput, end_troubles, failed_feeds}
+use Rattle.record_command.specs.Record.{Reported, Unreported, SparesOutput, end_troubles}
 
 -- the options of a recording are in their ranges: a buffer of 1 byte to 1 GiB, chunks of 1 byte to 64 MiB, and a profile of at
 -- most 65,535 bytes
@@ -34,7 +35,7 @@ first_end feed (f ∷ fs) = end_troubles feed f.end
 
 pub record NamesRecorded (options : RecordOptions) (out : List ℕ) (feeds : List (List ℕ)) (old new : WorldState) (outcome : Outcome) : Type 0 where
   pub entries : List Opening
-  pub opened : AreOpened (wanted (feeds_and_output out feeds)) entries
+  pub opened : AreOpened (wanted (inputs_and_output kinds.Source feeds out)) entries
   pub leaves : Leaves old new entries
   pub counts : CountsKept old new entries
   pub reported : (r : Report) → outcome.report ≡ Some r → Reported options out feeds old new entries r
@@ -49,4 +50,4 @@ pub record NamesRecorded (options : RecordOptions) (out : List ℕ) (feeds : Lis
   pub stores : Each (λ (entry : Opening). entry.kind ≡ kinds.Live) outputs
   pub feeds_failed : outcome.feeds_failed.items ≡ map has_failed inputs
   pub out_failed : outcome.out_failed ≡ list_any has_failed outputs
-  pub failed : failed_names entries ≡ blamed_names (feeds_and_output out feeds) (failed_feeds outcome.feeds_failed.items outcome.out_failed)
+  pub failed : failed_names entries ≡ blamed_names (inputs_and_output kinds.Source feeds out) (failed_of outcome.feeds_failed.items outcome.out_failed)

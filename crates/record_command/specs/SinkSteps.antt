@@ -5,7 +5,7 @@ use Rattle.std.specs.Option.{option_map}
 use Rattle.mcap_io.specs.Outside.{WorldState, SourceState, SinkState, LiveState, Told, Names, Opening, added, opened}
 use Rattle.mcap_io.specs.OutsideCalls.{TellsNothingYet, with_opening, Opens, OpenCause, CountsStand, Notes, NoneIsOut, OthersSame}
 use Rattle.mcap_io.specs.declared.outside.ObjectKind.TheVariants as kinds
-use Rattle.mcap_io.specs.declared.outside.OpenRefused.{OpenRefused}
+use Rattle.mcap_io.specs.declared.outside.OutsideRefused.{OutsideRefused}
 use Rattle.mcap_model.specs.Places.{At, Has, Each}
 use Rattle.command_base.specs.Ran.{kept, has_failed, failed_so, world_faults}
 use Rattle.record_command.specs.Sources.{with_feed_openings, FeedsOpened}
@@ -54,7 +54,7 @@ pub record SinksOpened (old new : WorldState) (names : List (List ℕ)) (sinks :
   pub unused : Each (λ (s : SinkState). s.faults ≡ 0) sinks
 
 -- The first of them were given, and then one was refused.
-pub record SinkRefused (old new : WorldState) (names : List (List ℕ)) (sinks : List SinkState) (why : OpenRefused) : Type 0 where
+pub record SinkRefused (old new : WorldState) (names : List (List ℕ)) (sinks : List SinkState) (why : OutsideRefused) : Type 0 where
   pub between : WorldState
   pub first : SinksOpened old between (take (length sinks) names) sinks
   pub name : List ℕ

@@ -4,14 +4,14 @@ use Rattle.std.specs.List.{AllZip}
 use Rattle.mcap_io.specs.Outside.{WorldState, SourceState, Told, Keeping, Opening, TellsName, added, opened}
 use Rattle.mcap_io.specs.OutsideCalls.{Opens, OpenCause, CountsStand, NoneIsOut, Notes}
 use Rattle.mcap_io.specs.declared.outside.ObjectKind.TheVariants as kinds
-use Rattle.mcap_io.specs.declared.outside.OpenRefused.{OpenRefused}
+use Rattle.mcap_io.specs.declared.outside.OutsideRefused.{OutsideRefused}
 use Rattle.mcap_model.specs.Places.{At, Each}
 use Rattle.command_base.specs.Ran.{has_failed, failed_so, input_faults, world_faults}
 use Rattle.record_command.specs.Record.{FeedKept, feed_entry, feed_names_kept, back_sources}
 
 -- what a world notes of a source that is taken back
-abbrev pub source_keeping : SourceState → Bool → Keeping
-source_keeping source well = record { well = well; faults = source.faults; left = source.left; asked = 0 }
+abbrev pub feed_keeping : SourceState → Bool → Keeping
+feed_keeping source well = record { well = well; faults = source.faults; left = source.left; asked = 0 }
 
 abbrev pub feed_given : List ℕ → Opening
 feed_given feed = opened kinds.Source feed true
@@ -29,7 +29,7 @@ pub record FeedsOpened (old new : WorldState) (feeds : List (List ℕ)) (sources
   pub unused : Each (λ (s : SourceState). s.faults ≡ 0) sources
 
 -- The first of them were given, and then one was refused.
-pub record FeedRefused (old new : WorldState) (feeds : List (List ℕ)) (sources : List SourceState) (why : OpenRefused) : Type 0 where
+pub record FeedRefused (old new : WorldState) (feeds : List (List ℕ)) (sources : List SourceState) (why : OutsideRefused) : Type 0 where
   pub between : WorldState
   pub first : FeedsOpened old between (take (length sources) feeds) sources
   pub name : List ℕ
@@ -42,7 +42,7 @@ pub record FeedRefused (old new : WorldState) (feeds : List (List ℕ)) (sources
 pub record SourceKept (old new : WorldState) (feed : List ℕ) (source : SourceState) (failed : Bool) : Type 0 where
   pub well : Bool
   pub keeps : (told : Told) → old.told ≡ Some told → (now : Told) × (new.told ≡ Some now) × (now.names ≡ told.names)
-      × Notes told.log now.log kinds.Source feed (source_keeping source well)
+      × Notes told.log now.log kinds.Source feed (feed_keeping source well)
   pub world : old.faults < 2 ^ 64 → new.faults ≡ added old.faults (if well then 0 else 1)
   pub inputs : new.input_faults ≡ added old.input_faults source.faults
   pub outputs : new.output_faults ≡ old.output_faults

@@ -15,7 +15,8 @@ use Rattle.watching.specs.declared.report.WatchEnd.TheVariants as watch_ends
 use Rattle.watched_recording.specs.Watched.{Watch, IsWatched, AsksViews}
 use Rattle.watched_recording.specs.Files.{IsWatchedFile}
 use Rattle.command_base.specs.Ran.{Wanted, wanted, CountsKept, has_failed}
-use Rattle.record_command.specs.Record.{feeds_and_output, FeedKept, feed_entry, live_entry, feed_names_kept, back_sources, OutputHolds, Unreported}
+use Rattle.output_base.specs.Outputs.{inputs_and_output}
+use Rattle.record_command.specs.Record.{FeedKept, feed_entry, live_entry, feed_names_kept, back_sources, OutputHolds, Unreported}
 use Rattle.record_command.specs.Sinks.{SinkKept, sink_entry, sink_names, back_sinks, watch_faults, SinkHolds}
 
 -- ---- what is asked, and what is reported
@@ -51,7 +52,7 @@ reported_with report sealed watches = record { report = report; sealed = sealed;
 
 -- the feeds, then the output, and then the watch files
 abbrev pub wanted_names : List ℕ → List (List ℕ) → List (List ℕ) → List Wanted
-wanted_names out watches feeds = wanted (feeds_and_output out feeds) ++ map (λ (name : List ℕ). (kinds.Sink, name)) watches
+wanted_names out watches feeds = wanted (inputs_and_output kinds.Source feeds out) ++ map (λ (name : List ℕ). (kinds.Sink, name)) watches
 
 -- a live store or a sink was given under that name
 pub record IsWrittenBeside (entries : List Opening) (name : List ℕ) : Type 0 where

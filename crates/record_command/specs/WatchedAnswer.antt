@@ -11,11 +11,15 @@ use Rattle.recorder.specs.declared.report.Report.{Report}
 use Rattle.watching.specs.declared.report.WatchEnd.{WatchEnd}
 use Rattle.watching.specs.declared.report.WatchEnd.TheVariants as watch_ends
 use Rattle.watching.specs.declared.report.WatchReport.{WatchReport}
+use Rattle.command_base.specs.declared.statuses.Status.{Status}
+use Rattle.command_base.specs.declared.statuses.Status.TheVariants as statuses
 use Rattle.command_base.specs.Printing.{Takes}
 use Rattle.command_base.specs.Texts.{Trouble, fault, output_fault, output_limit, flaw, no_memory, halt_status}
 use Rattle.command_base.specs.Ran.{Scene, counted_faults, AnyRose, CountsOn, AreOpened, has_failed, BlamesOutput, when, told_of, Complains}
 use Rattle.record_command.specs.declared.watched_answer.WatchedCounts.{WatchedCounts}
-use Rattle.record_command.specs.Record.{ends_of, reports_in, limit_was_passed, recording_passes_limit, lacks_memory, any_failed, end_status, worst, report_text, RecordsAll, FeedHalts, SparesOutput}
+use Rattle.report_findings.specs.Findings.{limit_passed, passes_limit, lacks_memory}
+use Rattle.record_command.specs.Record.{ends_of, reports_in, end_status, worst, report_text, RecordsAll, FeedHalts, SparesOutput}
+use Rattle.output_base.specs.Outputs.{some_failed}
 use Rattle.record_command.specs.Watched.{Named, Requested, reported_with, wanted_names, LeavesBeside, CountsBeside, ReportedBeside, UnreportedBeside, watch_flags}
 
 -- ---- counts of faults
@@ -79,13 +83,13 @@ pub record Blamed : Type 0 where
 -- As the counts tell: each that is blamed has its cause, and for each count that rose some name is blamed. A watcher that the
 -- store refused a view has the store's count as its cause.
 pub record CausesBeside (before now : WatchedCounts) (b : Blamed) : Type 0 where
-  pub feed_cause : any_failed b.feeds ≡ true → Rose before.seen.world now.seen.world ⊎ Rose before.seen.inputs now.seen.inputs
+  pub feed_cause : some_failed b.feeds ≡ true → Rose before.seen.world now.seen.world ⊎ Rose before.seen.inputs now.seen.inputs
   pub out_cause : b.out ≡ true → Rose before.seen.world now.seen.world ⊎ Rose before.seen.outputs now.seen.outputs
-  pub watch_cause : any_failed b.watches ≡ true → Rose before.seen.world now.seen.world ⊎ (Rose before.seen.outputs now.seen.outputs ⊎ Rose before.watches now.watches)
-  pub inputs_told : Rose before.seen.inputs now.seen.inputs → any_failed b.feeds ≡ true
+  pub watch_cause : some_failed b.watches ≡ true → Rose before.seen.world now.seen.world ⊎ (Rose before.seen.outputs now.seen.outputs ⊎ Rose before.watches now.watches)
+  pub inputs_told : Rose before.seen.inputs now.seen.inputs → some_failed b.feeds ≡ true
   pub outputs_told : Rose before.seen.outputs now.seen.outputs → b.out ≡ true
-  pub watches_told : Rose before.watches now.watches → any_failed b.watches ≡ true
-  pub world_told : Rose before.seen.world now.seen.world → (any_failed b.feeds ≡ true) ⊎ ((b.out ≡ true) ⊎ (any_failed b.watches ≡ true))
+  pub watches_told : Rose before.watches now.watches → some_failed b.watches ≡ true
+  pub world_told : Rose before.seen.world now.seen.world → (some_failed b.feeds ≡ true) ⊎ ((b.out ≡ true) ⊎ (some_failed b.watches ≡ true))
 
 -- These are the entries of the feeds, of the output and of the watchers that were reached, and exactly those are blamed that
 -- failed, but where a count stands at the end of its type and so can't tell.
@@ -108,28 +112,29 @@ pub record BlamesExactly (old : WorldState) (watches feeds : List (List ℕ)) (e
 -- all troubles, in their order: those of the feeds, of the output, of the watchers, and the others
 abbrev pub watched_troubles : Named → Option Report → List WatchReport → Bool → Blamed → Bool → List Trouble
 watched_troubles names report reports lacked b printing =
-    told_of names.feeds (ends_of names.feeds (reports_in report)) b.feeds (when b.out (fault names.out) ++ (when (limit_was_passed report) (output_limit names.out)
+    told_of names.feeds (ends_of names.feeds (reports_in report)) b.feeds (when b.out (fault names.out) ++ (when (limit_passed report) (output_limit names.out)
     ++ told_of names.watches (flaws_of names.watches reports) b.watches (when printing output_fault ++ when lacked no_memory)))
 
 -- ---- the status
 
-abbrev pub watch_status : WatchEnd → ℕ
-watch_status watch_ends.Whole = 0
-watch_status watch_ends.Unsealed = 0
-watch_status (watch_ends.Fault faults) = 0
-watch_status (watch_ends.Flaw rule n) = 1
-watch_status watch_ends.Memory = 0
+abbrev pub watch_status : WatchEnd → Status
+watch_status watch_ends.Whole = statuses.Done
+watch_status watch_ends.Unsealed = statuses.Done
+watch_status (watch_ends.Fault faults) = statuses.Done
+watch_status (watch_ends.Flaw rule n) = statuses.Refused
+watch_status watch_ends.Memory = statuses.Done
 
 -- that of the ends of the feeds and of the watchers
-abbrev pub ends_status_beside : List FeedReport → List WatchReport → ℕ
+abbrev pub ends_status_beside : List FeedReport → List WatchReport → Status
 ends_status_beside feeds reports = worst (map (λ (f : FeedReport). end_status f.end) feeds ++ map (λ (w : WatchReport). watch_status w.end) reports)
 
--- 5 where memory lacked; else 3 where a count rose; else 4 where a limit would be passed; else that of the ends
-pub record EndsBeside (before now : WatchedCounts) (report : Option Report) (reports : List WatchReport) (lacked : Bool) (status : ℕ) : Type 0 where
-  pub memory : lacked ≡ true → status ≡ 5
-  pub rose : lacked ≡ false → AnyCountRose before now → status ≡ 3
+-- a want of memory where memory lacked; else a fault where a count rose; else a limit where one would be passed; else that of the
+-- ends
+pub record EndsBeside (before now : WatchedCounts) (report : Option Report) (reports : List WatchReport) (lacked : Bool) (status : Status) : Type 0 where
+  pub memory : lacked ≡ true → status ≡ statuses.Memory
+  pub rose : lacked ≡ false → AnyCountRose before now → status ≡ statuses.Fault
   pub calm : lacked ≡ false → (AnyCountRose before now → ⊥) → (r : Report) → report ≡ Some r
-      → status ≡ (if recording_passes_limit r then 4 else ends_status_beside r.feeds.items reports)
+      → status ≡ (if passes_limit r then statuses.Limit else ends_status_beside r.feeds.items reports)
 
 -- all of the feeds was recorded, the file was closed, the watchers were told of that, and each wrote all that it had to
 pub record RecordsAllBeside (options : RecordOptions) (r : Report) (sealed : Bool) (reports : List WatchReport) : Type 0 where
@@ -140,7 +145,7 @@ pub record RecordsAllBeside (options : RecordOptions) (r : Report) (sealed : Boo
 -- ---- the command
 
 -- what `record` with watchers does
-pub record RecordsWatched (request : Requested) (old new : Scene) (report : Option Report) (status : ℕ) : Type 0 where
+pub record RecordsWatched (request : Requested) (old new : Scene) (report : Option Report) (status : Status) : Type 0 where
   -- these names were opened, and nothing else; all failures are counted
   pub entries : List Opening
   pub opened : AreOpened (wanted_names request.names.out request.names.watches request.names.feeds) entries
@@ -171,7 +176,7 @@ pub record RecordsWatched (request : Requested) (old new : Scene) (report : Opti
   -- where the world tells, the bytes under the feeds' names decide the status, unless a count rises, memory lacks, or a limit
   -- would be passed
   pub decided : (told : Told) (halts : List Halt) → old.world.told ≡ Some told → AllZip (FeedHalts told) request.names.feeds halts
-      → (AnyCountRose (watched_counts_in old) (watched_counts_in new) → ⊥) → lacked ≡ false → limit_was_passed report ≡ false
+      → (AnyCountRose (watched_counts_in old) (watched_counts_in new) → ⊥) → lacked ≡ false → limit_passed report ≡ false
       → status ≡ worst (map halt_status halts)
-  -- the status 0 says that all of the feeds was recorded, and that each watcher wrote all that it had to
-  pub whole : status ≡ 0 → (r : Report) × (report ≡ Some r) × RecordsAllBeside request.options r sealed reports
+  -- that all was done says that all of the feeds was recorded, and that each watcher wrote all that it had to
+  pub whole : status ≡ statuses.Done → (r : Report) × (report ≡ Some r) × RecordsAllBeside request.options r sealed reports

@@ -6,14 +6,16 @@ use Rattle.mcap_io.specs.declared.outside.ObjectKind.TheVariants as kinds
 use Rattle.mcap_model.specs.Places.{Each}
 use Rattle.recorder.specs.declared.report.Report.{Report}
 use Rattle.command_base.specs.Ran.{AreOpened, has_failed, failed_names, blamed_names, Complains}
+use Rattle.output_base.specs.Outputs.{inputs_and_output, failed_of, some_failed}
 use Rattle.record_command.specs.declared.watched_names.WatchedOutcome.{WatchedOutcome}
-use Rattle.record_command.specs.Record.{feeds_and_output, failed_feeds, any_failed, SparesOutput}
+use Rattle.record_command.specs.Record.{SparesOutput}
 use Rattle.record_command.specs.Watched.{Requested, reported_with, wanted_names, LeavesBeside, CountsBeside, watch_flags, ReportedBeside, UnreportedBeside, Named, is_flaw}
 use Rattle.watching.specs.declared.report.WatchReport.{WatchReport}
+use Rattle.command_base.specs.declared.statuses.Status.{Status}
 use Rattle.command_base.specs.Texts.{Trouble}
 use Rattle.record_command.specs.declared.watched_answer.WatchedCounts.{WatchedCounts}
 use Rattle.record_command.specs.declared.watched_answer.WatchedFailures.{WatchedFailures}
-use Rattle.record_command.specs.Answer.{feed_flags, PartFailed}
+use Rattle.output_base.specs.OutputSteps.{flags_of, PartFailed}
 use Rattle.record_command.specs.WatchedAnswer.{AnyCountRose, watch_troubles, lacks_beside, Blamed, CausesBeside, watched_troubles}
 
 -- ---- which watchers failed
@@ -53,11 +55,11 @@ pub record NamesWatched (request : Requested) (old new : WorldState) (outcome : 
   pub feeds_failed : outcome.feeds_failed.items ≡ map has_failed inputs
   pub out_failed : outcome.out_failed ≡ list_any has_failed outputs
   pub watches_failed : outcome.watches_failed.items ≡ watch_flags sinks outcome.watches.items
-  pub failed : failed_names (inputs ++ outputs) ≡ blamed_names (feeds_and_output request.names.out request.names.feeds) (failed_feeds outcome.feeds_failed.items outcome.out_failed)
+  pub failed : failed_names (inputs ++ outputs) ≡ blamed_names (inputs_and_output kinds.Source request.names.feeds request.names.out) (failed_of outcome.feeds_failed.items outcome.out_failed)
   -- a watch file is blamed only with a cause, and one is where its count rose
-  pub watch_cause : any_failed outcome.watches_failed.items ≡ true
+  pub watch_cause : some_failed outcome.watches_failed.items ≡ true
       → Rose old.faults new.faults ⊎ (Rose old.output_faults new.output_faults ⊎ Rose old.watch_faults new.watch_faults)
-  pub watch_told : old.watch_faults < 2 ^ 64 - 1 → Rose old.watch_faults new.watch_faults → any_failed outcome.watches_failed.items ≡ true
+  pub watch_told : old.watch_faults < 2 ^ 64 - 1 → Rose old.watch_faults new.watch_faults → some_failed outcome.watches_failed.items ≡ true
 
 -- ---- the answer
 
@@ -75,24 +77,24 @@ abbrev pub watch_flags_of : List (List ℕ) → WatchedFailures → List Bool
 watch_flags_of watches failed = if failed.every_watch then map (λ (name : List ℕ). true) watches else failed.watches.now
 
 abbrev pub blamed_in : List (List ℕ) → List (List ℕ) → WatchedFailures → Blamed
-blamed_in watches feeds failed = record { feeds = feed_flags feeds failed.parts; out = failed.parts.out; watches = watch_flags_of watches failed }
+blamed_in watches feeds failed = record { feeds = flags_of feeds failed.parts; out = failed.parts.out; watches = watch_flags_of watches failed }
 
 -- some part failed
 abbrev pub AnyPartFailed : WatchedFailures → Type 0
-AnyPartFailed failed = PartFailed failed.parts ⊎ ((failed.every_watch ≡ true) ⊎ (any_failed failed.watches.now ≡ true))
+AnyPartFailed failed = PartFailed failed.parts ⊎ ((failed.every_watch ≡ true) ⊎ (some_failed failed.watches.now ≡ true))
 
 -- what a recording told of failures and what the counts tell: which parts failed
 pub record WatchedPartsShow (before now : WatchedCounts) (watches feeds : List (List ℕ)) (outcome : WatchedOutcome) (failed : WatchedFailures) : Type 0 where
   pub causes : CausesBeside before now (blamed_in watches feeds failed)
   pub printing : (failed.parts.printing ≡ true) ↔ Rose before.seen.printing now.seen.printing
   pub any : AnyCountRose before now → AnyPartFailed failed
-  pub feeds_told : failed.parts.feeds.now ≡ outcome.feeds_failed.items
+  pub feeds_told : failed.parts.inputs.now ≡ outcome.feeds_failed.items
   pub watches_told : failed.watches.now ≡ outcome.watches_failed.items
   -- nothing else is blamed where each count that rose shows in what the recording told
-  pub feeds_are : (Rose before.seen.inputs now.seen.inputs → any_failed outcome.feeds_failed.items ≡ true) → feed_flags feeds failed.parts ≡ outcome.feeds_failed.items
-  pub watches_are : (Rose before.watches now.watches → any_failed outcome.watches_failed.items ≡ true) → watch_flags_of watches failed ≡ outcome.watches_failed.items
+  pub feeds_are : (Rose before.seen.inputs now.seen.inputs → some_failed outcome.feeds_failed.items ≡ true) → flags_of feeds failed.parts ≡ outcome.feeds_failed.items
+  pub watches_are : (Rose before.watches now.watches → some_failed outcome.watches_failed.items ≡ true) → watch_flags_of watches failed ≡ outcome.watches_failed.items
   pub out_is : (Rose before.seen.outputs now.seen.outputs → outcome.out_failed ≡ true)
-      → (Rose before.seen.world now.seen.world → (any_failed outcome.feeds_failed.items ≡ true) ⊎ ((outcome.out_failed ≡ true) ⊎ (any_failed outcome.watches_failed.items ≡ true)))
+      → (Rose before.seen.world now.seen.world → (some_failed outcome.feeds_failed.items ≡ true) ⊎ ((outcome.out_failed ≡ true) ⊎ (some_failed outcome.watches_failed.items ≡ true)))
       → failed.parts.out ≡ outcome.out_failed
 
 -- memory lacked exactly where the reports name that, or where there are none though no part failed
@@ -101,7 +103,7 @@ LacksMemoryBeside None sealed reports failed lacked = (AnyPartFailed failed → 
 LacksMemoryBeside (Some r) sealed reports failed lacked = lacked ≡ lacks_beside r sealed reports
 
 -- what standard error is told of a recording with watchers, and the status
-pub record AnswersBeside (names : Named) (outcome : WatchedOutcome) (failed : WatchedFailures) (before now : SinkState) (status : ℕ) : Type 0 where
+pub record AnswersBeside (names : Named) (outcome : WatchedOutcome) (failed : WatchedFailures) (before now : SinkState) (status : Status) : Type 0 where
   pub lacked : Bool
   pub lacks : LacksMemoryBeside outcome.report outcome.sealed outcome.watches.items failed lacked
   pub told : Complains (watched_troubles names outcome.report outcome.watches.items lacked (blamed_in names.watches names.feeds failed) failed.parts.printing) before now status

@@ -8,7 +8,7 @@ mod sinks;
 mod watched_answer;
 mod watched_names;
 
-pub use answering::{Failures, Outcome, answer, failed_parts};
+pub use answering::{Outcome, Telling};
 pub use print::print_report;
 pub use recording::{Ended, record_file};
 pub use watched_answer::{

@@ -6,27 +6,24 @@ ghost use Rattle.mcap_wire.specs.Limits.{chunk_size_limit};
 ghost use Rattle.mcap_wire.specs.RecordingLimits.{buffer_limit};
 ghost use Rattle.mcap_model.specs.Places.{Each};
 ghost use Rattle.feed_lane.specs.Steps.{ListsMessages};
-ghost use Rattle.command_base.specs.Printing.{Takes};
 ghost use Rattle.command_base.specs.Scenes.{scene};
 ghost use Rattle.record_command.specs.Sources.{FeedsOpened, FeedRefused, SourceKept, FeedsKept, feed_flags_with};
-ghost use Rattle.record_command.specs.Record.{report_text, Records};
+ghost use Rattle.record_command.specs.Record.{Records};
 ghost use Rattle.record_command.specs.RecordSteps.{AreAllowed, AreFew, NamesRecorded};
 
-use crate::answering::{Outcome, answer, failed_parts};
-use crate::print::print_report;
-use command_base::{Counts, has_failed};
-use mcap_io::{LiveStore, OpenRefused, Sink, Source, World};
+use crate::answering::{Outcome, Telling};
+use command_base::{Counts, Status, has_failed};
+use mcap_io::{LiveStore, OutsideRefused, Sink, Source, World};
 use mcap_wire::{Memory, Text};
+use output_base::{FailedNames, answer_writing};
 use recorder::{RecordOptions, Recording, Report, record};
 use std::alloc::Global;
 use std::sync::Wait;
 use std::thread::Threads;
 
-/// How a command ended: its status, and the report of a recording. The status is 0 where all was done, and of a recovery also where
-/// its reading stopped early; 1 where a feed or the file breaks a rule, is compressed or isn't indexed, 2 for bad words, 3 where the
-/// outside failed, 4 where a limit would be passed and 5 where memory lacked.
+/// How a recording ended: its status, and the report.
 pub struct Ended {
-    pub status: u8,
+    pub status: Status,
     pub report: Option<Report>,
 }
 
@@ -61,13 +58,13 @@ fn unrecorded(feeds_failed: Vec<bool>, out_failed: bool) -> Outcome
 }
 
 /// Whether an opening was refused since the outside failed.
-pub(crate) fn is_failed(why: OpenRefused) -> bool
-    ensures failed { result ≡ true → why ≡ OpenRefused.Failed }
-    ensures memory { result ≡ false → why ≡ OpenRefused.Memory }
+pub(crate) fn is_failed(why: OutsideRefused) -> bool
+    ensures failed { result ≡ true → why ≡ OutsideRefused.Failed }
+    ensures memory { result ≡ false → why ≡ OutsideRefused.Memory }
 {
     match why {
-        OpenRefused::Failed => true,
-        OpenRefused::Memory => false,
+        OutsideRefused::Failed => true,
+        OutsideRefused::Memory => false,
     }
 }
 
@@ -76,7 +73,7 @@ pub(crate) fn open_feeds<W: World>(
     world: &mut W,
     feeds: &[Text],
     sources: &mut Vec<W::Source>,
-) -> Result<(), OpenRefused>
+) -> Result<(), OutsideRefused>
     requires none { sources.old.items ≡ [] }
     requires room { length feeds.now ≤ vec_capacity sources.old }
     ensures all { OnOk result (FeedsOpened (W.state world.old) (W.state world.new) feeds.now (map W.Source.state sources.new.items)) }
@@ -226,23 +223,9 @@ fn record_names<R: Threads + Wait + Sync, W: World>(
     }
 }
 
-// Prints the report, if there is one.
-pub(crate) fn print_outcome<O: Sink>(out: &mut O, report: &Option<Report>)
-    ensures { Takes (O.state out.old) (O.state out.new) (report_text report.now) }
-{
-    match report {
-        Some(report) => match print_report(out, report) {
-            Ok(()) => {}
-            Err(_) => {}
-        },
-        None => {}
-    }
-}
-
 /// Records the feeds under their names into the file under another, prints the report on `out`, and answers how that ended:
-/// 0 where all was recorded, 1 where a feed breaks a rule or is compressed, 3 where the outside failed, 4 where a limit
-/// would be passed, and 5 where memory lacked. With 0 a message may have been refused for a full buffer, unless the options
-/// let feeds wait for room. Where messages aren't to be listed the report only counts them, and takes no memory for them.
+/// refused where a feed breaks a rule or is compressed. Where all was done a message may have been refused for a full buffer,
+/// unless the options let feeds wait for room. Where messages aren't to be listed the report only counts them, and takes no memory for them.
 pub fn record_file<R: AllocGlobal + Threads + Wait + Sync, W: World, O: Sink, E: Sink>(
     rt: &R,
     options: &RecordOptions,
@@ -263,10 +246,16 @@ pub fn record_file<R: AllocGlobal + Threads + Wait + Sync, W: World, O: Sink, E:
 {
     let before = Counts::of(world, out);
     let outcome = record_names(rt, rt.alloc(), options, out_name, feed_names, world, listed);
-    print_outcome(out, &outcome.report);
-    let now = Counts::of(world, out);
-    let failed = failed_parts(&before, &now, &outcome);
-    let status = answer(err, out_name, feed_names, &outcome.report, failed);
+    let telling = Telling {
+        report: &outcome.report,
+    };
+    let failed = FailedNames {
+        inputs: outcome.feeds_failed.as_slice(),
+        out: outcome.out_failed,
+    };
+    let status = answer_writing(
+        &telling, feed_names, out_name, &before, failed, world, out, err,
+    );
     Ended {
         status,
         report: outcome.report,

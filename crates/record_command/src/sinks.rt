@@ -3,7 +3,7 @@ ghost use Rattle.std.specs.Prelude.{◌≡◌, ◌≤◌, ◌<◌, [], length, m
 ghost use Rattle.record_command.specs.SinkSteps.{SinksOpened, SinkRefused, OneSinkKept, SinksKept, ViewsLetGo};
 
 use command_base::has_failed;
-use mcap_io::{LiveStore, OpenRefused, Sink, World};
+use mcap_io::{LiveStore, OutsideRefused, Sink, World};
 use mcap_wire::Text;
 
 /// Opens a sink under each name, in their order, up to one that is refused.
@@ -11,7 +11,7 @@ pub(crate) fn open_sinks<W: World>(
     world: &mut W,
     names: &[Text],
     sinks: &mut Vec<W::Sink>,
-) -> Result<(), OpenRefused>
+) -> Result<(), OutsideRefused>
     requires none { sinks.old.items ≡ [] }
     requires room { length names.now ≤ vec_capacity sinks.old }
     ensures all { OnOk result (SinksOpened (W.state world.old) (W.state world.new) names.now (map W.Sink.state sinks.new.items)) }

@@ -9,25 +9,28 @@ ghost use Rattle.command_words.specs.Commands.{NamesDiffer, feed_limit, watcher_
 ghost use Rattle.command_base.specs.ComplaintTroubles.{trouble_of, complained};
 ghost use Rattle.command_base.specs.Ran.{first_failed, told_of};
 ghost use Rattle.command_base.specs.Scenes.{scene};
-ghost use Rattle.record_command.specs.Record.{any_failed, report_text};
+ghost use Rattle.record_command.specs.Record.{report_text};
 ghost use Rattle.record_command.specs.RecordSteps.{AreAllowed, AreFew};
-ghost use Rattle.record_command.specs.Answer.{feed_flags, PartFailed};
+ghost use Rattle.output_base.specs.Outputs.{some_failed};
+ghost use Rattle.output_base.specs.OutputSteps.{flags_of, PartFailed};
 ghost use Rattle.record_command.specs.Watched.{named, requested};
 ghost use Rattle.record_command.specs.WatchedAnswer.{watched_counts, watch_troubles, flaws_of, is_memory_watch, lacks_beside, RecordsWatched};
 ghost use Rattle.record_command.specs.WatchedSteps.{first_flaw, watch_flags_of, AnyPartFailed, WatchedPartsShow, LacksMemoryBeside, AnswersBeside};
 
-use crate::answering::{
-    Failures, MOST_COMPLAINTS, any_holds, feed_complaints, feed_reports, has_failed, has_limit,
-    has_some, holds_alone, names_memory,
-};
-use crate::recording::{Ended, print_outcome};
+use crate::answering::{Telling, print_outcome};
+use crate::recording::Ended;
 use crate::watched_names::{WatchedOutcome, record_watched_names};
 use arrayvec::ArrayVec;
-use command_base::{Complaint, Counts, complain_of, due_when, rose};
+use command_base::{Complaint, Counts, Status, complain_of, due_when, rose};
 use mcap_io::{Sink, World};
 use mcap_model::Range;
 use mcap_wire::Text;
+use output_base::{
+    FailedParts, MOST_COMPLAINTS, any_holds, has_some, holds_alone, input_complaints,
+    is_part_failed,
+};
 use recorder::{RecordOptions, Report};
+use report_findings::{has_limit, names_memory};
 use std::sync::Wait;
 use std::thread::Threads;
 use watching::{WatchEnd, WatchReport};
@@ -59,7 +62,7 @@ impl WatchedCounts {
 /// them.
 #[derive(Clone, Copy)]
 pub struct WatchedFailures<'a> {
-    pub parts: Failures<'a>,
+    pub parts: FailedParts<'a>,
     pub watches: &'a [bool],
     pub every_watch: bool,
 }
@@ -71,9 +74,9 @@ pub fn failed_watched_parts<'a>(
     now: &WatchedCounts,
     outcome: &'a WatchedOutcome,
 ) -> WatchedFailures<'a>
-    requires feed_cause { any_failed outcome.now.feeds_failed.items ≡ true → Rose before.now.seen.world now.now.seen.world ⊎ Rose before.now.seen.inputs now.now.seen.inputs }
+    requires feed_cause { some_failed outcome.now.feeds_failed.items ≡ true → Rose before.now.seen.world now.now.seen.world ⊎ Rose before.now.seen.inputs now.now.seen.inputs }
     requires out_cause { outcome.now.out_failed ≡ true → Rose before.now.seen.world now.now.seen.world ⊎ Rose before.now.seen.outputs now.now.seen.outputs }
-    requires watch_cause { any_failed outcome.now.watches_failed.items ≡ true → Rose before.now.seen.world now.now.seen.world ⊎ (Rose before.now.seen.outputs now.now.seen.outputs ⊎ Rose before.now.watches now.now.watches) }
+    requires watch_cause { some_failed outcome.now.watches_failed.items ≡ true → Rose before.now.seen.world now.now.seen.world ⊎ (Rose before.now.seen.outputs now.now.seen.outputs ⊎ Rose before.now.watches now.now.watches) }
     ensures { (watches feeds : List (List ℕ)) → 1 ≤ length watches → 1 ≤ length feeds → WatchedPartsShow before.now now.now watches feeds outcome.now result }
 {
     let world = rose(before.seen.world, now.seen.world);
@@ -83,9 +86,9 @@ pub fn failed_watched_parts<'a>(
     let some_feed = has_some(outcome.feeds_failed.as_slice());
     let some_watch = has_some(outcome.watches_failed.as_slice());
     let told = either_holds(some_feed, some_watch);
-    let parts = Failures {
-        feeds: outcome.feeds_failed.as_slice(),
-        every_feed: holds_alone(inputs, some_feed),
+    let parts = FailedParts {
+        inputs: outcome.feeds_failed.as_slice(),
+        every_input: holds_alone(inputs, some_feed),
         out: any_holds(outcome.out_failed, outputs, holds_alone(world, told)),
         printing: rose(before.seen.printing, now.seen.printing),
     };
@@ -189,7 +192,7 @@ fn reports_lack(report: &Report, sealed: bool, watches: &[WatchReport]) -> bool
 fn has_any_failed(failed: WatchedFailures<'_>) -> bool
     ensures { IsTrue result ↔ AnyPartFailed failed.entry }
 {
-    has_failed(failed.parts) || failed.every_watch || has_some(failed.watches)
+    is_part_failed(failed.parts) || failed.every_watch || has_some(failed.watches)
 }
 
 // Whether memory lacked: the reports name it, or there are none though nothing failed.
@@ -212,13 +215,16 @@ pub fn answer_watched<'a, E: Sink>(
     feeds: &'a [Text],
     outcome: &'a WatchedOutcome,
     failed: WatchedFailures<'_>,
-) -> u8
+) -> Status
     requires few { length feeds.now ≤ feed_limit }
     requires watched { length watches.now ≤ watcher_limit }
     ensures { AnswersBeside (named out.now watches.now feeds.now) outcome.now failed.entry (E.state err.old) (E.state err.new) result }
 {
     let lacked = lacks_memory_beside(outcome, failed);
-    let mut complaints = feed_complaints(feeds, feed_reports(&outcome.report), failed.parts);
+    let telling = Telling {
+        report: &outcome.report,
+    };
+    let mut complaints = input_complaints(&telling, feeds, failed.parts);
     complaints.push(due_when(failed.parts.out, Complaint::Fault { name: out }));
     complaints.push(due_when(
         has_limit(&outcome.report),
@@ -231,11 +237,10 @@ pub fn answer_watched<'a, E: Sink>(
 }
 
 /// Records the feeds under their names into the file under another, while watchers write what they replay of it, of the messages
-/// in the range, to the files under the watch names; prints the report on `out`, and answers how that ended: 0 where all was
-/// recorded and each watcher wrote all that it had to, 1 where a feed breaks a rule or is compressed, or a watcher reads what
-/// breaks one, 3 where the outside failed, 4 where a limit would be passed, and 5 where memory lacked. With 0 a message may have
-/// been refused for a full buffer, unless the options let feeds wait for room. Where messages aren't to be listed the report only
-/// counts them, and takes no memory for them.
+/// in the range, to the files under the watch names; prints the report on `out`, and answers how that ended: done where all was
+/// recorded and each watcher wrote all that it had to, and refused also where a watcher reads what breaks a rule. Where all was
+/// done a message may have been refused for a full buffer, unless the options let feeds wait for room. Where messages aren't to be
+/// listed the report only counts them, and takes no memory for them.
 pub fn record_watched_file<R: AllocGlobal + Threads + Wait + Sync, W: World, O: Sink, E: Sink>(
     rt: &R,
     options: &RecordOptions,

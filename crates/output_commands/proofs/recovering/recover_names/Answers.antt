@@ -4,7 +4,7 @@ use Rattle.mcap_io.specs.OutsideCalls.{went_well}
 use Rattle.command_base.specs.Ran.{failed_so}
 use Rattle.output_commands.specs.declared.recovering.Recovery.{Recovery}
 use Rattle.output_commands.specs.Recover.{recovery_of}
-use Rattle.output_commands.specs.OneOutputSteps.{unopened_recovery, NamesRecovered}
+use Rattle.output_commands.specs.RecoverSteps.{unopened_recovery, NamesRecovered}
 use Rattle.output_commands.proofs.Names.{no_input, alone}
 use Rattle.output_commands.proofs.Recoveries.{none_recovered, alone_recovered, both_recovered}
 use Rattle.output_commands.proofs.recovering.recover_names.Goals as goal
