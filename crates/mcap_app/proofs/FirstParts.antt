@@ -46,8 +46,11 @@ use Rattle.recorder.proofs.Validity.{can_be_written, files_sound}
 use Rattle.mcap_recover.specs.declared.answers.Why.{Why}
 use Rattle.mcap_recover.specs.declared.answers.Why.TheVariants as whys
 use Rattle.mcap_model.specs.declared.refusals.ReadingRefused.TheVariants as scans
+use Rattle.mcap_model.specs.declared.rules.Rule.TheVariants as rules
 use Rattle.mcap_recover.specs.declared.answers.RecoverRefused.TheVariants as refusals
 use Rattle.mcap_recover.specs.Recovering.{recovered_options, TellsHalt}
+use Rattle.command_base.specs.declared.statuses.Status.{Status}
+use Rattle.command_base.specs.declared.statuses.Status.TheVariants as statuses
 use Rattle.command_base.specs.Ran.{Scene, counts_in, AnyRose}
 use Rattle.output_commands.specs.declared.recovering.Recovery.{Recovery}
 use Rattle.output_commands.specs.declared.recovering.Recovery.TheVariants as recoveries
@@ -133,12 +136,12 @@ ended at whys.Grammar halt n (rule, is, other) same = absurd (subst (λ (h : Hal
 ended at whys.Compressed halt n (name, is) same = let apart : compressed at name ≡ at_end n = subst (λ (h : Halt). SameHalt h (at_end n)) is same in absurd cc
 ended at whys.Limit halt n is same = let apart : beyond at ≡ at_end n = subst (λ (h : Halt). SameHalt h (at_end n)) is same in absurd cc
 
-cut_short : (at : ℕ) (why : Why) (halt : Halt) (n : ℕ) → TellsHalt at why halt → SameHalt halt (grammar n 4) → (at ≡ n) × (why ≡ whys.Short)
-cut_short at whys.Complete halt n is same = absurd (subst (λ (h : Halt). SameHalt h (grammar n 4)) is same)
-cut_short at whys.Short halt n is same = let both : SameHalt (grammar at 4) (grammar n 4) = subst (λ (h : Halt). SameHalt h (grammar n 4)) is same in (both.0, refl)
-cut_short at whys.Grammar halt n (rule, is, other) same = let both : SameHalt (grammar at rule) (grammar n 4) = subst (λ (h : Halt). SameHalt h (grammar n 4)) is same in absurd (other (both.1.1 refl))
-cut_short at whys.Compressed halt n (name, is) same = absurd (subst (λ (h : Halt). SameHalt h (grammar n 4)) is same)
-cut_short at whys.Limit halt n is same = absurd (subst (λ (h : Halt). SameHalt h (grammar n 4)) is same)
+cut_short : (at : ℕ) (why : Why) (halt : Halt) (n : ℕ) → TellsHalt at why halt → SameHalt halt (grammar n rules.V4) → (at ≡ n) × (why ≡ whys.Short)
+cut_short at whys.Complete halt n is same = absurd (subst (λ (h : Halt). SameHalt h (grammar n rules.V4)) is same)
+cut_short at whys.Short halt n is same = let both : SameHalt (grammar at rules.V4) (grammar n rules.V4) = subst (λ (h : Halt). SameHalt h (grammar n rules.V4)) is same in (both.0, refl)
+cut_short at whys.Grammar halt n (rule, is, other) same = let both : SameHalt (grammar at rule) (grammar n rules.V4) = subst (λ (h : Halt). SameHalt h (grammar n rules.V4)) is same in absurd (other (both.1.1 refl))
+cut_short at whys.Compressed halt n (name, is) same = absurd (subst (λ (h : Halt). SameHalt h (grammar n rules.V4)) is same)
+cut_short at whys.Limit halt n is same = absurd (subst (λ (h : Halt). SameHalt h (grammar n rules.V4)) is same)
 
 -- ---- a limit of writing
 
@@ -174,9 +177,9 @@ module _ (options : FileOptions) (history : List Rec) (part : List ℕ) (recorde
   abbrev blocks : ℕ
   blocks = length (blocks_in (pieces_of (Some chunk) keeps.front.first))
 
-  recovers_first : (status : ℕ) → RecoversFile chunk input output later last status → status ≡ 0 → RecoversFirst options history chunk part output later last
-  recovers_first status it zero_is =
-      let all = made chunk input output later last told status it here zero_is in
+  recovers_first : (status : Status) → RecoversFile chunk input output later last status → status ≡ statuses.Done → RecoversFirst options history chunk part output later last
+  recovers_first status it done =
+      let all = made chunk input output later last told (subst (RecoversFile chunk input output later last) done it) here in
       let r = all.recovered in
       let same_part : all.bytes ≡ part = same_Some all.bytes part (sym all.there ∙ there) in
       let holds : HoldsRecovered chunk part r true (told.names output) (all.now.names output) = subst (λ (l : List ℕ). HoldsRecovered chunk l r true (told.names output) (all.now.names output)) same_part all.holds in
@@ -201,7 +204,7 @@ module _ (options : FileOptions) (history : List Rec) (part : List ℕ) (recorde
       let all_read : keeps.front.others ≡ [] → (r.at ≡ behind) × (r.why ≡ whys.Complete) = λ none.
       ended r.at r.why holds.halt behind holds.told (readings_halt_once part holds.tops keeps.front.whole holds.halt (at_end behind) holds.halts (keeps.front.complete none)).1 in
       let cut : (keeps.front.others ≡ [] → ⊥) → (r.at ≡ behind) × (r.why ≡ whys.Short) = λ some.
-      cut_short r.at r.why holds.halt behind holds.told (readings_halt_once part holds.tops keeps.front.whole holds.halt (grammar behind 4) holds.halts (keeps.front.short some)).1 in
+      cut_short r.at r.why holds.halt behind holds.told (readings_halt_once part holds.tops keeps.front.whole holds.halt (grammar behind rules.V4) holds.halts (keeps.front.short some)).1 in
       record {
         keeps = keeps;
         told = all.now;
@@ -224,7 +227,7 @@ module _ (options : FileOptions) (history : List Rec) (part : List ℕ) (recorde
       at_either [] is none some = none is
       at_either (t ∷ ts) is none some = some (λ e. let apart : t ∷ ts ≡ [] = sym is ∙ e in absurd cc)
 
-  passes : (blocks bytes status : ℕ) (it : RecoversFile chunk input output later last status) → it.recovery ≡ recoveries.Refused (refusals.Stopped (stops.Limit blocks bytes)) → PassesWritingLimit options history chunk part
+  passes : (blocks bytes : ℕ) (status : Status) (it : RecoversFile chunk input output later last status) → it.recovery ≡ recoveries.Refused (refusals.Stopped (stops.Limit blocks bytes)) → PassesWritingLimit options history chunk part
   passes blocks bytes status it is =
       let all = reached chunk input output later.world last.world it.entries it.recovery (Err (refusals.Stopped (stops.Limit blocks bytes))) it.comes is (λ e. absurd cc) in
       let unwritten = all.recovers in
@@ -233,10 +236,10 @@ module _ (options : FileOptions) (history : List Rec) (part : List ℕ) (recorde
       subst (λ (l : List Top). StopsAt new_options l keeps.front.first all.live.held all.stored.held (stops.Limit blocks bytes) unwritten.written) keeps.none stop in
       (keeps, limit_passed new_options keeps.front.first all.live.held all.stored.held blocks bytes unwritten.written stopped)
 
-  abbrev Comes : ℕ → Type 0
-  Comes status = ((status ≡ 0) × RecoversFirst options history chunk part output later last) ⊎ (((status ≡ 4) × PassesWritingLimit options history chunk part) ⊎ (status ≡ 5))
+  abbrev Comes : Status → Type 0
+  Comes status = ((status ≡ statuses.Done) × RecoversFirst options history chunk part output later last) ⊎ (((status ≡ statuses.Limit) × PassesWritingLimit options history chunk part) ⊎ (status ≡ statuses.Memory))
 
-  comes : (status : ℕ) (it : RecoversFile chunk input output later last status) (recovery : Recovery) → it.recovery ≡ recovery → V1 part → RecoveryDecides part recovery status → Comes status
+  comes : (status : Status) (it : RecoversFile chunk input output later last status) (recovery : Recovery) → it.recovery ≡ recovery → V1 part → RecoveryDecides part recovery status → Comes status
   comes status it recoveries.Unopened is begins decided = absurd decided
   comes status it (recoveries.Made r) is begins decided = inl (decided.1, recovers_first status it decided.1)
   comes status it (recoveries.Refused refusals.NoMagic) is begins decided = absurd (decided.0 begins)
@@ -255,7 +258,7 @@ begins_so : (profile more : List ℕ) → V1 (front_bytes profile ++ more)
 unfolding front_bytes
 begins_so profile more = (framed 1 (header_text (record { profile = profile; library = library })) ++ more, append_assoc magic (framed 1 (header_text (record { profile = profile; library = library }))) more)
 
-pub first_left : (options : RecordOptions) (out : List ℕ) (old new : WorldState) (r : Report) (status : ℕ) (told now : Told) → (it : Recording options out old new r status) → old.told ≡ Some told → new.told ≡ Some now
+pub first_left : (options : RecordOptions) (out : List ℕ) (old new : WorldState) (r : Report) (status : Status) (told now : Told) → (it : Recording options out old new r status) → old.told ≡ Some told → new.told ≡ Some now
     → it.live_kept ≡ true → (it.recorded.history ≡ [] → ⊥)
     → ((part : List ℕ) × (now.names out ≡ Some part) × IsFirstPart options.file it.recorded.history part) × (r.writer.end ≡ ends.Closed → FitsWritingLimits options.file it.recorded.history)
 first_left options out old new r status told now it here tells well some =
@@ -276,9 +279,9 @@ first_left options out old new r status told now it here tells well some =
 pub first_recovered : FrontsAreRepaired → (options : RecordOptions) (before after : Sides) (r : Report) → AreAllowed options → IsUtf8 options.file.profile
     → (recorded : Recorded options before after r) → FitsWritingLimits options.file recorded.history
     → (part : List ℕ) → IsFirstPart options.file recorded.history part
-    → (chunk : ℕ) (input output : List ℕ) (later last : Scene) (status : ℕ) (told : Told) → IsChunkSize chunk → later.world.told ≡ Some told → told.names input ≡ Some part
+    → (chunk : ℕ) (input output : List ℕ) (later last : Scene) (status : Status) (told : Told) → IsChunkSize chunk → later.world.told ≡ Some told → told.names input ≡ Some part
     → RecoversFile chunk input output later last status → (AnyRose (counts_in later) (counts_in last) → ⊥)
-    → ((status ≡ 0) × RecoversFirst options.file recorded.history chunk part output later last) ⊎ (((status ≡ 4) × PassesWritingLimit options.file recorded.history chunk part) ⊎ (status ≡ 5))
+    → ((status ≡ statuses.Done) × RecoversFirst options.file recorded.history chunk part output later last) ⊎ (((status ≡ statuses.Limit) × PassesWritingLimit options.file recorded.history chunk part) ⊎ (status ≡ statuses.Memory))
 first_recovered fronts_are_repaired options before after r allowed text recorded within part first chunk input output later last status told size here there recovers quiet =
     let history = recorded.history in
     let are : AreRecorded history = record { numbered = recorded.assembled.numbered; kept = recorded.kept } in

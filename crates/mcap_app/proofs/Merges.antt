@@ -38,13 +38,13 @@ use Rattle.mcap_merge.specs.declared.answers.Merged.{Merged}
 use Rattle.mcap_merge.specs.declared.answers.MergeRefused.{MergeRefused}
 use Rattle.mcap_merge.specs.declared.answers.MergeRefused.TheVariants as merges
 use Rattle.mcap_merge.specs.Filed.{merged_options}
+use Rattle.command_base.specs.declared.statuses.Status.TheVariants as statuses
 use Rattle.command_base.specs.Printing.{TellsAll}
 use Rattle.command_base.specs.Ran.{Scene, kept, has_failed, named_when, failed_names}
 use Rattle.output_commands.specs.declared.merging.Merging.{Merging}
 use Rattle.output_commands.specs.declared.merging.Merging.TheVariants as mergings
-use Rattle.output_commands.specs.SomeInputs.{input_entry}
-use Rattle.output_commands.specs.SomeOutput.{was_written}
-use Rattle.output_commands.specs.Merge.{HoldsBytes, HoldsMerged, Reached, unopened_so, some_refused, merging_of, IsMerging, merged_line, ending_of_merging, MergesFiles}
+use Rattle.output_commands.specs.Merge.{HoldsBytes, HoldsMerged, store_entry, Reached, unopened_so, some_refused, merging_of, IsMerging, merged_line, MergesFiles}
+use Rattle.output_commands.proofs.Merges.{was_merged}
 use Rattle.mcap_app.specs.Laws.{IsChunkSize, MergesAreSound}
 
 -- ---- the inputs are good lists
@@ -148,24 +148,6 @@ reached : (chunk : ℕ) (inputs : List (List ℕ)) (out : List ℕ) (old new : W
 reached chunk inputs out old new entries merging m (inl (refusal, unreached)) is = absurd (unopened_made (some_refused entries) m (sym refusal.answer ∙ is))
 reached chunk inputs out old new entries merging m (inr (result, same, it)) is = subst (Reached chunk inputs out old new entries) (made_result result m (sym same ∙ is)) it
 
-same_text : (a b : List ℕ) → was_written a ≡ was_written b → a ≡ b
-same_text a b e = cc
-
-line_of : (inputs : List (List ℕ)) (merging : Merging) (text : List ℕ) → ending_of_merging inputs merging ≡ was_written text → (m : Merged) × (merging ≡ mergings.Made m) × (text ≡ merged_line (length inputs) m)
-line_of inputs mergings.Unopened text e = absurd cc
-line_of inputs (mergings.Made m) text e = (m, refl, sym (same_text (merged_line (length inputs) m) text e))
-line_of inputs (mergings.Refused (merges.Halted input (readings.Fault faults))) text e = absurd cc
-line_of inputs (mergings.Refused (merges.Halted input (readings.Grammar offset rule))) text e = absurd cc
-line_of inputs (mergings.Refused (merges.Halted input (readings.Compressed offset name))) text e = absurd cc
-line_of inputs (mergings.Refused (merges.Halted input (readings.Limit offset))) text e = absurd cc
-line_of inputs (mergings.Refused (merges.Halted input readings.Memory)) text e = absurd cc
-line_of inputs (mergings.Refused (merges.Changed input offset)) text e = absurd cc
-line_of inputs (mergings.Refused merges.TooManySchemas) text e = absurd cc
-line_of inputs (mergings.Refused merges.TooManyChannels) text e = absurd cc
-line_of inputs (mergings.Refused (merges.Stopped (stops.Fault faults))) text e = absurd cc
-line_of inputs (mergings.Refused (merges.Stopped (stops.Limit blocks bytes))) text e = absurd cc
-line_of inputs (mergings.Refused (merges.Stopped stops.Memory)) text e = absurd cc
-
 -- ---- the output was kept
 
 -- what stands behind names is none of them where there is none
@@ -211,20 +193,19 @@ pub record WasMade (chunk : ℕ) (inputs : List (List ℕ)) (out : List ℕ) (ol
   pub there : AllZip (HoldsBytes told) inputs files
   pub holds : HoldsMerged chunk files merged true (told.names out) (now.names out)
 
-made : (chunk : ℕ) (inputs : List (List ℕ)) (out : List ℕ) (old new : Scene) (told : Told) (status : ℕ) → (it : MergesFiles chunk inputs out old new status) → old.world.told ≡ Some told → status ≡ 0 → WasMade chunk inputs out old new told it.merging
-made chunk inputs out old new told status it here zero_is =
-    let (none, printed) = it.ran.whole zero_is in
-    let (text, ended, taken) = printed in
-    let (m, is, line) = line_of inputs it.merging text ended in
-    let all = reached chunk inputs out old.world new.world it.entries it.merging m it.comes is in
+made : (chunk : ℕ) (inputs : List (List ℕ)) (out : List ℕ) (old new : Scene) (told : Told) → (it : MergesFiles chunk inputs out old new statuses.Done) → old.world.told ≡ Some told → WasMade chunk inputs out old new told it.merging
+made chunk inputs out old new told it here =
+    let whole = was_merged chunk inputs out old new it in
+    let m = whole.merged in
+    let all = reached chunk inputs out old.world new.world it.entries it.merging m it.comes whole.is in
     let left = it.ran.ran.leaves told here in
     let (files, there) = files_there old.world told inputs all.given here all.tells in
     let entry : Opening = kept kinds.Live out (record { well = all.live_kept; faults = all.stored.faults; left = None; asked = 0 }) in
-    let well = well_kept out all.live_kept all.stored.faults (last_unnamed (map input_entry all.kept_inputs) entry (ap failed_names (sym all.kept_are) ∙ none)) in
+    let well = well_kept out all.live_kept all.stored.faults (last_unnamed (map store_entry all.kept_inputs) entry (ap failed_names (sym all.kept_are) ∙ whole.unfailed)) in
     record {
       merged = m;
-      is = is;
-      line = subst (λ (l : List ℕ). TellsAll old.out new.out l) line taken;
+      is = whole.is;
+      line = whole.line;
       now = left.0;
       tells = left.1;
       files = files;
@@ -234,7 +215,7 @@ made chunk inputs out old new told status it here zero_is =
 
 pub merges_are_sound : MergesAreSound
 merges_are_sound chunk inputs out old new told size it here =
-    let all = made chunk inputs out old new told 0 it here refl in
+    let all = made chunk inputs out old new told it here in
     let holds = all.holds in
     let options : FileOptions = merged_options holds.profile chunk in
     let written : length holds.extras < 2 ^ 32 → CanBeWritten options holds.extras holds.history = λ few.

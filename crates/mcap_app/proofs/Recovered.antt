@@ -18,12 +18,13 @@ use Rattle.mcap_model.specs.declared.refusals.ReadingRefused.TheVariants as scan
 use Rattle.mcap_model.specs.declared.ends.Stop.{Stop}
 use Rattle.mcap_model.specs.declared.ends.Stop.TheVariants as stops
 use Rattle.mcap_recover.specs.Recovering.{lacks, recovered_options}
+use Rattle.command_base.specs.declared.statuses.Status.TheVariants as statuses
 use Rattle.command_base.specs.Printing.{TellsAll}
 use Rattle.command_base.specs.Ran.{Scene, kept, failed_so, named_when, failed_names}
 use Rattle.output_commands.specs.declared.recovering.Recovery.{Recovery}
 use Rattle.output_commands.specs.declared.recovering.Recovery.TheVariants as recoveries
-use Rattle.output_commands.specs.OneOutput.{was_written}
-use Rattle.output_commands.specs.Recover.{HoldsRecovered, BothReached, RefusesRecovery, recovery_of, IsRecovery, recovered_line, unread_ending, stopped_ending, ending_of_recovery, RecoversFile}
+use Rattle.output_commands.specs.Recover.{HoldsRecovered, BothReached, RefusesRecovery, recovery_of, IsRecovery, recovered_line, RecoversFile}
+use Rattle.output_commands.proofs.Recoveries.{was_recovered}
 use Rattle.mcap_app.specs.Laws.{RecoveriesAreSound}
 
 -- ---- what it came to
@@ -69,28 +70,6 @@ well_kept input out source false faults none = absurd (some_last (named_when (fa
 
 -- ---- a recovery that was made
 
-same_text : (a b : List ℕ) → was_written a ≡ was_written b → a ≡ b
-same_text a b e = cc
-
-line_of : (input : List ℕ) (recovery : Recovery) (text : List ℕ) → ending_of_recovery input recovery ≡ was_written text → (r : Recovered) × (recovery ≡ recoveries.Made r) × (text ≡ recovered_line r)
-line_of input recoveries.Unopened text e = absurd cc
-line_of input (recoveries.Made r) text e = (r, refl, sym (same_text (recovered_line r) text e))
-line_of input (recoveries.Refused refusals.NoMagic) text e = absurd cc
-line_of input (recoveries.Refused (refusals.Refused why)) text e = absurd (unread why e)
-  where
-    unread : (w : ReadingRefused) → unread_ending w ≡ was_written text → ⊥
-    unread (scans.Fault faults) is = cc
-    unread (scans.Grammar offset rule) is = cc
-    unread (scans.Compressed offset name) is = cc
-    unread (scans.Limit offset) is = cc
-    unread scans.Memory is = cc
-line_of input (recoveries.Refused (refusals.Stopped stop)) text e = absurd (unwritten stop e)
-  where
-    unwritten : (s : Stop) → stopped_ending s ≡ was_written text → ⊥
-    unwritten (stops.Fault faults) is = cc
-    unwritten (stops.Limit blocks bytes) is = cc
-    unwritten stops.Memory is = cc
-
 bytes_of : (found : Option (List ℕ)) → IsSome found → (bytes : List ℕ) × (found ≡ Some bytes)
 bytes_of None some = absurd (both_ways false refl some)
 bytes_of (Some bytes) some = (bytes, refl)
@@ -106,20 +85,19 @@ pub record WasMade (chunk : ℕ) (input out : List ℕ) (old new : Scene) (told 
   pub there : told.names input ≡ Some bytes
   pub holds : HoldsRecovered chunk bytes recovered true (told.names out) (now.names out)
 
-pub made : (chunk : ℕ) (input out : List ℕ) (old new : Scene) (told : Told) (status : ℕ) → (it : RecoversFile chunk input out old new status) → old.world.told ≡ Some told → status ≡ 0 → WasMade chunk input out old new told it.recovery
-made chunk input out old new told status it here zero_is =
-    let (none, printed) = it.ran.whole zero_is in
-    let (text, ended, taken) = printed in
-    let (r, is, line) = line_of input it.recovery text ended in
-    let all = reached chunk input out old.world new.world it.entries it.recovery (Ok r) it.comes is (λ e. absurd cc) in
+pub made : (chunk : ℕ) (input out : List ℕ) (old new : Scene) (told : Told) → (it : RecoversFile chunk input out old new statuses.Done) → old.world.told ≡ Some told → WasMade chunk input out old new told it.recovery
+made chunk input out old new told it here =
+    let whole = was_recovered chunk input out old new it in
+    let r = whole.recovered in
+    let all = reached chunk input out old.world new.world it.entries it.recovery (Ok r) it.comes whole.is (λ e. absurd cc) in
     let left = it.ran.ran.leaves told here in
     let (bytes, there) = bytes_of (told.names input) (all.tells told here).1 in
     let source : Keeping = record { well = all.source_kept; faults = all.back.faults; left = all.back.left; asked = 0 } in
-    let well = well_kept input out source all.live_kept all.stored.faults (ap failed_names (sym all.kept_are) ∙ none) in
+    let well = well_kept input out source all.live_kept all.stored.faults (ap failed_names (sym all.kept_are) ∙ whole.unfailed) in
     record {
       recovered = r;
-      is = is;
-      line = subst (λ (l : List ℕ). TellsAll old.out new.out l) line taken;
+      is = whole.is;
+      line = whole.line;
       now = left.0;
       tells = left.1;
       bytes = bytes;
@@ -131,7 +109,7 @@ made chunk input out old new told status it here zero_is =
 
 pub recoveries_are_sound : RepairsCanBeWritten → RecoveriesAreSound
 recoveries_are_sound repairs_can_be_written chunk input out old new told size it here =
-    let all = made chunk input out old new told 0 it here refl in
+    let all = made chunk input out old new told it here in
     let holds = all.holds in
     let options : FileOptions = recovered_options holds.profile chunk in
     let written : all.recovered.extras < 2 ^ 32 → CanBeWritten options holds.extras holds.history = λ few.

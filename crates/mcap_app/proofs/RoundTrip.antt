@@ -17,6 +17,8 @@ use Rattle.recorder.specs.declared.report.Report.{Report}
 use Rattle.recorder.specs.Laws.{ReadsAs}
 use Rattle.recorder.specs.Recorded.{AreReadable}
 use Rattle.recorder.proofs.ReadBack.{recordings_are_read_back}
+use Rattle.command_base.specs.declared.statuses.Status.{Status}
+use Rattle.command_base.specs.declared.statuses.Status.TheVariants as statuses
 use Rattle.command_base.specs.declared.file_reading.Reading.{Reading}
 use Rattle.command_base.specs.declared.file_reading.Reading.TheVariants as readings
 use Rattle.command_base.specs.Ran.{Scene, counts_in, AnyRose}
@@ -53,10 +55,10 @@ read_of name file world told entries reading text here there is lines =
     name file world told here there (λ why e. absurd cc) (ComesTo everything)
     (λ source now came left comes e. (source, now, left, subst (ComesTo everything source now) (same_came came (Ok text) e) comes)) entries reading is lines
 
--- what a recording with the status 0 left in a world that tells: it is closed, and the file of its history stands under the
+-- what a recording in which all was done left in a world that tells: it is closed, and the file of its history stands under the
 -- output's name and is read back
 pub closed_left : (options : RecordOptions) (out : List ℕ) (old new : WorldState) (r : Report) (told : Told) → AreAllowed options → IsUtf8 options.file.profile
-    → (it : Recording options out old new r 0) → (here : old.told ≡ Some told)
+    → (it : Recording options out old new r statuses.Done) → (here : old.told ≡ Some told)
     → (r.writer.end ≡ ends.Closed) × AreReadable options.file
     × ((it.goes_on told here).0.names out ≡ Some (file_of options.file [] it.recorded.history))
     × ReadsAs (file_of options.file [] it.recorded.history) it.recorded.history
@@ -71,10 +73,10 @@ closed_left options out old new r told allowed text it here =
     )
 
 -- a printing of it in which no count rises
-pub printed_so : (options : RecordOptions) (out : List ℕ) (old new : WorldState) (later last : Scene) (r : Report) (answer : ℕ) (told : Told) → AreAllowed options → IsUtf8 options.file.profile
-    → (it : Recording options out old new r 0) → old.told ≡ Some told
+pub printed_so : (options : RecordOptions) (out : List ℕ) (old new : WorldState) (later last : Scene) (r : Report) (answer : Status) (told : Told) → AreAllowed options → IsUtf8 options.file.profile
+    → (it : Recording options out old new r statuses.Done) → old.told ≡ Some told
     → later.world ≡ new → Cats everything out later last answer → (AnyRose (counts_in later) (counts_in last) → ⊥)
-    → ((answer ≡ 0) × PrintsHistory it.recorded.history later.out last.out) ⊎ (answer ≡ 5)
+    → ((answer ≡ statuses.Done) × PrintsHistory it.recorded.history later.out last.out) ⊎ (answer ≡ statuses.Memory)
 printed_so options out old new later last r answer told allowed text it here same cats quiet =
     let history = it.recorded.history in
     let left = it.goes_on told here in
@@ -85,13 +87,13 @@ printed_so options out old new later last r answer told allowed text it here sam
     let tells : later.world.told ≡ Some left.0 = ap (λ (w : WorldState). w.told) same ∙ left.1 in
     elim (cats.decided left.0 file reads.tops (at_end reads.end) tells held reads.halts quiet) [
       | inr five ↦ inr five
-      | inl zero_is ↦
-          let (well, printed) = cats.reads.ran.whole zero_is in
+      | inl done ↦
+          let (well, printed) = cats.reads.ran.whole done in
           let (text, read, text_is) = read_is (λ (t : List ℕ). t) (refusal_ending out) (refusal_is out) cats.reads.reading printed.0 printed.1 in
           let source = read_of out file later.world left.0 cats.reads.entries cats.reads.reading text tells held cats.reads.read read in
           let lines = lines_of file history source.0 source.1 text source.2 source.3 reads in
           inl (
-            zero_is,
+            done,
             record {
               tops = reads.tops;
               flat_are = reads.flat_are;
@@ -107,4 +109,4 @@ printed_so options out old new later last r answer told allowed text it here sam
 
 pub recordings_are_printed : RecordingsArePrinted
 recordings_are_printed options out feeds old new later last r answer told allowed text it here same cats quiet =
-    printed_so options out old.world new.world later last r answer told allowed text (of_records options out feeds old new r 0 it) here same cats quiet
+    printed_so options out old.world new.world later last r answer told allowed text (of_records options out feeds old new r statuses.Done it) here same cats quiet

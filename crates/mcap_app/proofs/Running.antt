@@ -10,45 +10,33 @@ use Rattle.command_words.specs.Items.{Item, given}
 use Rattle.command_words.specs.Commands.{GivesNumber, SizesChunks, Derives, IsFileOptions, Flags, HasWatchers, MayWatch, watchers_with}
 use Rattle.command_words.specs.Defaults.{watch_name, watch_names}
 use Rattle.recorder.specs.declared.report.Report.{Report}
+use Rattle.command_base.specs.declared.statuses.Status.{Status}
+use Rattle.command_base.specs.declared.statuses.Status.TheVariants as statuses
+use Rattle.command_base.specs.Texts.{status_number}
 use Rattle.command_base.specs.Ran.{Scene}
-use Rattle.record_command.proofs.Answered.{not_two as record_not_two}
-use Rattle.record_command.proofs.WatchedAnswered.{not_two as watched_not_two}
-use Rattle.file_commands.proofs.Cats.{not_two as cat_not_two}
-use Rattle.file_commands.proofs.Followings.{indexed_not_two}
-use Rattle.output_commands.proofs.Recoveries.{recovers_not_two}
-use Rattle.output_commands.proofs.Merges.{merges_not_two}
-use Rattle.generate_command.proofs.Statuses.{generates_not_two}
 use Rattle.generate_command.specs.Allowed.{OptionsAllowed}
 use Rattle.record_command.specs.Record.{Records}
 use Rattle.record_command.specs.Watched.{requested}
 use Rattle.record_command.specs.WatchedAnswer.{RecordsWatched}
 use Rattle.recorder.specs.declared.options.RecordOptions.{RecordOptions}
-use Rattle.mcap_app.specs.Runs.{RecordsBeside, Runs, generate_options}
-use Rattle.mcap_app.specs.Ways.{IsAllowed, IsWatchable, LacksForWords}
+use Rattle.mcap_app.specs.Runs.{RecordsBeside, generate_options}
+use Rattle.mcap_app.specs.Ways.{IsAllowed, IsWatchable}
 
--- no command has the status of bad words
-pub not_two : (command : Command) (old new : Scene) (report : Option Report) (status : ℕ) → Runs command old new report status → status ≡ 2 → ⊥
-not_two (commands.Record out feeds file limit lossless range zero) old new report status runs two = record_not_two _ _ _ _ _ _ _ runs two
-not_two (commands.Record out feeds file limit lossless range (suc n)) old new report status runs two = watched_not_two _ _ _ _ _ _ _ _ _ runs two
-not_two (commands.OfFile what file) old new report status runs two = runs.1 two
-not_two (commands.Cat file true range topic) old new report status runs two = indexed_not_two _ _ _ _ _ runs.0 two
-not_two (commands.Cat file false range topic) old new report status runs two = cat_not_two _ _ _ _ _ runs.0 two
-not_two (commands.Recover input out chunk) old new report status runs two = recovers_not_two _ _ _ _ _ _ runs.0 two
-not_two (commands.Merge out inputs chunk) old new report status runs two = merges_not_two _ _ _ _ _ _ runs.0 two
-not_two (commands.Generate seed feeds messages out) old new report status runs two = generates_not_two _ _ _ _ _ _ _ runs two
-
--- nor has a want of memory
-pub ran_not_two : (command : Command) (old new : Scene) (report : Option Report) (status : ℕ) → Runs command old new report status ⊎ LacksForWords old new report status → status ≡ 2 → ⊥
-ran_not_two command old new report status (inl runs) two = not_two command old new report status runs two
-ran_not_two command old new report status (inr lacks) two = absurd (omega (arith, two, lacks.status_is))
+-- no status has the number of bad words
+pub no_bad_words : (status : Status) (number : ℕ) → number ≡ status_number status → number ≡ 2 → ⊥
+no_bad_words statuses.Done number is two = omega (arith, is, two)
+no_bad_words statuses.Refused number is two = omega (arith, is, two)
+no_bad_words statuses.Fault number is two = omega (arith, is, two)
+no_bad_words statuses.Limit number is two = omega (arith, is, two)
+no_bad_words statuses.Memory number is two = omega (arith, is, two)
 
 -- ---- a recording beside watchers, or without
 
-pub beside_none : (options : RecordOptions) (range : Range) (watchers : ℕ) (out : List ℕ) (names feeds : List (List ℕ)) (old new : Scene) (report : Option Report) (status : ℕ) → watchers ≡ 0 → Records options out feeds old new report status
+pub beside_none : (options : RecordOptions) (range : Range) (watchers : ℕ) (out : List ℕ) (names feeds : List (List ℕ)) (old new : Scene) (report : Option Report) (status : Status) → watchers ≡ 0 → Records options out feeds old new report status
     → RecordsBeside watchers (requested options range out names feeds) old new report status
 beside_none options range watchers out names feeds old new report status none records = subst (λ (n : ℕ). RecordsBeside n (requested options range out names feeds) old new report status) (sym none) records
 
-pub beside_some : (options : RecordOptions) (range : Range) (watchers : ℕ) (out : List ℕ) (names feeds : List (List ℕ)) (old new : Scene) (report : Option Report) (status : ℕ) → (watchers ≡ 0 → ⊥) → names ≡ watch_names out watchers
+pub beside_some : (options : RecordOptions) (range : Range) (watchers : ℕ) (out : List ℕ) (names feeds : List (List ℕ)) (old new : Scene) (report : Option Report) (status : Status) → (watchers ≡ 0 → ⊥) → names ≡ watch_names out watchers
     → RecordsWatched (requested options range out names feeds) old new report status → RecordsBeside watchers (requested options range out (watch_names out watchers) feeds) old new report status
 beside_some options range zero out names feeds old new report status some named records = absurd (some refl)
 beside_some options range (suc n) out names feeds old new report status some named records = subst (λ (l : List (List ℕ)). RecordsWatched (requested options range out l feeds) old new report status) named records

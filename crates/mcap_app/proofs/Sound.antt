@@ -32,11 +32,14 @@ use Rattle.recorder.specs.declared.options.RecordOptions.{RecordOptions}
 use Rattle.recorder.specs.declared.report.Report.{Report}
 use Rattle.recorder.specs.Laws.{ReadsAs, IsSoundFile}
 use Rattle.recorder.proofs.Validity.{recordings_are_valid}
-use Rattle.mcap_io.specs.declared.outside.OpenRefused.TheVariants as open_refusals
+use Rattle.mcap_io.specs.declared.outside.OutsideRefused.TheVariants as outside_refusals
 use Rattle.mcap_model.specs.declared.refusals.ReadingRefused.{ReadingRefused}
 use Rattle.mcap_model.specs.declared.refusals.ReadingRefused.TheVariants as refusals
+use Rattle.mcap_model.specs.declared.rules.Rule.TheVariants as rules
 use Rattle.file_check.specs.Checking.{IsSo, HaltsBefore, MeetsReadingLimit}
 use Rattle.file_check.proofs.RealLimits.{limits_are_real}
+use Rattle.command_base.specs.declared.statuses.Status.{Status}
+use Rattle.command_base.specs.declared.statuses.Status.TheVariants as statuses
 use Rattle.command_base.specs.declared.file_reading.Reading.{Reading}
 use Rattle.command_base.specs.declared.file_reading.Reading.TheVariants as readings
 use Rattle.file_commands.specs.Check.{verdict_status, Decides, FileChecks}
@@ -67,13 +70,13 @@ same_ends (beyond n) (names m other) same ends = ends
 same_ends (beyond n) (beyond m) same ends = ends
 
 -- bytes of which a reading halts for another reason than a missing magic have one
-long : (bytes : List ℕ) (tops : List Top) (halt : Halt) → HaltsAt reading_limits bytes tops halt → (halt ≡ breaks 0 1 → ⊥) → 8 ≤ length bytes
+long : (bytes : List ℕ) (tops : List Top) (halt : Halt) → HaltsAt reading_limits bytes tops halt → (halt ≡ breaks 0 rules.V1 → ⊥) → 8 ≤ length bytes
 long bytes tops halt (no_magic none) other = absurd (other refl)
 long bytes tops halt (at_data_end rest stand ended) other = omega (arith, ap length stand.split, length-append magic (spelled tops ++ rest))
 long bytes tops halt (behind_kept rest stand unended why there) other = omega (arith, ap length stand.split, length-append magic (spelled tops ++ rest))
 
 -- where a file is read to its Data End, a reading in front of its last magic meets no compression
-reads_on : (file : List ℕ) (tops : List Top) (end : ℕ) → Halts reading_limits file tops (at_end end) → (halt : Halt) → (halt ≡ breaks 0 1 → ⊥) → HaltsBefore file halt → EndsOrBreaks halt
+reads_on : (file : List ℕ) (tops : List Top) (end : ℕ) → Halts reading_limits file tops (at_end end) → (halt : Halt) → (halt ≡ breaks 0 rules.V1 → ⊥) → HaltsBefore file halt → EndsOrBreaks halt
 reads_on file tops end halts halt other (inner, others, is, found) =
     let (rest, stand, ended) = ends_there file tops (at_end end) end halts.there refl in
     let keeps = fronts_keep_whole file inner magic tops rest stand halts.kept.good ended is (long inner others halt found.there other) in
@@ -132,7 +135,7 @@ said_of options file (verdicts.Indexed n) exact (tops, full, counted) = λ none.
 said_of options file (verdicts.Plain n) exact (tops, valid, missing, counted) = plain_said options.chunk file exact.sound.indexed missing
 said_of options file (verdicts.Flawed rule offset) exact so = flaws_exclude_validity file rule offset so exact.sound.valid
 
-verdict_ends : (chunk : Option ℕ) (verdict : Verdict) (answer : ℕ) → IsSaid chunk verdict → answer ≡ verdict_status verdict → answer ≡ 0
+verdict_ends : (chunk : Option ℕ) (verdict : Verdict) (answer : Status) → IsSaid chunk verdict → answer ≡ verdict_status verdict → answer ≡ statuses.Done
 verdict_ends chunk (verdicts.Indexed n) answer said why = why
 verdict_ends chunk (verdicts.Plain n) answer said why = why
 verdict_ends chunk (verdicts.Flawed rule offset) answer said why = absurd said
@@ -147,10 +150,10 @@ meets_none options file offset sound meets =
     both_ways (is_beyond reading_limits offset (length past.top.content)) (ap (λ (k : ℕ). is_beyond reading_limits k (length past.top.content)) there ∙ within tops n past.top valid.v4 at) past.past
 
 -- the status where the bytes of a sound file decide it
-ends_well : (options : FileOptions) (file : List ℕ) (tops : List Top) (end : ℕ) (reading : Reading Verdict ReadingRefused) (answer : ℕ) → IsExact options file → Halts reading_limits file tops (at_end end)
-    → Decides file reading answer → (answer ≡ 0) ⊎ (answer ≡ 5)
-ends_well options file tops end (readings.Unopened open_refusals.Failed) answer exact halts is = absurd is
-ends_well options file tops end (readings.Unopened open_refusals.Memory) answer exact halts is = inr is
+ends_well : (options : FileOptions) (file : List ℕ) (tops : List Top) (end : ℕ) (reading : Reading Verdict ReadingRefused) (answer : Status) → IsExact options file → Halts reading_limits file tops (at_end end)
+    → Decides file reading answer → (answer ≡ statuses.Done) ⊎ (answer ≡ statuses.Memory)
+ends_well options file tops end (readings.Unopened outside_refusals.Failed) answer exact halts is = absurd is
+ends_well options file tops end (readings.Unopened outside_refusals.Memory) answer exact halts is = inr is
 ends_well options file tops end (readings.Opened (Ok verdict)) answer exact halts is = inl (verdict_ends options.chunk verdict answer (said_of options file verdict exact is.0) is.1)
 ends_well options file tops end (readings.Opened (Err (refusals.Fault faults))) answer exact halts is = absurd is
 ends_well options file tops end (readings.Opened (Err (refusals.Grammar n rule))) answer exact halts is = absurd is
@@ -159,23 +162,23 @@ ends_well options file tops end (readings.Opened (Err (refusals.Limit n))) answe
 ends_well options file tops end (readings.Opened (Err refusals.Memory)) answer exact halts is = inr is
 
 -- a check of such a file that is read to its Data End, in which no count rises
-pub found_sound : (options : FileOptions) (file name : List ℕ) (tops : List Top) (end : ℕ) (later last : Scene) (told : Told) (answer : ℕ) → IsExact options file → Halts reading_limits file tops (at_end end) → later.world.told ≡ Some told
-    → told.names name ≡ Some file → FileChecks name later last answer → (AnyRose (counts_in later) (counts_in last) → ⊥) → ((answer ≡ 0) × PrintsSound options.chunk later.out last.out) ⊎ (answer ≡ 5)
+pub found_sound : (options : FileOptions) (file name : List ℕ) (tops : List Top) (end : ℕ) (later last : Scene) (told : Told) (answer : Status) → IsExact options file → Halts reading_limits file tops (at_end end) → later.world.told ≡ Some told
+    → told.names name ≡ Some file → FileChecks name later last answer → (AnyRose (counts_in later) (counts_in last) → ⊥) → ((answer ≡ statuses.Done) × PrintsSound options.chunk later.out last.out) ⊎ (answer ≡ statuses.Memory)
 found_sound options file name tops end later last told answer exact halts here held checks quiet =
     let decided = checks.decided told file here held quiet in
     elim (ends_well options file tops end checks.reads.reading answer exact halts decided) [
       | inr other ↦ inr other
-      | inl zero_is ↦
-          let given = checks.whole zero_is in
+      | inl done ↦
+          let given = checks.whole done in
           let so : IsSo file given.0 = (subst (λ (r : Reading Verdict ReadingRefused). Decides file r answer) given.1 decided).0 in
-          inl (zero_is, record { verdict = given.0; said = said_of options file given.0 exact so; line = given.3 })
+          inl (done, record { verdict = given.0; said = said_of options file given.0 exact so; line = given.3 })
     ]
 
--- a check of the output of a recording with the status 0
-pub checked_so : (options : RecordOptions) (out : List ℕ) (old new : WorldState) (later last : Scene) (r : Report) (answer : ℕ) (told : Told) → AreAllowed options → IsUtf8 options.file.profile
-    → Recording options out old new r 0 → old.told ≡ Some told
+-- a check of the output of a recording in which all was done
+pub checked_so : (options : RecordOptions) (out : List ℕ) (old new : WorldState) (later last : Scene) (r : Report) (answer : Status) (told : Told) → AreAllowed options → IsUtf8 options.file.profile
+    → Recording options out old new r statuses.Done → old.told ≡ Some told
     → later.world ≡ new → FileChecks out later last answer → (AnyRose (counts_in later) (counts_in last) → ⊥)
-    → ((answer ≡ 0) × PrintsSound options.file.chunk later.out last.out) ⊎ (answer ≡ 5)
+    → ((answer ≡ statuses.Done) × PrintsSound options.file.chunk later.out last.out) ⊎ (answer ≡ statuses.Memory)
 checked_so options out old new later last r answer told allowed text it here same checks quiet =
     let history = it.recorded.history in
     let left = it.goes_on told here in
@@ -190,4 +193,4 @@ checked_so options out old new later last r answer told allowed text it here sam
 
 pub recordings_are_sound : RecordingsAreSound
 recordings_are_sound options out feeds old new later last r answer told allowed text it here same checks quiet =
-    checked_so options out old.world new.world later last r answer told allowed text (of_records options out feeds old new r 0 it) here same checks quiet
+    checked_so options out old.world new.world later last r answer told allowed text (of_records options out feeds old new r statuses.Done it) here same checks quiet

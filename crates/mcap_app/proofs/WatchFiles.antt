@@ -24,6 +24,7 @@ use Rattle.mcap_model.proofs.Files.{section_tops}
 use Rattle.mcap_model.proofs.Body.{section_flat}
 use Rattle.mcap_model.proofs.Readings.{kept_once, halts_are_last, good_from_the_front}
 use Rattle.mcap_model.proofs.Histories.{numbered_ids_agree, recs_are_flat}
+use Rattle.mcap_model.specs.declared.rules.Rule.TheVariants as rules
 use Rattle.mcap_laws.proofs.Scanned.{stand_of, read_so, scan_of_flat}
 use Rattle.recorder.specs.declared.report.WriterReport.{WriterReport}
 use Rattle.recorder.specs.Recorded.{AreReadable}
@@ -36,6 +37,7 @@ use Rattle.watching.specs.Text.{sealed_by, end_line, WatchText}
 use Rattle.watching.specs.Watching.{unwritten, written_by}
 use Rattle.watched_recording.specs.Watched.{Watch}
 use Rattle.watched_recording.specs.Files.{FrontReplay, WritesOfFile, TellsWatchFile, IsWatchedFile}
+use Rattle.command_base.specs.declared.statuses.Status.TheVariants as statuses
 use Rattle.command_base.specs.Ran.{world_faults}
 use Rattle.record_command.specs.Record.{feed_entry}
 use Rattle.record_command.specs.Sinks.{SinkKept, sink_entry}
@@ -79,7 +81,7 @@ module _ (options : FileOptions) (history : List Rec) (blocks bytes size : ℕ) 
       let good : Good reading_limits tops = good_from_the_front reading_limits tops (end_top ∷ []) read.halts.kept.good in
       let pieces = pieces_of options.chunk history in
       let whole = front options.profile ++ pieces_bytes pieces in
-      let kept : Kept reading_limits whole tops = halts_are_last whole tops [] (grammar (offset_behind tops) 4) (front_stands options.profile pieces) good (inr (short_head refl)) in
+      let kept : Kept reading_limits whole tops = halts_are_last whole tops [] (grammar (offset_behind tops) rules.V4) (front_stands options.profile pieces) good (inr (short_head refl)) in
       let until : until_block blocks pieces ≡ pieces = ap (λ (n : ℕ). until_block n pieces) closed.blocks_are ∙ until_all pieces all_blocks in
       subst (λ (ps : List Piece). Kept reading_limits (front options.profile ++ pieces_bytes ps) tops) (sym until) kept
 
@@ -153,7 +155,7 @@ pub watch_files_hold_messages : WatchFilesHoldMessages
 watch_files_hold_messages options range size out watches feeds old new r told now allowed text some it here tells n name at =
     let is = it.reported r refl in
     let history = is.recorded.history in
-    let made = of_watched options range out watches feeds old new r 0 it in
+    let made = of_watched options range out watches feeds old new r statuses.Done it in
     let readable : AreReadable options.file = record { profile = text; short = omega (arith, allowed.short); size = allowed.size } in
     let closed = made.closed refl in
     let file = (closed_file options made.before made.after r is.recorded closed).0 in
@@ -167,8 +169,8 @@ watch_files_hold_messages options range size out watches feeds old new r told no
     let (lines, wrote, took) = wrote_all options.file range history r.writer w (is.texts told here readable all.2.sealed_is n w at_w) calm.0 whole (is.sinks_empty told here n w at_w) in
     let wrote_closed = subst (λ (e : End). WatchText (FrontReplay options.file range history) r.writer.blocks w.report.fronts.items (sealed_by e) lines) closed wrote in
     let holds = messages_held options.file history r.writer.blocks r.writer.bytes size readable file some range w.report.fronts.items lines wrote_closed in
-    let still = watched_still options range out watches feeds old new r 0 it refl in
-    let none = nothing_added old.world.faults new.world.faults (world_faults (map sink_entry is.kept_sinks)) (world_faults (map feed_entry is.kept_feeds)) is.live_kept (watched_total options range out watches feeds old new r 0 it) still in
+    let still = watched_still options range out watches feeds old new r statuses.Done it refl in
+    let none = nothing_added old.world.faults new.world.faults (world_faults (map sink_entry is.kept_sinks)) (world_faults (map feed_entry is.kept_feeds)) is.live_kept (watched_total options range out watches feeds old new r statuses.Done it) still in
     let well = none_failed is.kept_sinks none n k at_k in
     let placed : now.names k.name ≡ Some lines = elim (is.placed told now here tells n k at_k lines (ap (λ (s : SinkState). s.took) back_is ∙ took)) [
       | inl stands ↦ stands

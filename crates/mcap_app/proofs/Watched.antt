@@ -2,6 +2,7 @@
 use Rattle.std.proofs.Common.{refl}
 use Rattle.mcap_model.specs.Recovery.{FrontsAreRepaired}
 use Rattle.recorder.specs.Recorded.{sides}
+use Rattle.command_base.specs.declared.statuses.Status.TheVariants as statuses
 use Rattle.record_command.specs.Record.{back_sources}
 use Rattle.mcap_app.specs.WatchedLaws.{WatchedRecordingsArePrinted, WatchedRecordingsAreSound, WatchedRecordingsLeaveFirstParts, WatchedRecordingsAreRecovered}
 use Rattle.mcap_app.proofs.Recordings.{of_watched}
@@ -11,11 +12,11 @@ use Rattle.mcap_app.proofs.FirstParts.{first_left, first_recovered}
 
 pub watched_recordings_are_printed : WatchedRecordingsArePrinted
 watched_recordings_are_printed options range out watches feeds old new later last r answer told allowed text it here same cats quiet =
-    printed_so options out old.world new.world later last r answer told allowed text (of_watched options range out watches feeds old new r 0 it) here same cats quiet
+    printed_so options out old.world new.world later last r answer told allowed text (of_watched options range out watches feeds old new r statuses.Done it) here same cats quiet
 
 pub watched_recordings_are_sound : WatchedRecordingsAreSound
 watched_recordings_are_sound options range out watches feeds old new later last r answer told allowed text it here same checks quiet =
-    checked_so options out old.world new.world later last r answer told allowed text (of_watched options range out watches feeds old new r 0 it) here same checks quiet
+    checked_so options out old.world new.world later last r answer told allowed text (of_watched options range out watches feeds old new r statuses.Done it) here same checks quiet
 
 pub watched_recordings_leave_first_parts : WatchedRecordingsLeaveFirstParts
 watched_recordings_leave_first_parts options range out watches feeds old new r answer told now it here tells well some =

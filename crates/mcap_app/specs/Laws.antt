@@ -23,6 +23,8 @@ use Rattle.time_player.specs.Text.{cat_text}
 use Rattle.mcap_model.specs.Merged.{Merged as MergesTo}
 use Rattle.chunk_writer.specs.Limits.{Holds}
 use Rattle.recorder.specs.declared.report.Report.{Report}
+use Rattle.command_base.specs.declared.statuses.Status.{Status}
+use Rattle.command_base.specs.declared.statuses.Status.TheVariants as statuses
 use Rattle.command_base.specs.Printing.{TellsAll}
 use Rattle.command_base.specs.Ran.{Scene, counts_in, AnyRose}
 use Rattle.recorder.specs.declared.options.RecordOptions.{RecordOptions}
@@ -59,13 +61,13 @@ pub record PrintsHistory (history : List Rec) (before now : SinkState) : Type 0 
   pub replay : Replay everything.range everything.topic messages shown
   pub lines : TellsAll before now (cat_text shown)
 
--- A recording with the status 0 in a world that tells, and then a printing of its output there, in which no count rises: it
+-- A recording in which all was done, in a world that tells, and then a printing of its output there, in which no count rises: it
 -- prints the messages of the recording's history, or memory lacked for that.
 abbrev pub RecordingsArePrinted : Type 0
-RecordingsArePrinted = (options : RecordOptions) (out : List ℕ) (feeds : List (List ℕ)) (old new later last : Scene) (r : Report) (answer : ℕ) (told : Told) → AreAllowed options → IsUtf8 options.file.profile
-    → (it : Records options out feeds old new (Some r) 0) → old.world.told ≡ Some told
+RecordingsArePrinted = (options : RecordOptions) (out : List ℕ) (feeds : List (List ℕ)) (old new later last : Scene) (r : Report) (answer : Status) (told : Told) → AreAllowed options → IsUtf8 options.file.profile
+    → (it : Records options out feeds old new (Some r) statuses.Done) → old.world.told ≡ Some told
     → later.world ≡ new.world → Cats everything out later last answer → (AnyRose (counts_in later) (counts_in last) → ⊥)
-    → ((answer ≡ 0) × PrintsHistory (it.reported r refl).recorded.history later.out last.out) ⊎ (answer ≡ 5)
+    → ((answer ≡ statuses.Done) × PrintsHistory (it.reported r refl).recorded.history later.out last.out) ⊎ (answer ≡ statuses.Memory)
 
 -- ---- what is recorded keeps all rules
 
@@ -81,13 +83,13 @@ pub record PrintsSound (chunk : Option ℕ) (before now : SinkState) : Type 0 wh
   pub said : IsSaid chunk verdict
   pub line : TellsAll before now (verdict_line verdict)
 
--- A recording with the status 0 in a world that tells, and then a check of its output there, in which no count rises: it
+-- A recording in which all was done, in a world that tells, and then a check of its output there, in which no count rises: it
 -- finds no flaw, no compression and no limit of reading, and prints that; or memory lacked for the check.
 abbrev pub RecordingsAreSound : Type 0
-RecordingsAreSound = (options : RecordOptions) (out : List ℕ) (feeds : List (List ℕ)) (old new later last : Scene) (r : Report) (answer : ℕ) (told : Told) → AreAllowed options → IsUtf8 options.file.profile
-    → Records options out feeds old new (Some r) 0 → old.world.told ≡ Some told
+RecordingsAreSound = (options : RecordOptions) (out : List ℕ) (feeds : List (List ℕ)) (old new later last : Scene) (r : Report) (answer : Status) (told : Told) → AreAllowed options → IsUtf8 options.file.profile
+    → Records options out feeds old new (Some r) statuses.Done → old.world.told ≡ Some told
     → later.world ≡ new.world → FileChecks out later last answer → (AnyRose (counts_in later) (counts_in last) → ⊥)
-    → ((answer ≡ 0) × PrintsSound options.file.chunk later.out last.out) ⊎ (answer ≡ 5)
+    → ((answer ≡ statuses.Done) × PrintsSound options.file.chunk later.out last.out) ⊎ (answer ≡ statuses.Memory)
 
 -- ---- what is recovered keeps all rules
 
@@ -108,10 +110,10 @@ pub record LeavesSound (out : List ℕ) (old new : Scene) (recovery : Recovery) 
   pub valid : recovered.extras < 2 ^ 32 → IsValid file
   pub indexed : recovered.extras < 2 ^ 32 → IsFullyIndexed file
 
--- A recovery with the status 0 in a world that tells leaves such a file, whatever its input was.
+-- A recovery in which all was done, in a world that tells, leaves such a file, whatever its input was.
 abbrev pub RecoveriesAreSound : Type 0
 RecoveriesAreSound = (chunk : ℕ) (input out : List ℕ) (old new : Scene) (told : Told) → IsChunkSize chunk
-    → (it : RecoversFile chunk input out old new 0) → old.world.told ≡ Some told → LeavesSound out old new it.recovery
+    → (it : RecoversFile chunk input out old new statuses.Done) → old.world.told ≡ Some told → LeavesSound out old new it.recovery
 
 -- ---- what is merged keeps all rules
 
@@ -140,10 +142,10 @@ pub record LeavesMerged (chunk : ℕ) (inputs : List (List ℕ)) (out : List ℕ
   pub valid : length extras < 2 ^ 32 → IsValid (merged_file chunk profile extras history)
   pub indexed : length extras < 2 ^ 32 → IsFullyIndexed (merged_file chunk profile extras history)
 
--- A merge with the status 0 in a world that tells leaves such a file, whatever its inputs were.
+-- A merge in which all was done, in a world that tells, leaves such a file, whatever its inputs were.
 abbrev pub MergesAreSound : Type 0
 MergesAreSound = (chunk : ℕ) (inputs : List (List ℕ)) (out : List ℕ) (old new : Scene) (told : Told) → IsChunkSize chunk
-    → (it : MergesFiles chunk inputs out old new 0) → old.world.told ≡ Some told → LeavesMerged chunk inputs out old new told it.merging
+    → (it : MergesFiles chunk inputs out old new statuses.Done) → old.world.told ≡ Some told → LeavesMerged chunk inputs out old new told it.merging
 
 -- ---- a recording of which a first part is left is recovered
 
@@ -159,7 +161,7 @@ FitsWritingLimits options history = Holds (length (blocks_in (pieces_of options.
 -- A recording in a world that tells, whatever its end, of which a record was accepted and the output was kept, leaves such a part
 -- under the output's name; and where its writer closed, its file is within the limits.
 abbrev pub RecordingsLeaveFirstParts : Type 0
-RecordingsLeaveFirstParts = (options : RecordOptions) (out : List ℕ) (feeds : List (List ℕ)) (old new : Scene) (r : Report) (answer : ℕ) (told now : Told) → (it : Records options out feeds old new (Some r) answer)
+RecordingsLeaveFirstParts = (options : RecordOptions) (out : List ℕ) (feeds : List (List ℕ)) (old new : Scene) (r : Report) (answer : Status) (told now : Told) → (it : Records options out feeds old new (Some r) answer)
     → old.world.told ≡ Some told → new.world.told ≡ Some now → (it.reported r refl).live_kept ≡ true → ((it.reported r refl).recorded.history ≡ [] → ⊥)
     → ((part : List ℕ) × (now.names out ≡ Some part) × IsFirstPart options.file (it.reported r refl).recorded.history part)
     × (r.writer.end ≡ ends.Closed → FitsWritingLimits options.file (it.reported r refl).recorded.history)
@@ -185,8 +187,8 @@ new_file chunk keeps = file_of (new_options chunk keeps) [] keeps.front.first
 -- A check of that name in a world like this one, in which no count rises, finds no flaw, no compression and no limit of
 -- reading, but that the file is fully indexed, and prints that; or memory lacked for the check.
 abbrev pub IsFoundIndexed : ℕ → List ℕ → Scene → Type 0
-IsFoundIndexed chunk name scene = (later last : Scene) (answer : ℕ) → later.world ≡ scene.world → FileChecks name later last answer → (AnyRose (counts_in later) (counts_in last) → ⊥)
-    → ((answer ≡ 0) × PrintsSound (Some chunk) later.out last.out) ⊎ (answer ≡ 5)
+IsFoundIndexed chunk name scene = (later last : Scene) (answer : Status) → later.world ≡ scene.world → FileChecks name later last answer → (AnyRose (counts_in later) (counts_in last) → ⊥)
+    → ((answer ≡ statuses.Done) × PrintsSound (Some chunk) later.out last.out) ⊎ (answer ≡ statuses.Memory)
 
 -- The file of what is kept of a first part stands under the output's name, sound; its numbers were printed, with where and why
 -- the part ends; and a check finds it fully indexed.
@@ -215,10 +217,10 @@ PassesWritingLimit options history chunk part = (keeps : KeepsFirst options hist
 -- name of a world that tells. A recovery of that name, in which no count rises, leaves the file of just the records that are
 -- whole there; or that file would pass a limit; or memory lacked.
 abbrev pub RecordingsAreRecovered : Type 0
-RecordingsAreRecovered = (options : RecordOptions) (out : List ℕ) (feeds : List (List ℕ)) (old new : Scene) (r : Report) (answer : ℕ) → AreAllowed options → IsUtf8 options.file.profile
+RecordingsAreRecovered = (options : RecordOptions) (out : List ℕ) (feeds : List (List ℕ)) (old new : Scene) (r : Report) (answer : Status) → AreAllowed options → IsUtf8 options.file.profile
     → (it : Records options out feeds old new (Some r) answer) → FitsWritingLimits options.file (it.reported r refl).recorded.history
     → (part : List ℕ) → IsFirstPart options.file (it.reported r refl).recorded.history part
-    → (chunk : ℕ) (input output : List ℕ) (later last : Scene) (status : ℕ) (told : Told) → IsChunkSize chunk → later.world.told ≡ Some told → told.names input ≡ Some part
+    → (chunk : ℕ) (input output : List ℕ) (later last : Scene) (status : Status) (told : Told) → IsChunkSize chunk → later.world.told ≡ Some told → told.names input ≡ Some part
     → RecoversFile chunk input output later last status → (AnyRose (counts_in later) (counts_in last) → ⊥)
-    → ((status ≡ 0) × RecoversFirst options.file (it.reported r refl).recorded.history chunk part output later last)
-    ⊎ (((status ≡ 4) × PassesWritingLimit options.file (it.reported r refl).recorded.history chunk part) ⊎ (status ≡ 5))
+    → ((status ≡ statuses.Done) × RecoversFirst options.file (it.reported r refl).recorded.history chunk part output later last)
+    ⊎ (((status ≡ statuses.Limit) × PassesWritingLimit options.file (it.reported r refl).recorded.history chunk part) ⊎ (status ≡ statuses.Memory))

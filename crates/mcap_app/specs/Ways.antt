@@ -1,15 +1,11 @@
 -- By which function a command is run, and when its numbers and texts are in their ranges.
-use Rattle.std.specs.Prelude.{◌≡◌, ◌≤◌, ℕ, [], ◌∷◌, Option, None, Some}
+use Rattle.std.specs.Prelude.{◌≡◌, ◌≤◌, ℕ, Some}
 use Rattle.command_words.specs.declared.command.Command.{Command}
 use Rattle.command_words.specs.declared.command.Command.TheVariants as commands
-use Rattle.recorder.specs.declared.report.Report.{Report}
-use Rattle.command_base.specs.Texts.{no_memory, said}
-use Rattle.command_base.specs.Printing.{Takes}
-use Rattle.command_base.specs.Ran.{Scene}
 use Rattle.record_command.specs.RecordSteps.{AreAllowed, AreFew}
 use Rattle.mcap_model.specs.declared.options.FileOptions.{FileOptions}
 use Rattle.mcap_wire.specs.Limits.{chunk_size_limit}
-use Rattle.output_commands.specs.SomeOutputSteps.{InputsAreFew as AreFewInputs}
+use Rattle.output_base.specs.OutputSteps.{InputsAreFew}
 use Rattle.command_words.specs.Commands.{feed_limit, watcher_limit}
 
 -- so many watchers may read a file of this kind: at most 16, and none where it has no chunks
@@ -37,13 +33,5 @@ IsAllowed (commands.Record out feeds file limit lossless range watchers) = AreAl
 IsAllowed (commands.OfFile what file) = Unit {0}
 IsAllowed (commands.Cat file indexed range topic) = Unit {0}
 IsAllowed (commands.Recover input out chunk) = (1 ≤ chunk) × (chunk ≤ chunk_size_limit)
-IsAllowed (commands.Merge out inputs chunk) = (1 ≤ chunk) × (chunk ≤ chunk_size_limit) × AreFewInputs inputs
+IsAllowed (commands.Merge out inputs chunk) = (1 ≤ chunk) × (chunk ≤ chunk_size_limit) × InputsAreFew inputs
 IsAllowed (commands.Generate seed feeds messages out) = (1 ≤ feeds) × (feeds ≤ feed_limit)
-
--- memory lacked for reading the words or for the names of watchers' files, and nothing else was done
-pub record LacksForWords (old new : Scene) (report : Option Report) (status : ℕ) : Type 0 where
-  pub status_is : status ≡ 5
-  pub world : new.world ≡ old.world
-  pub out : new.out ≡ old.out
-  pub told : Takes old.err new.err (said (no_memory ∷ []))
-  pub none : report ≡ None

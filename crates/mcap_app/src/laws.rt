@@ -3,25 +3,25 @@ ghost use Rattle.mcap_app.specs.Laws.{RecordingsArePrinted, RecordingsAreSound, 
 
 use mcap_laws::{fronts_are_repaired, repairs_can_be_written};
 
-/// What was recorded with the status 0 is printed, unless a count rises or memory lacks.
+/// What was recorded, where all was done, is printed, unless a count rises or memory lacks.
 pub fn recordings_are_printed()
     ensures { RecordingsArePrinted }
 {}
 
-/// What was recorded with the status 0 is checked as fully indexed where it is in chunks, and else as valid, unless a count
+/// What was recorded, where all was done, is checked as fully indexed where it is in chunks, and else as valid, unless a count
 /// rises or memory lacks.
 pub fn recordings_are_sound()
     ensures { RecordingsAreSound }
 {}
 
-/// What is recovered with the status 0 is a valid and fully indexed file, where it has fewer than 2^32 Attachments and Metadata.
+/// What is recovered, where all was done, is a valid and fully indexed file, where it has fewer than 2^32 Attachments and Metadata.
 pub fn recoveries_are_sound()
     ensures { RecoveriesAreSound }
 {
     repairs_can_be_written();
 }
 
-/// What is merged with the status 0 is a valid and fully indexed file of all messages of the inputs, where these have fewer than
+/// What is merged, where all was done, is a valid and fully indexed file of all messages of the inputs, where these have fewer than
 /// 2^32 Attachments and Metadata.
 pub fn merges_are_sound()
     ensures { MergesAreSound }

@@ -5,11 +5,11 @@ pub mod laws;
 mod program;
 pub mod watched_laws;
 
+pub use command_base::{BAD_WORDS_STATUS, Status, refuse_for_memory};
 pub use command_words::{Command, FileCommand, Names, WordsRefused, parse_words};
 pub use mcap_model::{End, ReadingRefused, Stop};
-pub use program::run;
-pub use record_command::Ended;
+pub use program::{Exit, run};
 pub use recorder::{
-    Accepted, Cause, DeclaredAt, FeedEnd, FeedReport, Listing, Refusals, Refused, Report,
+    Accepted, CallRefused, DeclaredAt, FeedEnd, FeedReport, Listing, Refusals, Refused, Report,
     WriterReport,
 };

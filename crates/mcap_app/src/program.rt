@@ -2,7 +2,9 @@
 ghost use Rattle.std.specs.Prelude.{◌≡◌, ◌⊎◌, ◌≤◌, ◌++◌, ℕ, [], ◌∷◌, length, None, Some};
 ghost use Rattle.command_words.specs.declared.command.Command.{Command as Wanted};
 ghost use Rattle.command_words.specs.Commands.{AreBad, Derives, usage_text};
-ghost use Rattle.command_base.specs.Texts.{bad_words, no_memory, said};
+ghost use Rattle.command_base.specs.declared.statuses.Status.TheVariants as statuses;
+ghost use Rattle.command_base.specs.Texts.{no_memory, said, status_number};
+ghost use Rattle.command_base.specs.ComplaintTroubles.{bad_words_line};
 ghost use Rattle.mcap_model.specs.Places.{Each};
 ghost use Rattle.feed_lane.specs.Steps.{ListsMessages};
 ghost use Rattle.command_base.specs.Printing.{Takes};
@@ -10,10 +12,10 @@ ghost use Rattle.command_base.specs.Scenes.{scene};
 ghost use Rattle.record_command.specs.RecordSteps.{AreAllowed, AreFew};
 ghost use Rattle.command_words.specs.Defaults.{watch_names as names_of_watches};
 ghost use Rattle.record_command.specs.Watched.{requested};
-ghost use Rattle.mcap_app.specs.Runs.{RecordsBeside, Runs, generate_options};
-ghost use Rattle.mcap_app.specs.Ways.{IsAllowed, IsWatchable, LacksForWords, records, generates, reads, writes, way_of};
+ghost use Rattle.mcap_app.specs.Runs.{RecordsBeside, Does, LacksForWords, Runs, generate_options};
+ghost use Rattle.mcap_app.specs.Ways.{IsAllowed, IsWatchable, records, generates, reads, writes, way_of};
 
-use command_base::{refuse_for_memory, refuse_words};
+use command_base::{BAD_WORDS_STATUS, Status, refuse_for_memory, refuse_words};
 use command_words::{
     Command, USUAL_CHUNK, USUAL_LIMIT, WordsRefused, parse_words, usage, watch_names,
 };
@@ -24,13 +26,20 @@ use mcap_model::{FileOptions, Range};
 use mcap_wire::{Memory, Text};
 use output_commands::{merge_file, recover_file};
 use record_command::{Ended, record_file, record_watched_file};
-use recorder::RecordOptions;
+use recorder::{RecordOptions, Report};
 use std::alloc::Global;
 use std::sync::Wait;
 use std::thread::Threads;
 
+/// What the program ends with: the number of the command's status or, of words that are none, `BAD_WORDS_STATUS`; and the report
+/// of a recording.
+pub struct Exit {
+    pub number: u8,
+    pub report: Option<Report>,
+}
+
 // A command that made no report.
-fn unreported(status: u8) -> Ended
+fn unreported(status: Status) -> Ended
     ensures { result ≡ record { status = status; report = None } }
 {
     Ended {
@@ -65,7 +74,7 @@ fn run_generate<R: AllocGlobal + Threads + Wait + Sync, W: World, O: Sink, E: Si
 ) -> Ended
     requires allowed { IsAllowed command }
     requires way { way_of command ≡ generates }
-    ensures runs { Runs command
+    ensures runs { Does command
         (scene (W.state world.old) (O.state out.old) (E.state err.old))
         (scene (W.state world.new) (O.state out.new) (E.state err.new))
         result.report result.status }
@@ -138,7 +147,7 @@ fn run_record<R: AllocGlobal + Threads + Wait + Sync, W: World, O: Sink, E: Sink
         }
         Err(Memory) => {
             refuse_for_memory(err);
-            return unreported(5);
+            return unreported(Status::Memory);
         }
     }
 }
@@ -154,7 +163,7 @@ fn run_recording<R: AllocGlobal + Threads + Wait + Sync, W: World, O: Sink, E: S
 ) -> Ended
     requires allowed { IsAllowed command }
     requires way { way_of command ≡ records }
-    ensures runs { Runs command
+    ensures runs { Does command
         (scene (W.state world.old) (O.state out.old) (E.state err.old))
         (scene (W.state world.new) (O.state out.new) (E.state err.new))
         result.report result.status
@@ -193,9 +202,9 @@ fn run_reading<W: World, O: Sink, E: Sink>(
     world: &mut W,
     out: &mut O,
     err: &mut E,
-) -> u8
+) -> Status
     requires { way_of command ≡ reads }
-    ensures { Runs command
+    ensures { Does command
         (scene (W.state world.old) (O.state out.old) (E.state err.old))
         (scene (W.state world.new) (O.state out.new) (E.state err.new))
         None result }
@@ -227,10 +236,10 @@ fn run_writing<W: World, O: Sink, E: Sink>(
     world: &mut W,
     out: &mut O,
     err: &mut E,
-) -> u8
+) -> Status
     requires allowed { IsAllowed command }
     requires way { way_of command ≡ writes }
-    ensures { Runs command
+    ensures { Does command
         (scene (W.state world.old) (O.state out.old) (E.state err.old))
         (scene (W.state world.new) (O.state out.new) (E.state err.new))
         None result }
@@ -241,8 +250,7 @@ fn run_writing<W: World, O: Sink, E: Sink>(
             out: name,
             chunk,
         } => {
-            let (input, name) = (input.as_str(), name.as_str());
-            return recover_file(alloc, chunk, input, name, world, out, err);
+            return recover_file(alloc, chunk, &input, name.as_str(), world, out, err);
         }
         Command::Merge {
             out: name,
@@ -266,7 +274,7 @@ fn run_command<R: AllocGlobal + Threads + Wait + Sync, W: World, O: Sink, E: Sin
     listed: bool,
 ) -> Ended
     requires { IsAllowed command }
-    ensures runs { Runs command
+    ensures runs { Does command
         (scene (W.state world.old) (O.state out.old) (E.state err.old))
         (scene (W.state world.new) (O.state out.new) (E.state err.new))
         result.report result.status
@@ -288,6 +296,28 @@ fn run_command<R: AllocGlobal + Threads + Wait + Sync, W: World, O: Sink, E: Sin
     }
 }
 
+// The program ends with that number, and without a report.
+fn exit_with(number: u8) -> Exit
+    ensures { result ≡ record { number = number; report = None } }
+{
+    Exit {
+        number,
+        report: None,
+    }
+}
+
+// The program ends as the command did.
+fn exit_of(ended: Ended) -> Exit
+    ensures number { result.number ≡ status_number ended.status }
+    ensures report { result.report ≡ ended.report }
+{
+    let Ended { status, report } = ended;
+    Exit {
+        number: status.number(),
+        report,
+    }
+}
+
 /// Does what the words say: reads and writes the names of the world, prints on `out`, complains on `err`, and
 /// answers how it ended. The words are those behind the program's own name. The report of a recording lists its messages, or only
 /// counts them and takes no memory for them.
@@ -298,40 +328,36 @@ pub fn run<R: AllocGlobal + Threads + Wait + Sync, W: World, O: Sink, E: Sink>(
     out: &mut O,
     err: &mut E,
     listed: bool,
-) -> Ended
-    // 2 is the answer only to words that are no command.
-    ensures two { result.status ≡ 2 → AreBad words.now }
+) -> Exit
+    // That of bad words is the number only for words that are no command.
+    ensures bad { result.number ≡ BAD_WORDS_STATUS → AreBad words.now }
 
     // These do nothing but complain: of the words, or of a want of memory for reading them.
     ensures world { AreBad words.now → world.new ≡ world.old }
     ensures out { AreBad words.now → out.new ≡ out.old }
     ensures report { AreBad words.now → result.report ≡ None }
-    ensures err { AreBad words.now → ((result.status ≡ 2) × Takes (E.state err.old) (E.state err.new) (said (bad_words ∷ []) ++ usage_text))
-        ⊎ ((result.status ≡ 5) × Takes (E.state err.old) (E.state err.new) (said (no_memory ∷ []))) }
+    ensures err { AreBad words.now → ((result.number ≡ BAD_WORDS_STATUS) × Takes (E.state err.old) (E.state err.new) (bad_words_line ++ usage_text))
+        ⊎ ((result.number ≡ status_number statuses.Memory) × Takes (E.state err.old) (E.state err.new) (said (no_memory ∷ []))) }
 
     // The words of a command do what it does, or memory lacks for reading them or for the names of watchers' files.
     ensures runs { (command : Wanted) → Derives words.now command
         → Runs command
         (scene (W.state world.old) (O.state out.old) (E.state err.old))
         (scene (W.state world.new) (O.state out.new) (E.state err.new))
-        result.report result.status
-        ⊎ LacksForWords
-        (scene (W.state world.old) (O.state out.old) (E.state err.old))
-        (scene (W.state world.new) (O.state out.new) (E.state err.new))
-        result.report result.status }
+        result.report result.number }
 
     // A report lists messages, or only counts them.
     ensures listed { (r : _) → result.report ≡ Some r → Each (λ f. ListsMessages f listed) r.feeds.items }
 {
     match parse_words(rt.alloc(), words) {
-        Ok(command) => return run_command(rt, command, world, out, err, listed),
+        Ok(command) => return exit_of(run_command(rt, command, world, out, err, listed)),
         Err(WordsRefused::BadWords) => {
             refuse_words(err, usage());
-            return unreported(2);
+            return exit_with(BAD_WORDS_STATUS);
         }
         Err(WordsRefused::Memory) => {
             refuse_for_memory(err);
-            return unreported(5);
+            return exit_of(unreported(Status::Memory));
         }
     }
 }

@@ -3,12 +3,12 @@ ghost use Rattle.mcap_app.specs.WatchedLaws.{WatchedRecordingsArePrinted, Watche
 
 use mcap_laws::fronts_are_repaired;
 
-/// What was recorded beside watchers with the status 0 is printed, unless a count rises or memory lacks.
+/// What was recorded beside watchers, where all was done, is printed, unless a count rises or memory lacks.
 pub fn watched_recordings_are_printed()
     ensures { WatchedRecordingsArePrinted }
 {}
 
-/// What was recorded beside watchers with the status 0 is checked as fully indexed where it is in chunks, and else as valid,
+/// What was recorded beside watchers, where all was done, is checked as fully indexed where it is in chunks, and else as valid,
 /// unless a count rises or memory lacks.
 pub fn watched_recordings_are_sound()
     ensures { WatchedRecordingsAreSound }
@@ -27,7 +27,7 @@ pub fn watched_recordings_are_recovered()
     fronts_are_repaired();
 }
 
-/// With the status 0 each watch file ends with the line of the end and the lines of all recorded messages of the range.
+/// Where all was done each watch file ends with the line of the end and the lines of all recorded messages of the range.
 pub fn watch_files_hold_messages()
     ensures { WatchFilesHoldMessages }
 {}

@@ -1,16 +1,13 @@
 //! The program `mcaprec` over files, standard output and standard error.
 #![tactic(auto)]
 
-use mcap_app::{Ended, run};
-use mcap_io::{FileWorld, WriterSink, write_all_of};
+use mcap_app::{Exit, Status, refuse_for_memory, run};
+use mcap_io::{FileWorld, WriterSink};
 use mcap_wire::{Memory, Text};
 use std::env;
 use std::io::{ErrorKind, Write};
 use std::process::ExitCode;
 use std::rt::Env;
-
-/// The status of a want of memory.
-const NO_MEMORY: u8 = 5;
 
 /// A recording's messages are only counted, so that its memory doesn't grow with them.
 const LISTED: bool = false;
@@ -31,18 +28,18 @@ fn words_of<R: Env + AllocGlobal>(rt: &R) -> Result<Vec<Text>, Memory> {
 }
 
 // Says that memory lacked before the words were known.
-fn refuse_for_memory<W: Write + Drop>(err: &mut WriterSink<W>) -> ExitCode {
-    let _said = write_all_of(err, b"mcaprec: no memory\n");
-    ExitCode::from(NO_MEMORY)
+fn lacked<W: Write + Drop>(err: &mut WriterSink<W>) -> ExitCode {
+    refuse_for_memory(err);
+    ExitCode::from(Status::Memory.number())
 }
 
 fn main(rt: HostRuntime) -> ExitCode {
     let mut err = WriterSink::new(rt.stderr());
     let Ok(words) = words_of(&rt) else {
-        return refuse_for_memory(&mut err);
+        return lacked(&mut err);
     };
     let mut out = WriterSink::new(rt.stdout());
     let mut world = FileWorld::new(&rt);
-    let Ended { status, report: _ } = run(&rt, &words, &mut world, &mut out, &mut err, LISTED);
-    ExitCode::from(status)
+    let Exit { number, report: _ } = run(&rt, &words, &mut world, &mut out, &mut err, LISTED);
+    ExitCode::from(number)
 }

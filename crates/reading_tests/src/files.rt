@@ -1,7 +1,9 @@
 //! The world of files.
 use crate::outside::{Stretch, gives};
 use crate::same::holds_at;
-use mcap_io::{Extent, Failed, FileWorld, LiveStore, LiveView, OpenRefused, Source, Store, World};
+use mcap_io::{
+    Extent, Failed, FileWorld, LiveStore, LiveView, OutsideRefused, Source, Store, World,
+};
 use std::alloc::Global;
 use std::fs;
 use std::rt::Files;
@@ -14,7 +16,7 @@ fn refuses_output<W: World>(world: &mut W, name: &str) -> bool {
             let _kept = world.keep_live(name, live);
             false
         }
-        Err(why) => why == OpenRefused::Failed,
+        Err(why) => why == OutsideRefused::Failed,
     }
 }
 
@@ -30,7 +32,7 @@ fn gives_back<W: World>(
     world: &mut W,
     (name, output): (&str, &str),
     stretches: &[Stretch<'_>],
-) -> Result<bool, OpenRefused> {
+) -> Result<bool, OutsideRefused> {
     let mut source = match world.source(name) {
         Ok(source) => source,
         Err(why) => return Err(why),
@@ -128,7 +130,7 @@ fn refuses_folder<W: World>(world: &mut W) -> bool {
             let _kept = world.keep_store(".", store);
             false
         }
-        Err(why) => why == OpenRefused::Failed,
+        Err(why) => why == OutsideRefused::Failed,
     }
 }
 
@@ -139,7 +141,7 @@ fn goes<W: World>(rt: &impl Files, alloc: Global, world: &mut W, bytes: &[u8]) -
     let taken = keeps(alloc, world, bytes, &PIECES);
     let stored = stores(rt, world);
     let refused = refuses_folder(world);
-    let missing = gives_back(alloc, world, ("none", "none"), &[]) == Err(OpenRefused::Failed);
+    let missing = gives_back(alloc, world, ("none", "none"), &[]) == Err(OutsideRefused::Failed);
     let emptied = keeps(alloc, world, &[], &[(0, true, 0)]);
     let counted = (world.faults(), world.input_faults(), world.output_faults()) == (8, 1, 0);
     taken && stored && refused && missing && emptied && counted

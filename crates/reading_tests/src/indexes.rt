@@ -4,7 +4,7 @@ use crate::same::holds_at;
 use crate::sources::TWO_CHUNKS;
 use indexed_replay::replay_indexed;
 use mcap_io::{QuietStore, Store};
-use mcap_model::{IndexedRefused, NotIndexed, Range, ReadingRefused};
+use mcap_model::{IndexedRefused, NotIndexed, Range, ReadingRefused, Rule};
 use mcap_wire::Text;
 use std::alloc::Global;
 use std::test::Fail;
@@ -88,7 +88,10 @@ enum End {
 fn is_end(why: &IndexedRefused, end: End) -> bool {
     match why {
         IndexedRefused::Refused {
-            why: ReadingRefused::Grammar { offset, rule: 12 },
+            why: ReadingRefused::Grammar {
+                offset,
+                rule: Rule::V12,
+            },
         } => matches!(end, End::Flaw(at) if at == *offset),
         IndexedRefused::Refused {
             why: ReadingRefused::Compressed { offset, name },

@@ -12,7 +12,7 @@ pub(crate) fn copied<T: Copy>(alloc: Global, items: &[T]) -> Vec<T> {
 }
 
 // How long a stretch is to be, how that goes, what is read of it, and how often the source has failed by then.
-pub(crate) type Stretch<'a> = (u64, Result<(), ReadRefused>, &'a [u8], u64);
+pub(crate) type Stretch<'a> = (u64, Result<(), OutsideRefused>, &'a [u8], u64);
 
 // Whether the source gives these stretches.
 pub(crate) fn gives<S: Source>(
@@ -36,7 +36,7 @@ fn a_source_goes_on_behind_a_read_that_failed(rt: HostRuntime) {
     let mut buffer = Vec::new(rt.alloc());
     let stretches: [Stretch<'_>; 5] = [
         (4, Ok(()), b"abcd", 0),
-        (3, Err(ReadRefused::Failed), b"", 1),
+        (3, Err(OutsideRefused::Failed), b"", 1),
         (3, Ok(()), b"efg", 1),
         (9, Ok(()), b"hij", 1),
         (9, Ok(()), b"", 1),

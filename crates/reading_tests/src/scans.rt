@@ -135,7 +135,7 @@ const FILES: [(&[u8], Outcome, usize); 18] = [
 
 fn refused(why: &ReadingRefused, count: u64) -> Outcome {
     match why {
-        ReadingRefused::Grammar { offset, rule } => (count, *offset, *rule),
+        ReadingRefused::Grammar { offset, rule } => (count, *offset, rule.number()),
         ReadingRefused::Compressed { offset, name: _ } => (count, *offset, COMPRESSED),
         ReadingRefused::Limit { offset } => (count, *offset, LIMIT),
         ReadingRefused::Fault { faults } => (count, *faults, FAULT),
@@ -256,7 +256,7 @@ fn halts_plainly(alloc: Global, bytes: &[u8], want: Outcome) -> bool {
     let (_, place, why) = want;
     match scan_plain(alloc, bytes) {
         Ok(_) => why == END,
-        Err(ReadingRefused::Grammar { offset, rule }) => offset == place && why == rule,
+        Err(ReadingRefused::Grammar { offset, rule }) => offset == place && why == rule.number(),
         Err(ReadingRefused::Compressed { offset, .. }) => offset == place && why == COMPRESSED,
         Err(ReadingRefused::Limit { offset }) => offset == place && why == LIMIT,
         Err(_) => false,

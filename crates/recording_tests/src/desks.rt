@@ -7,7 +7,7 @@ use crate::same::holds_at;
 use mcap_model::{End, Stop};
 use rec_data::ChannelDef;
 use record_cache::Cache;
-use record_core::{DeclareRefused, Declared, Desk, NewMessage, PublishRefused};
+use record_core::{CallRefused, Declared, Desk, NewMessage};
 use std::alloc::Global;
 use std::test::Fail;
 
@@ -26,8 +26,8 @@ const FAULT: Stop = Stop::Fault { faults: 1 };
 // many bytes are published on a channel; a swap gives so many bytes or, where there are none, the end and the number of records;
 // and an end is set, and its place answered.
 enum Call {
-    Declare(&'static [u8], bool, Result<Declared, DeclareRefused>),
-    Publish(u16, usize, Result<u64, PublishRefused>),
+    Declare(&'static [u8], bool, Result<Declared, CallRefused>),
+    Publish(u16, usize, Result<u64, CallRefused>),
     Swap(Result<u64, (Option<End>, u64)>),
     Close(u64),
     Stop(u64),
@@ -37,7 +37,7 @@ enum Call {
 type Step = (Call, u64);
 
 // No call changes the limit.
-fn declare(desk: &mut Desk, channel: &ChannelDef) -> Result<Declared, DeclareRefused>
+fn declare(desk: &mut Desk, channel: &ChannelDef) -> Result<Declared, CallRefused>
     requires { DefFits channel.now }
     ensures { desk.new.limit ≡ desk.old.limit }
 {
@@ -45,7 +45,7 @@ fn declare(desk: &mut Desk, channel: &ChannelDef) -> Result<Declared, DeclareRef
     answer
 }
 
-fn publish(desk: &mut Desk, m: &NewMessage<'_>) -> Result<u64, PublishRefused>
+fn publish(desk: &mut Desk, m: &NewMessage<'_>) -> Result<u64, CallRefused>
     ensures { desk.new.limit ≡ desk.old.limit }
 {
     let answer = desk.publish(m);
@@ -57,7 +57,7 @@ fn declares(
     desk: &mut Desk,
     pairs: &[u8],
     with_schema: bool,
-    wanted: &Result<Declared, DeclareRefused>,
+    wanted: &Result<Declared, CallRefused>,
 ) -> Result<bool, Fail>
     ensures { desk.new.limit ≡ desk.old.limit }
 {
@@ -75,7 +75,7 @@ fn publishes(
     desk: &mut Desk,
     channel: u16,
     len: usize,
-    wanted: &Result<u64, PublishRefused>,
+    wanted: &Result<u64, CallRefused>,
 ) -> Result<bool, Fail>
     ensures { desk.new.limit ≡ desk.old.limit }
 {
@@ -229,14 +229,8 @@ const CONTENTS: &[Step] = &[
         ),
         164,
     ),
-    (
-        Call::Publish(0, 1, Err(PublishRefused::UnknownChannel)),
-        164,
-    ),
-    (
-        Call::Publish(5, 1, Err(PublishRefused::UnknownChannel)),
-        164,
-    ),
+    (Call::Publish(0, 1, Err(CallRefused::UnknownChannel)), 164),
+    (Call::Publish(5, 1, Err(CallRefused::UnknownChannel)), 164),
     (Call::Publish(4, 1, Ok(5)), 196),
 ];
 
@@ -255,13 +249,29 @@ const LIMIT_1: &[Step] = &[
         27,
     ),
     (
-        Call::Publish(1, 1, Err(PublishRefused::Full { held: 27 })),
+        Call::Publish(
+            1,
+            1,
+            Err(CallRefused::Full {
+                held: 27,
+                from: 0,
+                to: 1,
+            }),
+        ),
         27,
     ),
     (Call::Swap(Ok(27)), 0),
     (Call::Publish(1, 1, Ok(1)), 32),
     (
-        Call::Publish(1, 1, Err(PublishRefused::Full { held: 32 })),
+        Call::Publish(
+            1,
+            1,
+            Err(CallRefused::Full {
+                held: 32,
+                from: 1,
+                to: 2,
+            }),
+        ),
         32,
     ),
     (
@@ -277,7 +287,15 @@ const LIMIT_1: &[Step] = &[
         32,
     ),
     (
-        Call::Declare(NO_PAIRS, true, Err(DeclareRefused::Full { held: 32 })),
+        Call::Declare(
+            NO_PAIRS,
+            true,
+            Err(CallRefused::Full {
+                held: 32,
+                from: 1,
+                to: 2,
+            }),
+        ),
         32,
     ),
     (Call::Swap(Ok(32)), 0),
@@ -311,7 +329,15 @@ const LIMIT_28: &[Step] = &[
         80,
     ),
     (
-        Call::Publish(1, 1, Err(PublishRefused::Full { held: 80 })),
+        Call::Publish(
+            1,
+            1,
+            Err(CallRefused::Full {
+                held: 80,
+                from: 0,
+                to: 3,
+            }),
+        ),
         80,
     ),
 ];
@@ -334,7 +360,7 @@ const LARGEST: &[Step] = &[
         Call::Publish(
             1,
             33_554_433,
-            Err(PublishRefused::TooLarge { len: 33_554_433 }),
+            Err(CallRefused::TooLarge { len: 33_554_433 }),
         ),
         27,
     ),
@@ -342,7 +368,7 @@ const LARGEST: &[Step] = &[
         Call::Publish(
             9,
             33_554_433,
-            Err(PublishRefused::TooLarge { len: 33_554_433 }),
+            Err(CallRefused::TooLarge { len: 33_554_433 }),
         ),
         27,
     ),
@@ -363,29 +389,20 @@ const CLOSED: &[Step] = &[
         27,
     ),
     (Call::Publish(1, 1, Ok(1)), 59),
-    (Call::Publish(9, 1, Err(PublishRefused::UnknownChannel)), 59),
+    (Call::Publish(9, 1, Err(CallRefused::UnknownChannel)), 59),
     (Call::Close(2), 59),
+    (Call::Publish(1, 1, Err(CallRefused::Closed { at: 2 })), 59),
+    (Call::Publish(9, 1, Err(CallRefused::Closed { at: 2 })), 59),
     (
-        Call::Publish(1, 1, Err(PublishRefused::Closed { at: 2 })),
+        Call::Declare(NO_PAIRS, false, Err(CallRefused::Closed { at: 2 })),
         59,
     ),
     (
-        Call::Publish(9, 1, Err(PublishRefused::Closed { at: 2 })),
-        59,
-    ),
-    (
-        Call::Declare(NO_PAIRS, false, Err(DeclareRefused::Closed { at: 2 })),
-        59,
-    ),
-    (
-        Call::Declare(NO_PAIRS, true, Err(DeclareRefused::Closed { at: 2 })),
+        Call::Declare(NO_PAIRS, true, Err(CallRefused::Closed { at: 2 })),
         59,
     ),
     (Call::Stop(2), 59),
-    (
-        Call::Publish(1, 1, Err(PublishRefused::Closed { at: 2 })),
-        59,
-    ),
+    (Call::Publish(1, 1, Err(CallRefused::Closed { at: 2 })), 59),
     (Call::Swap(Ok(59)), 0),
     (Call::Swap(Err((Some(End::Closed), 2))), 0),
 ];
@@ -394,14 +411,14 @@ const STOPPED: &[Step] = &[
     (Call::Stop(0), 0),
     (Call::Close(0), 0),
     (
-        Call::Publish(1, 1, Err(PublishRefused::Stopped { at: 0, stop: FAULT })),
+        Call::Publish(1, 1, Err(CallRefused::Stopped { at: 0, stop: FAULT })),
         0,
     ),
     (
         Call::Declare(
             NO_PAIRS,
             false,
-            Err(DeclareRefused::Stopped { at: 0, stop: FAULT }),
+            Err(CallRefused::Stopped { at: 0, stop: FAULT }),
         ),
         0,
     ),
@@ -459,10 +476,7 @@ const SWAP_CLOSE_PUBLISH: &[Step] = &[
     ),
     (Call::Swap(Ok(27)), 0),
     (Call::Close(1), 0),
-    (
-        Call::Publish(1, 1, Err(PublishRefused::Closed { at: 1 })),
-        0,
-    ),
+    (Call::Publish(1, 1, Err(CallRefused::Closed { at: 1 })), 0),
 ];
 
 const CLOSE_PUBLISH_SWAP: &[Step] = &[
@@ -479,10 +493,7 @@ const CLOSE_PUBLISH_SWAP: &[Step] = &[
         27,
     ),
     (Call::Close(1), 27),
-    (
-        Call::Publish(1, 1, Err(PublishRefused::Closed { at: 1 })),
-        27,
-    ),
+    (Call::Publish(1, 1, Err(CallRefused::Closed { at: 1 })), 27),
     (Call::Swap(Ok(27)), 0),
 ];
 
@@ -501,10 +512,7 @@ const CLOSE_SWAP_PUBLISH: &[Step] = &[
     ),
     (Call::Close(1), 27),
     (Call::Swap(Ok(27)), 0),
-    (
-        Call::Publish(1, 1, Err(PublishRefused::Closed { at: 1 })),
-        0,
-    ),
+    (Call::Publish(1, 1, Err(CallRefused::Closed { at: 1 })), 0),
 ];
 
 // What it shows, the limit, and the calls.

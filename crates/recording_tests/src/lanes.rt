@@ -3,11 +3,11 @@ ghost use Rattle.std.specs.Prelude.{◌≡◌};
 ghost use Rattle.feed_lane.specs.PassCalls.{no_calls};
 
 use crate::same::holds;
-use feed_lane::{Cause, FeedEnd, FeedReport, Pass, Refused, publish_feed};
+use feed_lane::{FeedEnd, FeedReport, Pass, Refused, publish_feed};
 use mcap_io::MemorySource;
 use mcap_wire::Memory;
 use rec_data::ChannelDef;
-use record_core::{DeclareRefused, Declared, Found, NewMessage, PublishRefused, declared_size};
+use record_core::{CallRefused, Declared, NewMessage, declared_size};
 use std::alloc::Global;
 use std::test::Fail;
 
@@ -63,56 +63,44 @@ impl Lacking {
 impl Pass for Lacking {
     ghost use Rattle.std.specs.Prelude.{◌≡◌, [], ◌∷◌, ◌++◌, List, false};
     ghost use Rattle.std.proofs.Common.{ap};
-    ghost use Rattle.feed_lane.specs.Pass.{Reason, PassState, for_size};
+    ghost use Rattle.record_core.specs.declared.answers.CallRefused.{CallRefused};
+    ghost use Rattle.record_core.specs.declared.answers.CallRefused.TheVariants.{TooLarge};
+    ghost use Rattle.feed_lane.specs.Pass.{PassState};
     ghost use Rattle.feed_lane.specs.Tapes.{found_when, tape_pass};
 
-    ghost since = { λ begun t now. (reasons : List Reason) × (now ≡ tape_pass [] [] reasons (found_when t.asked 0 0 false)) };
+    ghost since = { λ begun t now. (reasons : List CallRefused) × (now ≡ tape_pass [] [] reasons (found_when t.asked 0 0 false)) };
 
     ghost knows = { λ t schema. Unit {0} };
 
-    fn declare(&mut self, d: &ChannelDef) -> Result<Declared, DeclareRefused> {
+    fn declare(&mut self, d: &ChannelDef) -> Result<Declared, CallRefused> {
         self.declarations = self.declarations.saturating_add(1);
         let len = declared_size(d);
         if len > 1_048_576 {
-            return Err(DeclareRefused::TooLarge { len });
+            return Err(CallRefused::TooLarge { len });
         }
         self.asked = true;
-        Err(DeclareRefused::Memory)
+        Err(CallRefused::Memory)
     }
 
-    fn declare_like(&mut self, d: &ChannelDef) -> Result<Declared, DeclareRefused> {
+    fn declare_like(&mut self, d: &ChannelDef) -> Result<Declared, CallRefused> {
         self.declare(d)
     }
 
-    fn publish(&mut self, m: &NewMessage<'_>) -> Result<u64, PublishRefused> {
+    fn publish(&mut self, m: &NewMessage<'_>) -> Result<u64, CallRefused> {
         let len = m.payload.len() as u64;
         if len > 33_554_432 {
-            return Err(PublishRefused::TooLarge { len });
+            return Err(CallRefused::TooLarge { len });
         }
         self.asked = true;
-        Err(PublishRefused::UnknownChannel)
+        Err(CallRefused::UnknownChannel)
     }
 
-    fn found(&self) -> Option<Found> {
-        if !self.asked {
-            return None;
-        }
-        Some(Found {
-            taken: 0,
-            count: 0,
-            held: 0,
-            schemas: 0,
-            channels: 0,
-            end: None,
-        })
-    }
-
-    ghost refuses_size = { λ begun t before len over shows. (before.reasons ++ for_size len ∷ [], ap (λ (p : PassState). record p { reasons = before.reasons ++ for_size len ∷ [] }) shows.1) };
+    ghost refuses_size = { λ begun t before len over shows. (before.reasons ++ TooLarge len ∷ [], ap (λ (p : PassState). record p { reasons = before.reasons ++ TooLarge len ∷ [] }) shows.1) };
 }
 
 // Whether that message was refused for want of memory.
 fn is_lacking(refused: &Refused, index: u64) -> bool {
-    refused.index == index && matches!(refused.cause, Cause::Memory)
+    refused.index == index && matches!(refused.cause, CallRefused::Memory)
 }
 
 // Whether these are both messages, refused for want of memory.
@@ -145,7 +133,7 @@ fn a_channel_is_declared_again_behind_a_want_of_memory(rt: HostRuntime) -> Resul
 // Whether that message was refused since its channel's records have so many bytes.
 fn is_wide(refused: &Refused, index: u64, bytes: u64) -> bool {
     match refused.cause {
-        Cause::TooLarge { len } => refused.index == index && len == bytes,
+        CallRefused::TooLarge { len } => refused.index == index && len == bytes,
         _ => false,
     }
 }

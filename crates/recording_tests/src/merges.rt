@@ -5,7 +5,7 @@ use crate::recoveries::file;
 use crate::same::{holds, holds_at};
 use mcap_io::{MemoryLive, QuietStore};
 use mcap_merge::{MergeRefused, Merged, merge};
-use mcap_model::ReadingRefused;
+use mcap_model::{ReadingRefused, Rule};
 use mcap_wire::{MAGIC, PairsRef};
 use rec_data::{Channel, DataEnd, Header, Message, Schema};
 use std::alloc::Global;
@@ -225,7 +225,7 @@ fn the_first_input_that_is_cut_short_is_named(rt: HostRuntime) -> Result<(), Fai
             input: 1,
             why: ReadingRefused::Grammar {
                 offset: 25,
-                rule: 4
+                rule: Rule::V4
             }
         })
     );

@@ -3,7 +3,7 @@ use crate::contents::channel;
 use crate::same::holds;
 use buffer_swap::{LanePass, Turn};
 use feed_lane::Pass;
-use record_core::{DeclareRefused, Declared, Desk};
+use record_core::{CallRefused, Declared, Desk};
 use std::alloc::Global;
 use std::sync::Wait;
 use std::test::Fail;
@@ -15,7 +15,7 @@ fn declared<P: Pass>(
     pass: &mut P,
     alloc: Global,
     topic: &str,
-) -> Result<Result<Declared, DeclareRefused>, Fail> {
+) -> Result<Result<Declared, CallRefused>, Fail> {
     if topic.len() > 1000 {
         return Err(Fail::from("such a topic isn't tried"));
     }
@@ -33,7 +33,7 @@ fn runs_out<P: Pass>(pass: &mut P, alloc: Global) -> Result<bool, Fail> {
     }
     let known = declared(pass, alloc, "7")?;
     let more = declared(pass, alloc, "more")?;
-    Ok(known.is_ok() && more == Err(DeclareRefused::TooManyChannels))
+    Ok(known.is_ok() && more == Err(CallRefused::TooManyChannels))
 }
 
 // The same of a publisher's pass. Each Channel has 30 bytes at most, so the buffer doesn't fill.

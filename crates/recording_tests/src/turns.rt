@@ -8,7 +8,7 @@ use mcap_model::{End, Stop};
 use mcap_wire::{Memory, Pairs, Text, take_pairs};
 use rec_data::ChannelDef;
 use record_cache::Cache;
-use record_core::{Desk, NewMessage, PublishRefused};
+use record_core::{CallRefused, Desk, NewMessage};
 use std::alloc::Global;
 use std::sync::Wait;
 use std::sync::atomic::AtomicBool;
@@ -72,8 +72,8 @@ impl Lane<'_> {
         let payload = [self.mark];
         let m = message(channel, sequence, &payload);
         let answer = match self.publisher.try_publish(&m) {
-            Ok(place) => Ok(place),
-            Err(_) => {
+            Some(Ok(place)) => Ok(place),
+            _ => {
                 self.met = self.met.wrapping_add(1);
                 self.publisher.publish_lossless(rt, &m)
             }
@@ -305,7 +305,7 @@ fn publish_and_tell<R: Wait>(
     publisher: &mut Publisher<'_>,
     channel: u16,
     returned: &AtomicBool,
-) -> Result<u64, PublishRefused> {
+) -> Result<u64, CallRefused> {
     let payload = [7];
     let m = message(channel, 1, &payload);
     let answer = publisher.publish_lossless(rt, &m);
@@ -351,7 +351,7 @@ fn woken_by<R: Threads + Wait + Clock + Sync>(
     rt: &R,
     alloc: Global,
     by: Waker,
-) -> Result<Option<Result<u64, PublishRefused>>, Memory> {
+) -> Result<Option<Result<u64, CallRefused>>, Memory> {
     let channel = plain(alloc, "/a")?;
     let desk = Desk::open(alloc, 1)?;
     let mut turn = Turn::open(alloc, desk)?;
@@ -385,7 +385,7 @@ fn alone<R: Wait>(rt: &R, alloc: Global) -> Result<bool, Memory> {
     };
     let payload = [7];
     let m = message(1, 1, &payload);
-    let one = publisher.try_publish(&m) == Ok(1);
+    let one = publisher.try_publish(&m) == Some(Ok(1));
     let two = publisher.publish(rt, &m) == Ok(2);
     let three = publisher.publish_lossless(rt, &m) == Ok(3);
     let spare = Cache::new(alloc, 1000)?;
@@ -394,7 +394,7 @@ fn alone<R: Wait>(rt: &R, alloc: Global) -> Result<bool, Memory> {
         Err(_) => 0,
     };
     let at = control.close(rt);
-    let closed = publisher.publish(rt, &m) == Err(PublishRefused::Closed { at: 4 });
+    let closed = publisher.publish(rt, &m) == Err(CallRefused::Closed { at: 4 });
     control.gather(publisher.end());
     Ok(declared && one && two && three && held == 123 && at == 4 && closed)
 }
@@ -437,7 +437,7 @@ fn one_swap_wakes_a_publisher_that_waits_for_room(rt: HostRuntime) -> Result<(),
 #[test]
 fn a_stop_wakes_a_publisher_that_waits_for_room(rt: HostRuntime) -> Result<(), Fail> {
     let answer = woken_by(&rt, rt.alloc(), Waker::Stop)?;
-    let stopped = PublishRefused::Stopped {
+    let stopped = CallRefused::Stopped {
         at: 1,
         stop: Stop::Memory,
     };
@@ -448,6 +448,6 @@ fn a_stop_wakes_a_publisher_that_waits_for_room(rt: HostRuntime) -> Result<(), F
 #[test]
 fn a_close_wakes_a_publisher_that_waits_for_room(rt: HostRuntime) -> Result<(), Fail> {
     let answer = woken_by(&rt, rt.alloc(), Waker::Close)?;
-    holds(&rt, answer == Some(Err(PublishRefused::Closed { at: 1 })));
+    holds(&rt, answer == Some(Err(CallRefused::Closed { at: 1 })));
     Ok(())
 }

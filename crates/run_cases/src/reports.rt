@@ -1,23 +1,24 @@
 //! What is said of reports that no run brings about.
 use mcap_app::{
-    Cause, End, FeedEnd, FeedReport, Listing, ReadingRefused, Refusals, Refused, Report, Stop,
-    WriterReport,
+    CallRefused, End, FeedEnd, FeedReport, Listing, ReadingRefused, Refusals, Refused, Report,
+    Stop, WriterReport,
 };
 use mcap_io::MemorySink;
 use mcap_wire::Text;
-use record_command::{Failures, answer, print_report};
+use output_base::{FailedParts, complain_of_writing};
+use record_command::{Telling, print_report};
 use std::alloc::{AllocError, Global};
 
-const NO_FAILURE: Failures<'static> = Failures {
-    feeds: &[],
-    every_feed: false,
+const NO_FAILURE: FailedParts<'static> = FailedParts {
+    inputs: &[],
+    every_input: false,
     out: false,
     printing: false,
 };
 
-const FEED_FAILURE: Failures<'static> = Failures {
-    feeds: &[true],
-    every_feed: false,
+const FEED_FAILURE: FailedParts<'static> = FailedParts {
+    inputs: &[true],
+    every_input: false,
     out: false,
     printing: false,
 };
@@ -58,7 +59,7 @@ fn add_feed(
 fn add_feeds(
     alloc: Global,
     feeds: &mut Vec<FeedReport>,
-    cause: Cause,
+    cause: CallRefused,
     is_lacking: bool,
 ) -> Result<(), AllocError> {
     let refused = [Refused { index: 0, cause }, Refused { index: 1, cause }];
@@ -73,7 +74,7 @@ fn add_feeds(
 // A report of these feeds, and of a file that ended so.
 fn report_of(
     alloc: Global,
-    cause: Cause,
+    cause: CallRefused,
     is_lacking: bool,
     end: End,
 ) -> Result<Report, AllocError> {
@@ -101,7 +102,7 @@ fn is_printed(alloc: Global, report: &Report, lines: &str) -> bool {
 fn is_answered(
     alloc: Global,
     report: &Option<Report>,
-    failed: Failures<'_>,
+    failed: FailedParts<'_>,
     status: u8,
     complaints: &str,
 ) -> bool {
@@ -109,15 +110,16 @@ fn is_answered(
         return false;
     };
     let mut err = MemorySink::new(alloc, Vec::new(alloc));
-    answer(&mut err, "OUT", &[feed], report, failed) == status
+    let telling = Telling { report };
+    complain_of_writing(&telling, &[feed], "OUT", failed, &mut err).number() == status
         && err.bytes() == complaints.as_bytes()
 }
 
 // The cause, whether memory lacked for the other feed, the file's end, what failed besides; and what is told.
-type Row = (Cause, bool, End, Failures<'static>, Told);
+type Row = (CallRefused, bool, End, FailedParts<'static>, Told);
 
 // Whether what a row wants is told of the report.
-fn is_told(alloc: Global, report: Report, failed: Failures<'_>, told: &Told) -> bool {
+fn is_told(alloc: Global, report: Report, failed: FailedParts<'_>, told: &Told) -> bool {
     let (status, complaints, lines) = *told;
     is_printed(alloc, &report, lines)
         && is_answered(alloc, &Some(report), failed, status, complaints)
@@ -154,7 +156,7 @@ const NO_MEMORY: &str = "mcaprec: no memory\n";
 
 const FAULT_AND_NO_MEMORY: &str = "mcaprec: \"F\": fault\nmcaprec: no memory\n";
 
-const FULL: Cause = Cause::Full {
+const FULL: CallRefused = CallRefused::Full {
     held: 59,
     from: 0,
     to: 2,
@@ -164,21 +166,21 @@ const CLOSE: End = End::Closed;
 
 const AT_A_LIMIT: End = End::Stopped { stop: LIMIT };
 
-const FOR_A_LIMIT: Cause = Cause::Stopped { at: 2, stop: LIMIT };
+const FOR_A_LIMIT: CallRefused = CallRefused::Stopped { at: 2, stop: LIMIT };
 
 const WITHOUT: End = End::Stopped { stop: Stop::Memory };
 
-const FOR_MEMORY: Cause = Cause::Stopped {
+const FOR_MEMORY: CallRefused = CallRefused::Stopped {
     at: 2,
     stop: Stop::Memory,
 };
 
-const MANY: Cause = Cause::TooManyRecords { count: 7 };
+const MANY: CallRefused = CallRefused::TooManyRecords { count: 7 };
 
 const ROWS: &[Row] = &[
     (FULL, false, CLOSE, NO_FAILURE, (0, "", CLOSED)),
     (
-        Cause::TooManySchemas,
+        CallRefused::TooManySchemas,
         false,
         CLOSE,
         NO_FAILURE,
@@ -193,14 +195,14 @@ const ROWS: &[Row] = &[
         (4, TOO_MUCH, AT_LIMIT),
     ),
     (
-        Cause::Memory,
+        CallRefused::Memory,
         false,
         CLOSE,
         NO_FAILURE,
         (5, NO_MEMORY, CLOSED),
     ),
     (
-        Cause::Memory,
+        CallRefused::Memory,
         false,
         CLOSE,
         FEED_FAILURE,

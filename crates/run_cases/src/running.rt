@@ -2,7 +2,7 @@
 use crate::building::Pieces;
 use crate::cases::{Case, Failing};
 use crate::halt::Halt;
-use mcap_app::{Ended, Report, run};
+use mcap_app::{Exit, Report, run};
 use mcap_io::{MemorySink, MemoryWorld};
 use mcap_wire::Text;
 use std::alloc::AllocGlobal;
@@ -41,7 +41,10 @@ pub(crate) fn run_once(
     fill(&mut world, &case.given)?;
     let mut out = MemorySink::new(alloc, out);
     let mut err = MemorySink::new(alloc, err);
-    let Ended { status, report } = run(rt, words, &mut world, &mut out, &mut err, true);
+    let Exit {
+        number: status,
+        report,
+    } = run(rt, words, &mut world, &mut out, &mut err, true);
     Ok(Ran {
         status,
         report,

@@ -1,5 +1,5 @@
 use Rattle.std.proofs.Common.{◌≡◌, ◌∷◌, ◌++◌, [], ℕ, zero, suc, ◌<◌, ◌⊎◌, false, length, refl, inl, inr, arith}
-use Rattle.feed_lane.specs.Pass.{for_size, for_channel}
+use Rattle.record_core.specs.declared.answers.CallRefused.TheVariants.{TooLarge, UnknownChannel}
 use Rattle.feed_lane.specs.Tapes.{found_now}
 use Rattle.feed_lane.proofs.Tapes.{finds}
 use Rattle.recording_tests.proofs.lanes.LackingPass.publish.Goals as goal
@@ -10,12 +10,12 @@ unknown zero = inl refl
 unknown (suc n) = inr (omega arith)
 
 pub returns-then-len-gt33554432-clause-shows : goal.returns-then-len-gt33554432-clause-shows
-returns-then-len-gt33554432-clause-shows c = λ begun before (reasons, is). rw is (_, (reasons ++ for_size (length c.args.m.now.payload.now) ∷ [], refl), (refl, omega (arith, c.if-len-gt33554432.true), refl))
+returns-then-len-gt33554432-clause-shows c = λ begun before (reasons, is). rw is (_, (reasons ++ TooLarge (length c.args.m.now.payload.now) ∷ [], refl), (refl, omega (arith, c.if-len-gt33554432.true), refl))
 
 pub returns-clause-shows : goal.returns-clause-shows
 returns-clause-shows c = λ begun before (reasons, is). rw is (
   _,
-  (reasons ++ for_channel ∷ [], refl),
+  (reasons ++ UnknownChannel ∷ [], refl),
   (
     found_now 0 0 false,
     omega (arith, c.if-len-gt33554432.false),
