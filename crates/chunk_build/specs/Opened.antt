@@ -5,7 +5,7 @@ use Rattle.mcap_wire.specs.Arrays.{entry_texts}
 use Rattle.mcap_crc.specs.Remainder.{remainder}
 use Rattle.rec_data.specs.declared.owned.Rec.{Rec}
 use Rattle.rec_index.specs.Fields.{ChunkFields}
-use Rattle.rec_index.specs.Records.{chunk_text}
+use Rattle.rec_index.specs.Records.{chunk_opcode, chunk_text}
 use Rattle.mcap_model.specs.declared.block.Block.{Block}
 use Rattle.mcap_model.specs.History.{history_bytes}
 use Rattle.mcap_model.specs.Blocks.{least, greatest, logged, log_times, logged_channels, entries_for}
@@ -85,7 +85,7 @@ with_bytes o bytes = record {
 -- ---- the block that is built of it
 
 pub record IsBuilt (o : Opened) (b : Block) : Type 0 where
-  pub spelled : b.bytes ≡ framed 6 (chunk_text (plain_chunk o.start o.end o.bytes)) ++ rows_bytes o.rows
+  pub spelled : b.bytes ≡ framed chunk_opcode (chunk_text (plain_chunk o.start o.end o.bytes)) ++ rows_bytes o.rows
   pub chunk : b.chunk_length ≡ 49 + length o.bytes
   pub start : b.start_time ≡ o.start
   pub end : b.end_time ≡ o.end

@@ -3,6 +3,7 @@ use Rattle.std.specs.Prelude.{◌≡◌, ℕ, ◌+◌, ◌<◌, ◌≤◌, ◌/�
 use Rattle.std.specs.List.{flat_map}
 use Rattle.mcap_wire.specs.Layout.{le, framed}
 use Rattle.mcap_wire.specs.Writing.{HasRoom}
+use Rattle.rec_index.specs.Records.{message_index_opcode}
 use Rattle.mcap_model.specs.declared.block.IndexPart.{IndexPart}
 use Rattle.mcap_model.specs.Summary.{has_some}
 use Rattle.chunk_build.specs.declared.row.Row.{Row}
@@ -61,7 +62,7 @@ with_entry (row ∷ rows) id entry =
 
 -- the framed Message Index of a row
 abbrev pub row_bytes : ℕ × List ℕ → List ℕ
-row_bytes row = framed 7 (le 2 row.0 ++ (le 4 (length row.1) ++ row.1))
+row_bytes row = framed message_index_opcode (le 2 row.0 ++ (le 4 (length row.1) ++ row.1))
 
 abbrev pub rows_bytes : List (ℕ × List ℕ) → List ℕ
 rows_bytes rows = flat_map row_bytes rows

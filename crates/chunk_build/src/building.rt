@@ -3,7 +3,7 @@ ghost use Rattle.std.specs.Prelude.{◌≡◌, ◌+◌, ◌*◌, ◌^◌, ◌<�
 ghost use Rattle.mcap_wire.specs.Layout.{framed};
 ghost use Rattle.mcap_wire.specs.Limits.{chunk_size_limit};
 ghost use Rattle.mcap_wire.specs.Writing.{HasRoom};
-ghost use Rattle.rec_index.specs.Records.{chunk_text};
+ghost use Rattle.rec_index.specs.Records.{chunk_opcode, chunk_text};
 ghost use Rattle.chunk_build.specs.Rows.{IsRowReady};
 ghost use Rattle.chunk_build.specs.Opened.{plain_chunk, chunk_of_records, with_indexed_message, IsBuilt};
 ghost use Rattle.chunk_build.specs.Building.{chunk_in_memory, IsSound, RowReady, CanClose, IsReady, record_counted, StandsBehind, CanCloseBy, Settles};
@@ -292,7 +292,7 @@ pub(crate) fn settle(
 fn add_chunk_head(head: &mut Vec<u8>, start: u64, end: u64, records: &[u8])
     requires room { HasRoom head.old 49 }
     requires empty { head.old.items ≡ [] }
-    ensures framed { head.new.items ++ records.now ≡ framed 6 (chunk_text (plain_chunk start end records.now)) }
+    ensures framed { head.new.items ++ records.now ≡ framed chunk_opcode (chunk_text (plain_chunk start end records.now)) }
     ensures len { length head.new.items ≡ 49 }
 {
     let len = records.len() as u64;

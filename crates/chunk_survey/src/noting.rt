@@ -1,5 +1,7 @@
 //! Noting where the messages of a record stand.
 ghost use Rattle.std.specs.Prelude.{◌≡◌, ◌+◌, ◌++◌, [], length, OnOk, IfOk};
+ghost use Rattle.rec_data.specs.Records.{message_opcode};
+ghost use Rattle.rec_index.specs.Records.{chunk_opcode};
 ghost use Rattle.mcap_model.specs.Made.{top};
 ghost use Rattle.chunk_survey.specs.Heads.{heads_under, times_in};
 ghost use Rattle.chunk_survey.specs.Spans.{spans_timed, spans_one};
@@ -70,8 +72,8 @@ fn note_message(
     content: &[u8],
 ) -> Result<(), Memory>
     requires { heads.old.items ≡ [] }
-    ensures spans { OnOk result (spans.new.items ≡ spans.old.items ++ spans_one offset (top 5 content.now)) }
-    ensures heads { OnOk result (heads.new.items ≡ heads_under (top 5 content.now)) }
+    ensures spans { OnOk result (spans.new.items ≡ spans.old.items ++ spans_one offset (top message_opcode content.now)) }
+    ensures heads { OnOk result (heads.new.items ≡ heads_under (top message_opcode content.now)) }
 {
     let head = head_alone(content)?;
     let length = place_behind(content.len() as u64, HEAD_LENGTH)?;
@@ -90,8 +92,8 @@ fn note_chunk(
     content: &[u8],
 ) -> Result<(), Memory>
     requires { heads.old.items ≡ [] }
-    ensures spans { OnOk result (spans.new.items ≡ spans.old.items ++ spans_one offset (top 6 content.now)) }
-    ensures heads { OnOk result (heads.new.items ≡ heads_under (top 6 content.now)) }
+    ensures spans { OnOk result (spans.new.items ≡ spans.old.items ++ spans_one offset (top chunk_opcode content.now)) }
+    ensures heads { OnOk result (heads.new.items ≡ heads_under (top chunk_opcode content.now)) }
 {
     let chunk = match Chunk::parse(content) {
         Ok(chunk) => chunk,

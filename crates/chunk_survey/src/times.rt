@@ -1,5 +1,6 @@
 //! The log times of messages, in the order in which they stand.
 ghost use Rattle.std.specs.Prelude.{◌≡◌, ◌∷◌, [], IfOk};
+ghost use Rattle.rec_data.specs.Records.{message_opcode};
 ghost use Rattle.mcap_model.specs.Made.{top};
 ghost use Rattle.chunk_survey.specs.Heads.{heads_one, times_in};
 ghost use Rattle.chunk_survey.specs.Times.{extent_of, with_time};
@@ -43,7 +44,7 @@ const FIELDS_LENGTH: usize = 22;
 
 /// The head of a Message that stands alone. One whose content is cut short has none.
 pub(crate) fn head_alone(content: &[u8]) -> Result<MessageHead, Memory>
-    ensures { IfOk result (λ head. heads_one 0 (top 5 content.now) ≡ head ∷ []) }
+    ensures { IfOk result (λ head. heads_one 0 (top message_opcode content.now) ≡ head ∷ []) }
 {
     if content.len() < FIELDS_LENGTH {
         return Err(Memory);

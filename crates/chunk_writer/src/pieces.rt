@@ -7,7 +7,7 @@ ghost use Rattle.mcap_model.specs.File.{front, data_end, tail_by};
 ghost use Rattle.chunk_writer.specs.Bodies.{SummaryFor, plain_tail};
 
 use crate::body::Body;
-use mcap_wire::{Bytes, MAGIC, Memory, add_bytes, add_head, make_room, put_bytes};
+use mcap_wire::{Bytes, HEAD_LENGTH, MAGIC, Memory, add_bytes, add_head, make_room, put_bytes};
 use rec_data::{DataEnd, Footer, Header};
 use std::alloc::Global;
 
@@ -88,7 +88,7 @@ pub(crate) fn framed_extra(alloc: Global, op: u8, content: &[u8]) -> Result<Byte
     ensures { IfOk result (λ piece. piece ≡ framed op content.now) }
 {
     let mut piece = Vec::new(alloc);
-    make_room(&mut piece, 9 + content.len())?;
+    make_room(&mut piece, HEAD_LENGTH as usize + content.len())?;
     add_head(&mut piece, op, content.len() as u64);
     add_bytes(&mut piece, content);
     Ok(Bytes::new(piece))

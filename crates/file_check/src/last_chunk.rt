@@ -1,5 +1,6 @@
 //! The last chunk and the Message Indexes behind it.
 ghost use Rattle.std.specs.Prelude.{◌≡◌, ◌↔◌, ◌∷◌, ◌++◌, [], true, false, List, OnOk};
+ghost use Rattle.rec_index.specs.Records.{chunk_opcode, message_index_opcode};
 ghost use Rattle.mcap_model.specs.Places.{Each};
 ghost use Rattle.mcap_model.specs.Tops.{Top, inner_tops, offset_behind};
 ghost use Rattle.mcap_model.specs.Fields.{ChunkFields, IsChunk};
@@ -41,8 +42,8 @@ impl LastChunk {
 
     // Whether the chunk lacks a Message Index, now that no more can follow.
     fn lacks_index(&self) -> bool
-        ensures lacks { result ≡ true → (tops more : List Top) (t : Top) → LastOf tops self.now → (t.op ≡ 7 → ⊥) → IndexFails (tops ++ t ∷ more) self.now.offset }
-        ensures keeps { result ≡ false → (tops : List Top) (t : Top) → LastOf tops self.now → (t.op ≡ 7 → ⊥) → Keeps V9 tops → Keeps V9 (tops ++ t ∷ []) }
+        ensures lacks { result ≡ true → (tops more : List Top) (t : Top) → LastOf tops self.now → (t.op ≡ message_index_opcode → ⊥) → IndexFails (tops ++ t ∷ more) self.now.offset }
+        ensures keeps { result ≡ false → (tops : List Top) (t : Top) → LastOf tops self.now → (t.op ≡ message_index_opcode → ⊥) → Keeps V9 tops → Keeps V9 (tops ++ t ∷ []) }
     {
         if !self.is_open {
             return false;
@@ -71,7 +72,7 @@ impl LastChunk {
         offset: u64,
         content: &[u8],
     ) -> Result<Option<u64>, Memory>
-        ensures { (tops : List Top) → LastOf tops self.old → Keeps V9 tops → V6 (top 7 content.now) → offset ≡ offset_behind tops → LastTaken tops (top 7 content.now) self.new result }
+        ensures { (tops : List Top) → LastOf tops self.old → Keeps V9 tops → V6 (top message_index_opcode content.now) → offset ≡ offset_behind tops → LastTaken tops (top message_index_opcode content.now) self.new result }
     {
         if !self.is_open {
             return Ok(Some(offset));
@@ -93,7 +94,7 @@ impl LastChunk {
 
     /// Whether the chunk holds a Message, where it is the last record and its own records keep the rules on contents.
     pub(crate) fn holds_messages(&self) -> bool
-        ensures { (tops : List Top) (t : Top) → LastOf (tops ++ t ∷ []) self.now → t.op ≡ 6 → Each V6 (inner_tops t) → (result ≡ true) ↔ HasMessage (inner_tops t) }
+        ensures { (tops : List Top) (t : Top) → LastOf (tops ++ t ∷ []) self.now → t.op ≡ chunk_opcode → Each V6 (inner_tops t) → (result ≡ true) ↔ HasMessage (inner_tops t) }
     {
         if self.messages.is_empty() {
             return false;

@@ -1,5 +1,6 @@
 //! What Statistics count of Schemas, Channels and Messages.
 ghost use Rattle.std.specs.Prelude.{◌≡◌, ◌+◌, ◌^◌, ◌<◌, ◌∷◌, ◌++◌, [], List, length, filter, OnOk};
+ghost use Rattle.rec_data.specs.Records.{schema_opcode, channel_opcode, message_opcode};
 ghost use Rattle.mcap_model.specs.Tops.{Top, is_flat_kind};
 ghost use Rattle.mcap_model.specs.Rules.{V6};
 ghost use Rattle.mcap_model.specs.Made.{top};
@@ -55,7 +56,7 @@ impl RecordCounts {
     }
 
     fn take_message(&mut self, content: &[u8]) -> Result<(), Memory>
-        ensures { OnOk result ((records : List Top) → CountsOf records self.old → V6 (top 5 content.now) → length records + 1 < 2 ^ 64 → CountsOf (records ++ top 5 content.now ∷ []) self.new) }
+        ensures { OnOk result ((records : List Top) → CountsOf records self.old → V6 (top message_opcode content.now) → length records + 1 < 2 ^ 64 → CountsOf (records ++ top message_opcode content.now ∷ []) self.new) }
     {
         let message = match Message::parse(content) {
             Ok(message) => message,
@@ -70,7 +71,7 @@ impl RecordCounts {
     }
 
     fn take_schema(&mut self, content: &[u8]) -> Result<(), Memory>
-        ensures { OnOk result ((records : List Top) → CountsOf records self.old → V6 (top 3 content.now) → CountsOf (records ++ top 3 content.now ∷ []) self.new) }
+        ensures { OnOk result ((records : List Top) → CountsOf records self.old → V6 (top schema_opcode content.now) → CountsOf (records ++ top schema_opcode content.now ∷ []) self.new) }
     {
         match Schema::parse(content) {
             Ok(schema) => return self.schemas.add_once(schema.id),
@@ -79,7 +80,7 @@ impl RecordCounts {
     }
 
     fn take_channel(&mut self, content: &[u8]) -> Result<(), Memory>
-        ensures { OnOk result ((records : List Top) → CountsOf records self.old → V6 (top 4 content.now) → CountsOf (records ++ top 4 content.now ∷ []) self.new) }
+        ensures { OnOk result ((records : List Top) → CountsOf records self.old → V6 (top channel_opcode content.now) → CountsOf (records ++ top channel_opcode content.now ∷ []) self.new) }
     {
         match Channel::parse(content) {
             Ok(channel) => return self.channels.add_once(channel.id),

@@ -1,6 +1,6 @@
 //! The Message Indexes behind a chunk.
 ghost use Rattle.std.specs.Prelude.{◌≡◌, ◌↔◌, ◌∷◌, ◌++◌, ℕ, List, length, IfOk, IsTrue};
-ghost use Rattle.rec_index.specs.Records.{ShowsMessageIndex};
+ghost use Rattle.rec_index.specs.Records.{message_index_opcode, ShowsMessageIndex};
 ghost use Rattle.mcap_model.specs.Tops.{Top};
 ghost use Rattle.mcap_model.specs.Whole.{BelongsTo, IsIndexed};
 ghost use Rattle.mcap_model.specs.Made.{top};
@@ -22,7 +22,7 @@ pub fn is_index_right(
     index: &MessageIndex<'_>,
 ) -> Result<bool, Memory>
     ensures { IfOk result (λ right. (before : List Top) (content : List ℕ) → IsChunkOpen before messages.now channels.now → ShowsMessageIndex content index.now.channel_id index.now.entries
-        → IsTrue right ↔ BelongsTo before (top 7 content)) }
+        → IsTrue right ↔ BelongsTo before (top message_index_opcode content)) }
 {
     if channels.has(index.channel_id) {
         return Ok(false);
@@ -33,7 +33,7 @@ pub fn is_index_right(
 /// Whether a chunk with these Messages has the Message Indexes that it needs, where those behind it are those of these
 /// channels, and a record of another kind follows: there is none, or each channel with a Message in the chunk has one.
 pub fn has_indexes(messages: &ChunkMessages, channels: &Ids) -> bool
-    ensures { (before after : List Top) (t : Top) (o : IsChunkOpen before messages.now channels.now) → (t.op ≡ 7 → ⊥)
+    ensures { (before after : List Top) (t : Top) (o : IsChunkOpen before messages.now channels.now) → (t.op ≡ message_index_opcode → ⊥)
         → IsTrue result ↔ IsIndexed (before ++ t ∷ after) (length o.others) o.chunk }
 {
     if channels.is_empty() {

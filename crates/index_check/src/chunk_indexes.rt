@@ -1,7 +1,7 @@
 //! Chunk Indexes.
 ghost use Rattle.std.specs.Prelude.{◌≡◌, ◌↔◌, ◌<◌, ◌+◌, ◌^◌, ◌++◌, ◌∷◌, [], ℕ, suc, false, List, length as size, true, IsTrue, OnOk};
 ghost use Rattle.rec_index.specs.Parsed.{chunk_fields, chunk_index_fields};
-ghost use Rattle.rec_index.specs.Records.{ShowsChunk, ShowsMessageIndex};
+ghost use Rattle.rec_index.specs.Records.{chunk_opcode, message_index_opcode, ShowsChunk, ShowsMessageIndex};
 ghost use Rattle.mcap_model.specs.Places.{At, Has, Each};
 ghost use Rattle.mcap_model.specs.Tops.{Top, inner_tops, top_bytes, offset_behind};
 ghost use Rattle.mcap_model.specs.Fields.{IsChunkIndex};
@@ -267,8 +267,8 @@ impl Chunks {
         messages: bool,
     ) -> Result<(), Memory>
         requires { Each (λ s. s.offset < offset) self.old.spots }
-        ensures kept { OnOk result ((tops : List Top) (content : List ℕ) → ChunksOf tops self.old → offset ≡ offset_behind tops → length ≡ size (top_bytes (top 6 content)) → ShowsChunk content (chunk_fields chunk.now)
-            → chunk.now.compression.now ≡ [] → chunk.now.uncompressed_size ≡ size chunk.now.records.now → (messages ≡ true) ↔ HasMessage (inner_tops (top 6 content)) → ChunksOf (tops ++ top 6 content ∷ []) self.new) }
+        ensures kept { OnOk result ((tops : List Top) (content : List ℕ) → ChunksOf tops self.old → offset ≡ offset_behind tops → length ≡ size (top_bytes (top chunk_opcode content)) → ShowsChunk content (chunk_fields chunk.now)
+            → chunk.now.compression.now ≡ [] → chunk.now.uncompressed_size ≡ size chunk.now.records.now → (messages ≡ true) ↔ HasMessage (inner_tops (top chunk_opcode content)) → ChunksOf (tops ++ top chunk_opcode content ∷ []) self.new) }
         ensures unnamed { OnOk result (self.new.spots ≡ self.old.spots ++ spot offset false ∷ []) }
     {
         match self.spots.add(offset) {
@@ -297,8 +297,8 @@ impl Chunks {
         length: u64,
         index: &MessageIndex<'_>,
     ) -> Result<(), Memory>
-        ensures kept { OnOk result ((tops : List Top) (content : List ℕ) → ChunksOf tops self.old → EndsWithChunk tops → offset ≡ offset_behind tops → offset + length < 2 ^ 64 → length ≡ size (top_bytes (top 7 content))
-            → ShowsMessageIndex content index.now.channel_id index.now.entries → ChunksOf (tops ++ top 7 content ∷ []) self.new) }
+        ensures kept { OnOk result ((tops : List Top) (content : List ℕ) → ChunksOf tops self.old → EndsWithChunk tops → offset ≡ offset_behind tops → offset + length < 2 ^ 64 → length ≡ size (top_bytes (top message_index_opcode content))
+            → ShowsMessageIndex content index.now.channel_id index.now.entries → ChunksOf (tops ++ top message_index_opcode content ∷ []) self.new) }
         ensures spots { self.new.spots ≡ self.old.spots }
     {
         let count = self.notes.len();
@@ -329,7 +329,7 @@ impl Chunks {
 
     /// Whether the chunk at that offset holds a Message.
     pub fn holds_messages(&self, offset: u64) -> bool
-        ensures { (tops : List Top) (n : ℕ) (t : Top) → ChunksOf tops self.now → At tops n t → t.op ≡ 6 → offset ≡ offset_of tops n → IsTrue result ↔ HasMessage (inner_tops t) }
+        ensures { (tops : List Top) (n : ℕ) (t : Top) → ChunksOf tops self.now → At tops n t → t.op ≡ chunk_opcode → offset ≡ offset_of tops n → IsTrue result ↔ HasMessage (inner_tops t) }
     {
         match self.spots.place_of(offset) {
             None => return false,

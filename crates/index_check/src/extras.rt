@@ -1,6 +1,6 @@
 //! The indexes of Attachments and of Metadata.
 ghost use Rattle.std.specs.Prelude.{◌≡◌, ◌↔◌, ◌<◌, ◌++◌, ◌∷◌, [], ℕ, suc, false, List, length as size, IsTrue, OnOk};
-ghost use Rattle.rec_data.specs.Records.{ShowsAttachment, ShowsMetadata};
+ghost use Rattle.rec_data.specs.Records.{attachment_opcode, metadata_opcode, ShowsAttachment, ShowsMetadata};
 ghost use Rattle.rec_data.specs.Parsed.{attachment_fields};
 ghost use Rattle.rec_index.specs.Parsed.{attachment_index_fields, metadata_index_fields};
 ghost use Rattle.mcap_model.specs.Places.{At, Each};
@@ -118,8 +118,8 @@ impl Attachments {
         attachment: &Attachment<'_>,
     ) -> Result<(), Memory>
         requires { Each (λ s. s.offset < offset) self.old.spots }
-        ensures kept { OnOk result ((tops : List Top) (content : List ℕ) → AttachmentsOf tops self.old → offset ≡ offset_behind tops → length ≡ size (top_bytes (top 9 content)) → ShowsAttachment content (attachment_fields attachment.now)
-            → AttachmentsOf (tops ++ top 9 content ∷ []) self.new) }
+        ensures kept { OnOk result ((tops : List Top) (content : List ℕ) → AttachmentsOf tops self.old → offset ≡ offset_behind tops → length ≡ size (top_bytes (top attachment_opcode content)) → ShowsAttachment content (attachment_fields attachment.now)
+            → AttachmentsOf (tops ++ top attachment_opcode content ∷ []) self.new) }
         ensures unnamed { OnOk result (self.new.spots ≡ self.old.spots ++ spot offset false ∷ []) }
     {
         let Ok(name) = Text::copied(alloc, attachment.name) else {
@@ -178,8 +178,8 @@ impl MetadataList {
         metadata: &Metadata<'_>,
     ) -> Result<(), Memory>
         requires { Each (λ s. s.offset < offset) self.old.spots }
-        ensures kept { OnOk result ((tops : List Top) (content : List ℕ) → MetadataOf tops self.old → offset ≡ offset_behind tops → length ≡ size (top_bytes (top 12 content)) → ShowsMetadata content (record { name = metadata.now.name.now; metadata = metadata.now.metadata })
-            → MetadataOf (tops ++ top 12 content ∷ []) self.new) }
+        ensures kept { OnOk result ((tops : List Top) (content : List ℕ) → MetadataOf tops self.old → offset ≡ offset_behind tops → length ≡ size (top_bytes (top metadata_opcode content)) → ShowsMetadata content (record { name = metadata.now.name.now; metadata = metadata.now.metadata })
+            → MetadataOf (tops ++ top metadata_opcode content ∷ []) self.new) }
         ensures unnamed { OnOk result (self.new.spots ≡ self.old.spots ++ spot offset false ∷ []) }
     {
         let Ok(name) = Text::copied(alloc, metadata.name) else {

@@ -1,6 +1,7 @@
 -- What the Chunk Indexes of a summary add to a replay, and the Channels that are known.
 use Rattle.std.specs.Prelude.{◌≡◌, ◌⊎◌, ℕ, ◌+◌, ◌<◌, ◌≤◌, List, length, Option, Some, Result, Ok, Err}
 use Rattle.mcap_io.specs.Stores.{StoreState}
+use Rattle.rec_data.specs.Records.{channel_opcode}
 use Rattle.mcap_model.specs.declared.replay.Shown.{Shown}
 use Rattle.mcap_model.specs.declared.table.Declared.{Declared}
 use Rattle.mcap_model.specs.Places.{At, Has}
@@ -35,7 +36,7 @@ pub record IsFirstChannel (tops : List Top) (count id : ℕ) (topic : List ℕ) 
 -- the first Channels of the ids among the first so many records
 pub record FirstChannels (tops : List Top) (count : ℕ) (channels : List Declared) : Type 0 where
   pub declare : DeclareChannels channels
-  pub first : (k : ℕ) (d : Declared) (f : ChannelFields) → At channels k d → IsChannel (top 4 d.content) d.id f → IsFirstChannel tops count d.id f.topic
+  pub first : (k : ℕ) (d : Declared) (f : ChannelFields) → At channels k d → IsChannel (top channel_opcode d.content) d.id f → IsFirstChannel tops count d.id f.topic
   pub covers : (n : ℕ) (t : Top) (id : ℕ) (f : ChannelFields) → n < count → At tops n t → IsChannel t id f → (k : ℕ) × (d : Declared) × At channels k d × (d.id ≡ id)
 
 -- with the Channel at that place they are those up to there

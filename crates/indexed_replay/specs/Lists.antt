@@ -1,6 +1,7 @@
 -- What a Message Index adds to a replay.
 use Rattle.std.specs.Prelude.{◌≡◌, ◌⊎◌, ℕ, ◌+◌, ◌≤◌, List, length, Bool, true, false, Option, Some, Result, Ok, Err}
 use Rattle.mcap_io.specs.Stores.{StoreState}
+use Rattle.rec_data.specs.Records.{channel_opcode}
 use Rattle.rec_index.specs.Records.{ShowsMessageIndex}
 use Rattle.mcap_model.specs.declared.replay.Range.{Range}
 use Rattle.mcap_model.specs.declared.replay.Shown.{Shown}
@@ -34,7 +35,7 @@ pub record IsWantedChannel (channels : List Declared) (channel : ℕ) (topic : O
   pub shown : ChannelFields
   pub at : At channels place declared
   pub id_is : declared.id ≡ channel
-  pub is : IsChannel (top 4 declared.content) channel shown
+  pub is : IsChannel (top channel_opcode declared.content) channel shown
   pub on_topic : OnTopic topic shown.topic
 
 -- none of that id was declared
@@ -47,7 +48,7 @@ pub record KnowsSummaryChannels (file : List ℕ) (channels : List Declared) : T
   pub summary : List Top
   pub has : HasSummary file start summary
   pub declare : DeclareChannels channels
-  pub first : (k : ℕ) (d : Declared) (f : ChannelFields) → At channels k d → IsChannel (top 4 d.content) d.id f → FirstTopic summary d.id f.topic
+  pub first : (k : ℕ) (d : Declared) (f : ChannelFields) → At channels k d → IsChannel (top channel_opcode d.content) d.id f → FirstTopic summary d.id f.topic
   pub covers : (t : Top) (id : ℕ) (f : ChannelFields) → Has summary t → IsChannel t id f → (k : ℕ) × (d : Declared) × At channels k d × (d.id ≡ id)
 
 -- ---- entries

@@ -199,7 +199,7 @@ pub record CountsDiffer (file : List ℕ) (stated found : ℕ) : Type 0 where
   pub summary : List Top
   pub has : HasSummary file start summary
   pub statistics : Top
-  pub first : first_of_kind 11 summary ≡ Some statistics
+  pub first : first_of_kind statistics_opcode summary ≡ Some statistics
   pub shown : StatisticsFields
   pub is : IsStatistics statistics shown
   pub stated_is : stated ≡ shown.chunks

@@ -1,6 +1,6 @@
 -- What a replay by the index comes to.
 use Rattle.std.specs.Prelude.{◌≡◌, ℕ, List, length, Option, Some, Result, Ok, Err}
-use Rattle.rec_index.specs.Records.{chunk_index_opcode}
+use Rattle.rec_index.specs.Records.{chunk_index_opcode, statistics_opcode}
 use Rattle.mcap_io.specs.Outside.{RisesOnce}
 use Rattle.mcap_model.specs.declared.replay.Range.{Range}
 use Rattle.mcap_model.specs.declared.replay.Replayed.{Replayed}
@@ -57,7 +57,7 @@ pub record StatesChunks (file : List ℕ) : Type 0 where
   pub summary : List Top
   pub has : HasSummary file start summary
   pub statistics : Top
-  pub first : first_of_kind 11 summary ≡ Some statistics
+  pub first : first_of_kind statistics_opcode summary ≡ Some statistics
   pub shown : StatisticsFields
   pub is : IsStatistics statistics shown
   pub agree : shown.chunks ≡ length (of_kind chunk_index_opcode summary)

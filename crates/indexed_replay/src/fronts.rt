@@ -5,7 +5,7 @@ ghost use Rattle.summary_read.specs.Steps.{AsksAtMost};
 ghost use Rattle.indexed_replay.specs.Steps.{RecordLiesWithin, TellsRecordFront};
 
 use mcap_io::{Failed, Store};
-use mcap_wire::{CONTENT_LIMIT, Head, take_head};
+use mcap_wire::{CONTENT_LIMIT, HEAD_LENGTH, Head, take_head};
 
 /// What stands at an offset.
 #[derive(Clone, Copy)]
@@ -46,10 +46,10 @@ pub(crate) fn read_front<T: Store>(
         Err(_) => return Ok(Front::Absent),
     };
     let rest = len - at;
-    if head.len > rest - 9 {
+    if head.len > rest - HEAD_LENGTH {
         return Ok(Front::Absent);
     }
-    if head.len < size - 9 {
+    if head.len < size - HEAD_LENGTH {
         return Ok(Front::Absent);
     }
     if head.len > CONTENT_LIMIT {

@@ -15,7 +15,7 @@ use crate::fronts::{Front, read_front};
 use crate::spots::{Request, Spot};
 use mcap_io::{Failed, OutsideRefused, Store, read_part};
 use mcap_model::{IndexedRefused, NotIndexed, Range, ReadingRefused, Rule, Tables, is_within};
-use mcap_wire::{EntriesRef, Text};
+use mcap_wire::{EntriesRef, HEAD_LENGTH, Text};
 use rec_data::Channel;
 use rec_index::{MESSAGE_INDEX, MessageIndex};
 use std::alloc::Global;
@@ -51,7 +51,7 @@ fn read_list<T: Store>(
     if head.op != MESSAGE_INDEX {
         return Ok(None);
     }
-    match read_part(alloc, store, at + 9, head.len) {
+    match read_part(alloc, store, at + HEAD_LENGTH, head.len) {
         Ok(content) => return Ok(Some(content)),
         Err(OutsideRefused::Failed) => {
             return Err(ReadingRefused::Fault {

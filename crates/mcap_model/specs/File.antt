@@ -1,7 +1,7 @@
 -- The file of a history.
 use Rattle.std.specs.Prelude.{◌≡◌, ℕ, zero, suc, ◌+◌, List, [], ◌∷◌, ◌++◌, length, codes, Option, Some, None}
 use Rattle.mcap_wire.specs.Layout.{framed, magic}
-use Rattle.rec_data.specs.Records.{header_text, data_end_text, footer_text}
+use Rattle.rec_data.specs.Records.{header_opcode, footer_opcode, data_end_opcode, header_text, data_end_text, footer_text}
 use Rattle.rec_data.specs.declared.owned.Rec.{Rec}
 use Rattle.mcap_model.specs.declared.options.FileOptions.{FileOptions}
 use Rattle.mcap_model.specs.Tops.{Top, top_bytes, spelled}
@@ -13,10 +13,10 @@ library = codes "mcaprec 1"
 
 -- the magic and the Header
 unfoldable pub front : List ℕ → List ℕ
-front profile = magic ++ framed 1 (header_text (record { profile = profile; library = library }))
+front profile = magic ++ framed header_opcode (header_text (record { profile = profile; library = library }))
 
 unfoldable pub data_end : List ℕ
-data_end = framed 15 (data_end_text 0)
+data_end = framed data_end_opcode (data_end_text 0)
 
 -- ---- the file
 
@@ -48,7 +48,7 @@ noted options extras history = record {
 
 -- what stands behind the Data End: without a chunk size a Footer that names no summary
 abbrev pub tail_by : Option ℕ → Noted → ℕ → List ℕ
-tail_by None n at = framed 2 (footer_text (footer_of_offsets 0 0 0)) ++ magic
+tail_by None n at = framed footer_opcode (footer_text (footer_of_offsets 0 0 0)) ++ magic
 tail_by (Some size) n at = summary_text n at
 
 -- the file of these options, of these extras and of this history

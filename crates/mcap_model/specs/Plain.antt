@@ -6,7 +6,7 @@ use Rattle.mcap_wire.specs.declared.faults.Cut.{Cut}
 use Rattle.mcap_wire.specs.declared.faults.CutFault.{CutFault}
 use Rattle.mcap_wire.specs.declared.faults.CutFault.TheVariants as cut_faults
 use Rattle.mcap_wire.specs.Layout.{part}
-use Rattle.rec_data.specs.Records.{message_opcode}
+use Rattle.rec_data.specs.Records.{channel_opcode, message_opcode}
 use Rattle.mcap_model.specs.declared.replay.Place.{Place}
 use Rattle.mcap_model.specs.declared.replay.Range.{Range}
 use Rattle.mcap_model.specs.declared.replay.Shown.{Shown}
@@ -122,12 +122,12 @@ pub record HasDeclaredTopic (channels : List Declared) (id : ℕ) (topic : List 
   pub shown : ChannelFields
   pub at : At channels place declared
   pub id_is : declared.id ≡ id
-  pub is : IsChannel (top 4 declared.content) id shown
+  pub is : IsChannel (top channel_opcode declared.content) id shown
   pub topic_is : shown.topic ≡ topic
 
 -- what is declared are Channels, of one content for each id
 pub record DeclareChannels (channels : List Declared) : Type 0 where
-  pub are : (k : ℕ) (d : Declared) → At channels k d → (f : ChannelFields) × IsChannel (top 4 d.content) d.id f
+  pub are : (k : ℕ) (d : Declared) → At channels k d → (f : ChannelFields) × IsChannel (top channel_opcode d.content) d.id f
   pub apart : (j k : ℕ) (d e : Declared) → At channels j d → At channels k e → d.id ≡ e.id → d ≡ e
 
 -- the topic of the channel of that id, which was declared, is added

@@ -6,9 +6,9 @@ use Rattle.mcap_crc.specs.Remainder.{remainder}
 use Rattle.rec_data.specs.declared.owned.Rec.{Rec}
 use Rattle.rec_data.specs.Owned.{rec_text}
 use Rattle.rec_data.specs.Fields.{FooterFields}
-use Rattle.rec_data.specs.Records.{footer_text, schema_opcode, channel_opcode, attachment_opcode, metadata_opcode}
+use Rattle.rec_data.specs.Records.{footer_opcode, footer_text, schema_opcode, channel_opcode, attachment_opcode, metadata_opcode}
 use Rattle.rec_index.specs.Fields.{ChunkIndexFields, StatisticsFields, SummaryOffsetFields}
-use Rattle.rec_index.specs.Records.{chunk_index_text, attachment_index_text, statistics_text, metadata_index_text, summary_offset_text, chunk_index_opcode, attachment_index_opcode, statistics_opcode, metadata_index_opcode}
+use Rattle.rec_index.specs.Records.{summary_offset_opcode, chunk_index_text, attachment_index_text, statistics_text, metadata_index_text, summary_offset_text, chunk_index_opcode, attachment_index_opcode, statistics_opcode, metadata_index_opcode}
 use Rattle.mcap_model.specs.Tops.{Top, top_bytes}
 use Rattle.mcap_model.specs.History.{is_schema, is_channel, history_bytes, without_repeats}
 use Rattle.mcap_model.specs.Blocks.{least, greatest, logged, log_times, logged_channels, index_bytes, indexes_bytes, chunk_bytes}
@@ -137,7 +137,7 @@ footer_of_offsets summary offsets crc = record { summary_start = summary; summar
 unfoldable pub summary_text : Noted → ℕ → List ℕ
 summary_text n at =
     let groups = flat_map group_bytes (groups_of n) in
-    let offsets = flat_map (framed 14) (offset_contents at (groups_of n)) in
+    let offsets = flat_map (framed summary_offset_opcode) (offset_contents at (groups_of n)) in
     let behind = at + length groups in
-    let front = take 25 (framed 2 (footer_text (footer_of_offsets at behind 0))) in
-    groups ++ (offsets ++ (framed 2 (footer_text (footer_of_offsets at behind (remainder (groups ++ (offsets ++ front))))) ++ magic))
+    let front = take 25 (framed footer_opcode (footer_text (footer_of_offsets at behind 0))) in
+    groups ++ (offsets ++ (framed footer_opcode (footer_text (footer_of_offsets at behind (remainder (groups ++ (offsets ++ front))))) ++ magic))

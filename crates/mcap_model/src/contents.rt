@@ -1,5 +1,7 @@
 //! Contents that are judged by themselves.
 ghost use Rattle.std.specs.Prelude.{◌≡◌, ◌↔◌, ℕ, List, IsTrue};
+ghost use Rattle.rec_data.specs.Records.{header_opcode, metadata_opcode, data_end_opcode};
+ghost use Rattle.rec_index.specs.Records.{message_index_opcode};
 ghost use Rattle.mcap_model.specs.Fields.{IsHeader, IsDataEnd, IsMetadata, IsMessageIndex};
 ghost use Rattle.mcap_model.specs.Declarations.{AttachmentJudged};
 ghost use Rattle.mcap_model.specs.Made.{top};
@@ -11,7 +13,7 @@ use rec_index::MessageIndex;
 
 /// Whether the content is that of a Header.
 pub(crate) fn is_header(content: &[u8]) -> bool
-    ensures { IsTrue result ↔ IsHeader (top 1 content.now) }
+    ensures { IsTrue result ↔ IsHeader (top header_opcode content.now) }
 {
     match Header::parse(content) {
         Ok(_) => return true,
@@ -21,7 +23,7 @@ pub(crate) fn is_header(content: &[u8]) -> bool
 
 /// Whether the content is that of a Data End.
 pub(crate) fn is_data_end(content: &[u8]) -> bool
-    ensures { IsTrue result ↔ IsDataEnd (top 15 content.now) }
+    ensures { IsTrue result ↔ IsDataEnd (top data_end_opcode content.now) }
 {
     match DataEnd::parse(content) {
         Ok(_) => return true,
@@ -31,7 +33,7 @@ pub(crate) fn is_data_end(content: &[u8]) -> bool
 
 /// Whether the content is that of a Metadata.
 pub(crate) fn is_metadata(content: &[u8]) -> bool
-    ensures { IsTrue result ↔ ((name : List ℕ) × (pairs : List (List ℕ × List ℕ)) × IsMetadata (top 12 content.now) name pairs) }
+    ensures { IsTrue result ↔ ((name : List ℕ) × (pairs : List (List ℕ × List ℕ)) × IsMetadata (top metadata_opcode content.now) name pairs) }
 {
     match Metadata::parse(content) {
         Ok(_) => return true,
@@ -41,7 +43,7 @@ pub(crate) fn is_metadata(content: &[u8]) -> bool
 
 /// Whether the content is that of a Message Index.
 pub(crate) fn is_message_index(content: &[u8]) -> bool
-    ensures { IsTrue result ↔ ((channel : ℕ) × (entries : List (ℕ × ℕ)) × IsMessageIndex (top 7 content.now) channel entries) }
+    ensures { IsTrue result ↔ ((channel : ℕ) × (entries : List (ℕ × ℕ)) × IsMessageIndex (top message_index_opcode content.now) channel entries) }
 {
     match MessageIndex::parse(content) {
         Ok(_) => return true,

@@ -3,6 +3,7 @@ ghost use Rattle.std.specs.Prelude.{◌≡◌, ◌↔◌, ℕ, List, IsTrue, IfO
 ghost use Rattle.mcap_model.specs.Fields.{SchemaFields, IsSchema, ChannelFields, IsChannel, SameChannel};
 ghost use Rattle.mcap_wire.specs.Maps.{KeysAscend};
 ghost use Rattle.rec_data.specs.Parsed.{schema_fields, channel_fields};
+ghost use Rattle.rec_data.specs.Records.{schema_opcode, channel_opcode};
 ghost use Rattle.mcap_model.specs.Made.{top};
 ghost use Rattle.mcap_model.specs.WantsOfMemory.{SameButMetadata};
 
@@ -21,7 +22,7 @@ fn has_fields(first: &Schema<'_>, schema: &Schema<'_>) -> bool
 
 /// Whether the content shows a Schema with the fields of this one.
 pub(crate) fn is_same_schema(content: &[u8], schema: &Schema<'_>) -> bool
-    ensures { (id : ℕ) (f : SchemaFields) → IsSchema (top 3 content.now) id f → IsTrue result ↔ (f ≡ schema_fields schema.now) }
+    ensures { (id : ℕ) (f : SchemaFields) → IsSchema (top schema_opcode content.now) id f → IsTrue result ↔ (f ≡ schema_fields schema.now) }
 {
     match Schema::parse(content) {
         Ok(first) => return has_fields(&first, schema),
@@ -85,8 +86,8 @@ pub(crate) fn is_same_channel(
     content: &[u8],
     channel: &Channel<'_>,
 ) -> Result<bool, Memory>
-    ensures same { IfOk result (λ same. (id : ℕ) (f : ChannelFields) → IsChannel (top 4 content.now) id f → IsTrue same ↔ SameChannel f (channel_fields channel.now)) }
-    ensures lacks { IfErr result (λ memory. (id : ℕ) (f : ChannelFields) → IsChannel (top 4 content.now) id f → SameButMetadata f (channel_fields channel.now)) }
+    ensures same { IfOk result (λ same. (id : ℕ) (f : ChannelFields) → IsChannel (top channel_opcode content.now) id f → IsTrue same ↔ SameChannel f (channel_fields channel.now)) }
+    ensures lacks { IfErr result (λ memory. (id : ℕ) (f : ChannelFields) → IsChannel (top channel_opcode content.now) id f → SameButMetadata f (channel_fields channel.now)) }
 {
     match Channel::parse(content) {
         Ok(first) => {

@@ -1,5 +1,6 @@
 //! What a scanner knows of the declarations so far.
 ghost use Rattle.std.specs.Prelude.{◌≡◌, ◌⊎◌, ◌↔◌, ℕ, List, [], IsTrue, Some, None};
+ghost use Rattle.rec_data.specs.Records.{schema_opcode, channel_opcode, message_opcode};
 ghost use Rattle.mcap_model.specs.Tops.{Top};
 ghost use Rattle.mcap_model.specs.Declarations.{TakesDeclaration, TablesOf, Hears, SomeFirst};
 ghost use Rattle.mcap_model.specs.Made.{top};
@@ -40,7 +41,7 @@ impl Tables {
 
     /// Takes a Schema.
     pub fn take_schema(&mut self, alloc: Global, content: &[u8]) -> Ruling
-        ensures { TakesDeclaration self.old self.new (top 3 content.now) result }
+        ensures { TakesDeclaration self.old self.new (top schema_opcode content.now) result }
     {
         let schema = match Schema::parse(content) {
             Ok(schema) => schema,
@@ -75,7 +76,7 @@ impl Tables {
 
     /// Takes a Channel.
     pub fn take_channel(&mut self, alloc: Global, content: &[u8]) -> Ruling
-        ensures { TakesDeclaration self.old self.new (top 4 content.now) result }
+        ensures { TakesDeclaration self.old self.new (top channel_opcode content.now) result }
     {
         let channel = match Channel::parse(content) {
             Ok(channel) => channel,
@@ -104,7 +105,7 @@ impl Tables {
 
     /// The log time of a Message, or the rule that it breaks.
     pub(crate) fn take_message(&self, content: &[u8]) -> Result<u64, Rule>
-        ensures { (records : List Top) → TablesOf records self.now → Hears records (top 5 content.now) result }
+        ensures { (records : List Top) → TablesOf records self.now → Hears records (top message_opcode content.now) result }
     {
         let message = match Message::parse(content) {
             Ok(message) => message,

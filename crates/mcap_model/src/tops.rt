@@ -1,5 +1,6 @@
 //! Records of the top level behind those before them.
 ghost use Rattle.std.specs.Prelude.{◌≡◌, ◌∷◌, List};
+ghost use Rattle.rec_index.specs.Records.{chunk_opcode};
 ghost use Rattle.mcap_model.specs.Tops.{Top, flat};
 ghost use Rattle.mcap_model.specs.Rules.{HasDataEnd};
 ghost use Rattle.mcap_model.specs.Declarations.{TablesOf};
@@ -56,7 +57,7 @@ pub fn judge_first<'a>(op: u8, content: &'a [u8]) -> Judged<'a>
 
 // Judges a chunk.
 fn judge_chunk<'a>(alloc: Global, tables: &mut Tables, content: &'a [u8]) -> Judged<'a>
-    ensures { (first : Top) (more : List Top) → TablesOf (flat (first ∷ more)) tables.old → JudgedAs (first ∷ more) (top 6 content.now) tables.new result }
+    ensures { (first : Top) (more : List Top) → TablesOf (flat (first ∷ more)) tables.old → JudgedAs (first ∷ more) (top chunk_opcode content.now) tables.new result }
 {
     let chunk = match Chunk::parse(content) {
         Ok(chunk) => chunk,

@@ -3,6 +3,7 @@ ghost use Rattle.std.specs.Prelude.{◌≡◌, ◌+◌, ◌∷◌, [], ℕ, List
 ghost use Rattle.mcap_wire.specs.Layout.{framed};
 ghost use Rattle.rec_data.specs.declared.owned.Rec.{Rec};
 ghost use Rattle.mcap_io.specs.Outside.{LiveState};
+ghost use Rattle.rec_data.specs.Records.{schema_opcode, channel_opcode, message_opcode};
 ghost use Rattle.mcap_model.specs.Tops.{Top};
 ghost use Rattle.mcap_model.specs.Made.{top};
 ghost use Rattle.mcap_model.specs.History.{is_message};
@@ -19,7 +20,7 @@ use chunk_writer::Scribe;
 use indexmap::IndexSet;
 use mcap_io::LiveStore;
 use mcap_model::Stop;
-use mcap_wire::{add_bytes, add_head, make_room};
+use mcap_wire::{HEAD_LENGTH, add_bytes, add_head, make_room};
 use rec_data::{ATTACHMENT, CHANNEL, Channel, MESSAGE, METADATA, Message, SCHEMA, Schema};
 use std::alloc::Global;
 
@@ -57,8 +58,8 @@ fn put<L: LiveStore>(k: &mut Keeping<L>, framed: &[u8]) -> Result<(), Stop>
 // Keeps the Message that the bytes frame.
 fn keep_message<L: LiveStore>(k: &mut Keeping<L>, bytes: &[u8], content: &[u8]) -> Result<(), Stop>
     requires going { phase_of k.old.scribe ≡ phases.Going }
-    requires is { bytes.now ≡ framed 5 content.now }
-    ensures takes { AddsFlatRecords L.state k.old k.new (top 5 content.now ∷ []) }
+    requires is { bytes.now ≡ framed message_opcode content.now }
+    ensures takes { AddsFlatRecords L.state k.old k.new (top message_opcode content.now ∷ []) }
     ensures goes_on { OnOk result (phase_of k.new.scribe ≡ phases.Going) }
     ensures stopped { IfErr result (λ stop. phase_of k.new.scribe ≡ phases.Stopped stop) }
     ensures cause { Cause (L.state (store_of k.old.scribe)).faults (L.state (store_of k.new.scribe)).faults result }
@@ -82,13 +83,13 @@ fn keep_lone_message<L: LiveStore>(
     content: &[u8],
 ) -> Result<(), Stop>
     requires going { phase_of k.old.scribe ≡ phases.Going }
-    ensures takes { AddsFlatRecords L.state k.old k.new (top 5 content.now ∷ []) }
+    ensures takes { AddsFlatRecords L.state k.old k.new (top message_opcode content.now ∷ []) }
     ensures goes_on { OnOk result (phase_of k.new.scribe ≡ phases.Going) }
     ensures stopped { IfErr result (λ stop. phase_of k.new.scribe ≡ phases.Stopped stop) }
     ensures cause { Cause (L.state (store_of k.old.scribe)).faults (L.state (store_of k.new.scribe)).faults result }
 {
     let mut bytes = Vec::new(alloc);
-    match make_room(&mut bytes, 9 + content.len()) {
+    match make_room(&mut bytes, HEAD_LENGTH as usize + content.len()) {
         Ok(()) => {}
         Err(_) => return Err(k.scribe.stop_for_memory()),
     }
@@ -100,7 +101,7 @@ fn keep_lone_message<L: LiveStore>(
 // Keeps the Schema of that content, if it is the first of its id. Bytes behind its fields are dropped.
 fn keep_schema<L: LiveStore>(alloc: Global, k: &mut Keeping<L>, content: &[u8]) -> Result<(), Stop>
     requires going { phase_of k.old.scribe ≡ phases.Going }
-    ensures takes { AddsFlatRecords L.state k.old k.new (top 3 content.now ∷ []) }
+    ensures takes { AddsFlatRecords L.state k.old k.new (top schema_opcode content.now ∷ []) }
     ensures goes_on { OnOk result (phase_of k.new.scribe ≡ phases.Going) }
     ensures stopped { IfErr result (λ stop. phase_of k.new.scribe ≡ phases.Stopped stop) }
     ensures cause { Cause (L.state (store_of k.old.scribe)).faults (L.state (store_of k.new.scribe)).faults result }
@@ -125,7 +126,7 @@ fn keep_schema<L: LiveStore>(alloc: Global, k: &mut Keeping<L>, content: &[u8]) 
 // Does the same with a Channel. The order of its metadata stays.
 fn keep_channel<L: LiveStore>(alloc: Global, k: &mut Keeping<L>, content: &[u8]) -> Result<(), Stop>
     requires going { phase_of k.old.scribe ≡ phases.Going }
-    ensures takes { AddsFlatRecords L.state k.old k.new (top 4 content.now ∷ []) }
+    ensures takes { AddsFlatRecords L.state k.old k.new (top channel_opcode content.now ∷ []) }
     ensures goes_on { OnOk result (phase_of k.new.scribe ≡ phases.Going) }
     ensures stopped { IfErr result (λ stop. phase_of k.new.scribe ≡ phases.Stopped stop) }
     ensures cause { Cause (L.state (store_of k.old.scribe)).faults (L.state (store_of k.new.scribe)).faults result }

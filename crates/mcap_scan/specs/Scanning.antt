@@ -3,6 +3,7 @@ use Rattle.std.specs.Prelude.{◌≡◌, ◌⊎◌, ℕ, ◌+◌, ◌-◌, ◌^�
 use Rattle.mcap_io.specs.Outside.{SourceState}
 use Rattle.mcap_io.specs.Rooms.{held_in}
 use Rattle.mcap_wire.specs.Limits.{file_limit}
+use Rattle.rec_data.specs.Records.{data_end_opcode}
 use Rattle.mcap_model.specs.Tops.{Top, offset_behind, flat}
 use Rattle.mcap_model.specs.Rules.{HasDataEnd}
 use Rattle.mcap_model.specs.Kept.{reading_limits, Good, at_end}
@@ -131,7 +132,7 @@ RefusedAt at judged.Memory why = why ≡ Some refusals.Memory
 
 -- What a record that was taken at that offset, or its refusal, makes of the offset and the stage.
 abbrev pub Given : ℕ → ℕ → ℕ → Stage → ℕ → Option ReadingRefused → Step → Type 0
-Given at len offset stage op None step = (step ≡ steps.Record op at) × (offset ≡ min (min (at + 9) (2 ^ 64 - 1) + len) (2 ^ 64 - 1)) × (stage ≡ (if op == 15 then stages.Ended else stages.Inside))
+Given at len offset stage op None step = (step ≡ steps.Record op at) × (offset ≡ min (min (at + 9) (2 ^ 64 - 1) + len) (2 ^ 64 - 1)) × (stage ≡ (if op == data_end_opcode then stages.Ended else stages.Inside))
 Given at len offset stage op (Some why) step = (step ≡ steps.Refused) × (stage ≡ stages.Stopped why)
 
 -- the refusal that a reader keeps

@@ -9,8 +9,8 @@ ghost use Rattle.rec_data.specs.RecordReading.{attachment_text, AttachmentFails,
 
 use crate::opcodes::ATTACHMENT;
 use mcap_wire::{
-    Bad, Memory, add_bytes64, add_head, add_text, add_u32, add_u64, at_field, make_room,
-    take_bytes64, take_text, take_u32, take_u64,
+    Bad, HEAD_LENGTH, Memory, add_bytes64, add_head, add_text, add_u32, add_u64, at_field,
+    make_room, take_bytes64, take_text, take_u32, take_u64,
 };
 
 /// A file that goes along with the messages: when it was logged and when it was created, both in nanoseconds, its name, its
@@ -74,7 +74,7 @@ impl<'a> Attachment<'a> {
         ensures capacity { vec_capacity out.old ≤ vec_capacity out.new }
     {
         let len = 36 + self.name.len() + self.media_type.len() + self.payload.len();
-        make_room(out, 9 + len)?;
+        make_room(out, HEAD_LENGTH as usize + len)?;
         add_head(out, ATTACHMENT, len as u64);
         add_u64(out, self.log_time);
         add_u64(out, self.create_time);

@@ -11,8 +11,8 @@ ghost use Rattle.rec_data.specs.RecordReading.{ChannelFails};
 use crate::opcodes::CHANNEL;
 use crate::schema::SchemaDef;
 use mcap_wire::{
-    Bad, Memory, Pairs, PairsRef, Text, add_head, add_pairs, add_text, add_u16, at_field,
-    make_room, take_pairs, take_text, take_u16,
+    Bad, HEAD_LENGTH, Memory, Pairs, PairsRef, Text, add_head, add_pairs, add_text, add_u16,
+    at_field, make_room, take_pairs, take_text, take_u16,
 };
 use std::alloc::Global;
 
@@ -106,7 +106,7 @@ impl<'a> Channel<'a> {
         ensures capacity { vec_capacity out.old ≤ vec_capacity out.new }
     {
         let len = 16 + self.topic.len() + self.message_encoding.len() + self.metadata.byte_len();
-        make_room(out, 9 + len)?;
+        make_room(out, HEAD_LENGTH as usize + len)?;
         add_head(out, CHANNEL, len as u64);
         add_u16(out, self.id);
         add_u16(out, self.schema_id);

@@ -8,7 +8,7 @@ ghost use Rattle.rec_data.specs.Records.{header_opcode, header_text, ShowsHeader
 ghost use Rattle.rec_data.specs.RecordReading.{HeaderFails};
 
 use crate::opcodes::HEADER;
-use mcap_wire::{Bad, Memory, add_head, add_text, at_field, make_room, take_text};
+use mcap_wire::{Bad, HEAD_LENGTH, Memory, add_head, add_text, at_field, make_room, take_text};
 
 /// The first record of a file: the profile that its messages follow and the library that wrote it.
 #[derive(Clone, Copy, PartialEq, Eq)]
@@ -42,7 +42,7 @@ impl<'a> Header<'a> {
         ensures capacity { vec_capacity out.old ≤ vec_capacity out.new }
     {
         let len = 8 + self.profile.len() + self.library.len();
-        make_room(out, 9 + len)?;
+        make_room(out, HEAD_LENGTH as usize + len)?;
         add_head(out, HEADER, len as u64);
         add_text(out, self.profile);
         add_text(out, self.library);

@@ -9,7 +9,9 @@ ghost use Rattle.rec_data.specs.RecordReading.{MessageFails};
 
 use crate::opcodes::MESSAGE;
 use byteorder::{ByteOrder, LittleEndian};
-use mcap_wire::{Bad, Memory, add_bytes, at_field, make_room, take_u16, take_u32, take_u64};
+use mcap_wire::{
+    Bad, HEAD_LENGTH, Memory, add_bytes, at_field, make_room, take_u16, take_u32, take_u64,
+};
 
 /// A message on a channel: its number on that channel, when it was logged and when it was published, both in nanoseconds,
 /// and its data, which is the rest of the content.
@@ -54,7 +56,7 @@ impl<'a> Message<'a> {
         ensures capacity { vec_capacity out.old ≤ vec_capacity out.new }
     {
         let len = 22 + self.payload.len();
-        make_room(out, 9 + len)?;
+        make_room(out, HEAD_LENGTH as usize + len)?;
         add_bytes(out, &self.front(len as u64));
         add_bytes(out, self.payload);
         Ok(())

@@ -10,8 +10,8 @@ ghost use Rattle.rec_data.specs.RecordReading.{metadata_text, MetadataFails};
 
 use crate::opcodes::METADATA;
 use mcap_wire::{
-    Bad, Memory, PairsRef, add_head, add_pairs, add_text, at_field, make_room, take_pairs,
-    take_text,
+    Bad, HEAD_LENGTH, Memory, PairsRef, add_head, add_pairs, add_text, at_field, make_room,
+    take_pairs, take_text,
 };
 
 /// A map of texts under a name.
@@ -46,7 +46,7 @@ impl<'a> Metadata<'a> {
         ensures capacity { vec_capacity out.old ≤ vec_capacity out.new }
     {
         let len = 8 + self.name.len() + self.metadata.byte_len();
-        make_room(out, 9 + len)?;
+        make_room(out, HEAD_LENGTH as usize + len)?;
         add_head(out, METADATA, len as u64);
         add_text(out, self.name);
         add_pairs(out, &self.metadata);

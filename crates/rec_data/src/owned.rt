@@ -3,12 +3,13 @@ ghost use Rattle.std.specs.Prelude.{◌≡◌, ◌≤◌, ◌++◌, length, vec_
 ghost use Rattle.mcap_wire.specs.Writing.{LacksRoom};
 ghost use Rattle.rec_data.specs.Owned.{rec_bytes};
 ghost use Rattle.rec_data.specs.OwnedReading.{LengthsFit, ContentRead, Unframed, FramedRead};
+ghost use Rattle.rec_data.specs.Records.{schema_opcode, channel_opcode, message_opcode};
 
 use crate::channel::Channel;
 use crate::message::Message;
 use crate::opcodes::{CHANNEL, MESSAGE, SCHEMA};
 use crate::schema::{Schema, SchemaDef};
-use mcap_wire::{Bytes, Head, Memory, PairList, PairsRef, Text, take_head};
+use mcap_wire::{Bytes, HEAD_LENGTH, Head, Memory, PairList, PairsRef, Text, take_head};
 use std::alloc::Global;
 
 /// A record of the data section that owns what it holds (MCAP specification, "Schema", "Channel", "Message").
@@ -144,15 +145,15 @@ fn unframed(bytes: &[u8]) -> Option<(u8, &[u8])>
         Ok(head) => head,
         Err(_) => return None,
     };
-    if len != (bytes.len() - 9) as u64 {
+    if len != (bytes.len() - HEAD_LENGTH as usize) as u64 {
         return None;
     }
-    return Some((op, &bytes[9..]));
+    return Some((op, &bytes[HEAD_LENGTH as usize..]));
 }
 
 // The Schema that a content shows.
 fn schema_of(alloc: Global, content: &[u8]) -> Result<Rec, RecRefused>
-    ensures { ContentRead 3 content.now result }
+    ensures { ContentRead schema_opcode content.now result }
 {
     let schema = match Schema::parse(content) {
         Ok(schema) => schema,
@@ -179,7 +180,7 @@ fn schema_of(alloc: Global, content: &[u8]) -> Result<Rec, RecRefused>
 
 // The Channel that a content shows.
 fn channel_of(alloc: Global, content: &[u8]) -> Result<Rec, RecRefused>
-    ensures { ContentRead 4 content.now result }
+    ensures { ContentRead channel_opcode content.now result }
 {
     let channel = match Channel::parse(content) {
         Ok(channel) => channel,
@@ -205,7 +206,7 @@ fn channel_of(alloc: Global, content: &[u8]) -> Result<Rec, RecRefused>
 
 // The Message that a content shows.
 fn message_of(alloc: Global, content: &[u8]) -> Result<Rec, RecRefused>
-    ensures { ContentRead 5 content.now result }
+    ensures { ContentRead message_opcode content.now result }
 {
     let message = match Message::parse(content) {
         Ok(message) => message,

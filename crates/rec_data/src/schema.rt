@@ -9,8 +9,8 @@ ghost use Rattle.rec_data.specs.RecordReading.{SchemaFails};
 
 use crate::opcodes::SCHEMA;
 use mcap_wire::{
-    Bad, Bytes, Memory, Text, add_bytes32, add_head, add_text, add_u16, at_field, make_room,
-    take_bytes32, take_text, take_u16,
+    Bad, Bytes, HEAD_LENGTH, Memory, Text, add_bytes32, add_head, add_text, add_u16, at_field,
+    make_room, take_bytes32, take_text, take_u16,
 };
 use std::alloc::Global;
 
@@ -89,7 +89,7 @@ impl<'a> Schema<'a> {
         ensures capacity { vec_capacity out.old ≤ vec_capacity out.new }
     {
         let len = 14 + self.name.len() + self.encoding.len() + self.payload.len();
-        make_room(out, 9 + len)?;
+        make_room(out, HEAD_LENGTH as usize + len)?;
         add_head(out, SCHEMA, len as u64);
         add_u16(out, self.id);
         add_text(out, self.name);

@@ -9,7 +9,7 @@ ghost use Rattle.rec_index.specs.RecordReading.{AttachmentIndexFails};
 
 use crate::opcodes::ATTACHMENT_INDEX;
 use mcap_wire::{
-    Bad, Memory, add_head, add_text, add_u64, at_field, make_room, take_text, take_u64,
+    Bad, HEAD_LENGTH, Memory, add_head, add_text, add_u64, at_field, make_room, take_text, take_u64,
 };
 
 /// An Attachment of the file: where it starts and how long the whole record is, both in bytes, when it was logged and when
@@ -64,7 +64,7 @@ impl<'a> AttachmentIndex<'a> {
         ensures capacity { vec_capacity out.old ≤ vec_capacity out.new }
     {
         let len = 48 + self.name.len() + self.media_type.len();
-        make_room(out, 9 + len)?;
+        make_room(out, HEAD_LENGTH as usize + len)?;
         add_head(out, ATTACHMENT_INDEX, len as u64);
         add_u64(out, self.offset);
         add_u64(out, self.length);

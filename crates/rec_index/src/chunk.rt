@@ -9,8 +9,8 @@ ghost use Rattle.rec_index.specs.RecordReading.{ChunkFails};
 
 use crate::opcodes::CHUNK;
 use mcap_wire::{
-    Bad, Memory, add_bytes64, add_head, add_text, add_u32, add_u64, at_field, make_room,
-    take_bytes64, take_text, take_u32, take_u64,
+    Bad, HEAD_LENGTH, Memory, add_bytes64, add_head, add_text, add_u32, add_u64, at_field,
+    make_room, take_bytes64, take_text, take_u32, take_u64,
 };
 
 /// A batch of records: the first and the last log time of its messages in nanoseconds (0 where it has none), the size in
@@ -61,7 +61,7 @@ impl<'a> Chunk<'a> {
         ensures capacity { vec_capacity out.old ≤ vec_capacity out.new }
     {
         let len = 40 + self.compression.len() + self.records.len();
-        make_room(out, 9 + len)?;
+        make_room(out, HEAD_LENGTH as usize + len)?;
         add_head(out, CHUNK, len as u64);
         add_u64(out, self.message_start_time);
         add_u64(out, self.message_end_time);

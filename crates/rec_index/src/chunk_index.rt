@@ -10,8 +10,8 @@ ghost use Rattle.rec_index.specs.RecordReading.{ChunkIndexFails};
 
 use crate::opcodes::CHUNK_INDEX;
 use mcap_wire::{
-    Bad, CountsRef, Memory, add_counts, add_head, add_text, add_u64, at_field, make_room,
-    take_counts, take_text, take_u64,
+    Bad, CountsRef, HEAD_LENGTH, Memory, add_counts, add_head, add_text, add_u64, at_field,
+    make_room, take_counts, take_text, take_u64,
 };
 
 /// A Chunk of the file: the first and the last log time of its messages in nanoseconds, where the whole record starts and how
@@ -72,7 +72,7 @@ impl<'a> ChunkIndex<'a> {
         ensures capacity { vec_capacity out.old ≤ vec_capacity out.new }
     {
         let len = 64 + self.message_index_offsets.byte_len() + self.compression.len();
-        make_room(out, 9 + len)?;
+        make_room(out, HEAD_LENGTH as usize + len)?;
         add_head(out, CHUNK_INDEX, len as u64);
         add_u64(out, self.message_start_time);
         add_u64(out, self.message_end_time);

@@ -8,8 +8,8 @@ ghost use Rattle.rec_index.specs.RecordReading.{MessageIndexFails};
 
 use crate::opcodes::MESSAGE_INDEX;
 use mcap_wire::{
-    Bad, EntriesRef, Memory, add_entries, add_head, add_u16, at_field, make_room, take_entries,
-    take_u16,
+    Bad, EntriesRef, HEAD_LENGTH, Memory, add_entries, add_head, add_u16, at_field, make_room,
+    take_entries, take_u16,
 };
 
 /// The messages of a channel in the chunk before it: the channel's id, and an array of entries, each the log time of a message in
@@ -51,7 +51,7 @@ impl<'a> MessageIndex<'a> {
         ensures capacity { vec_capacity out.old ≤ vec_capacity out.new }
     {
         let len = 6 + self.entries.byte_len();
-        make_room(out, 9 + len)?;
+        make_room(out, HEAD_LENGTH as usize + len)?;
         add_head(out, MESSAGE_INDEX, len as u64);
         add_u16(out, self.channel_id);
         add_entries(out, &self.entries);

@@ -10,8 +10,8 @@ ghost use Rattle.rec_index.specs.RecordReading.{StatisticsFails};
 
 use crate::opcodes::STATISTICS;
 use mcap_wire::{
-    Bad, CountsRef, Memory, add_counts, add_head, add_u16, add_u32, add_u64, at_field, make_room,
-    take_counts, take_u16, take_u32, take_u64,
+    Bad, CountsRef, HEAD_LENGTH, Memory, add_counts, add_head, add_u16, add_u32, add_u64, at_field,
+    make_room, take_counts, take_u16, take_u32, take_u64,
 };
 
 /// How many records of each kind the file has, the first and the last log time of its messages in nanoseconds, and how many
@@ -70,7 +70,7 @@ impl<'a> Statistics<'a> {
         ensures capacity { vec_capacity out.old ≤ vec_capacity out.new }
     {
         let len = 46 + self.channel_message_counts.byte_len();
-        make_room(out, 9 + len)?;
+        make_room(out, HEAD_LENGTH as usize + len)?;
         add_head(out, STATISTICS, len as u64);
         add_u64(out, self.message_count);
         add_u16(out, self.schema_count);

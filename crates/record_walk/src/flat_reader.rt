@@ -6,7 +6,7 @@ use crate::inside::inside_of;
 use mcap_io::Source;
 use mcap_model::{InnerWalk, Place, ReadingRefused, Tables};
 use mcap_scan::{Reader, Step};
-use mcap_wire::Memory;
+use mcap_wire::{HEAD_LENGTH, Memory};
 use std::alloc::Global;
 
 /// What comes next in a file. Offsets are in bytes from the file's front; the reader lends the content of a record.
@@ -80,7 +80,7 @@ impl FlatReader {
         if !self.inside {
             return None;
         }
-        return Some(&self.reader.content()[self.lo - 9..self.hi]);
+        return Some(&self.reader.content()[self.lo - HEAD_LENGTH as usize..self.hi]);
     }
 
     /// The declarations of the records that were read: behind a Chunk those of all the records inside it.
@@ -145,7 +145,7 @@ impl FlatReader {
                     inner: (self.at - self.from) as u64,
                 };
                 let op = inner.op;
-                let lo = self.at + 9;
+                let lo = self.at + HEAD_LENGTH as usize;
                 let hi = lo + inner.content.len();
                 self.lo = lo;
                 self.hi = hi;

@@ -3,6 +3,7 @@ use Rattle.std.specs.Prelude.{◌≡◌, ℕ, ◌+◌, ◌-◌, ◌≤◌, List,
 use Rattle.mcap_wire.specs.declared.faults.Cut.{Cut}
 use Rattle.mcap_wire.specs.Layout.{part}
 use Rattle.rec_data.specs.declared.footer.Footer.{Footer}
+use Rattle.rec_data.specs.Records.{header_opcode}
 use Rattle.rec_index.specs.declared.summary_statistics.Statistics.{Statistics}
 use Rattle.rec_index.specs.Parsed.{statistics_fields}
 use Rattle.mcap_model.specs.Places.{At, Each}
@@ -45,7 +46,7 @@ offsets_of start cuts = map (λ c. start + (c.from - 9)) cuts
 
 -- the Header of that content, the Footer, and the records that were cut, listed
 pub record ListsParts (header : List ℕ) (footer : Footer) (summary : List ℕ) (cuts : List Cut) (p : Parts) : Type 0 where
-  pub header_is : p.header ≡ top 1 header
+  pub header_is : p.header ≡ top header_opcode header
   pub footer_is : p.footer ≡ footer
   pub listed : AreListed (cut_tops summary cuts) p
   pub placed : p.chunk_index_offsets ≡ offsets_of_kind chunk_index_opcode footer.summary_start (cut_tops summary cuts)

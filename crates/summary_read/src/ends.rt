@@ -1,5 +1,6 @@
 //! What stands at the ends of a file: the magics, the Header and the Footer.
 ghost use Rattle.std.specs.Prelude.{◌≡◌, ◌≢◌, ◌+◌, ◌-◌, ◌≤◌, ◌↔◌, ℕ, List, length, take, drop, IsTrue, IfOk, IfErr};
+ghost use Rattle.rec_data.specs.Records.{header_opcode};
 ghost use Rattle.mcap_model.specs.Fields.{IsHeader};
 ghost use Rattle.mcap_model.specs.Made.{top};
 ghost use Rattle.mcap_model.specs.Rules.{V1};
@@ -184,7 +185,7 @@ pub(crate) fn judge_front(front: &[u8], len: u64) -> Result<u64, ReadingRefused>
 
 /// Whether the content is that of a Header.
 pub(crate) fn is_header(content: &[u8]) -> bool
-    ensures { IsTrue result ↔ IsHeader (top 1 content.now) }
+    ensures { IsTrue result ↔ IsHeader (top header_opcode content.now) }
 {
     match Header::parse(content) {
         Ok(_) => return true,

@@ -30,6 +30,8 @@ pub struct Loaded {
 
 impl Model for Loaded {
     ghost use Rattle.std.specs.Prelude.{◌+◌, ◌^◌, ◌<◌, length, slice_get};
+    ghost use Rattle.rec_data.specs.Records.{header_opcode, schema_opcode, channel_opcode};
+    ghost use Rattle.rec_index.specs.Records.{chunk_index_opcode, attachment_index_opcode, statistics_opcode, metadata_index_opcode, summary_offset_opcode};
     ghost use Rattle.mcap_model.specs.Fields.{IsHeader};
     ghost use Rattle.mcap_model.specs.Made.{top};
     ghost use Rattle.summary_read.specs.Parts.{Parts};
@@ -38,7 +40,7 @@ impl Model for Loaded {
     ghost Value = { Parts };
 
     ghost view = { λ l. record {
-      header = top 1 l.header.items;
+      header = top header_opcode l.header.items;
       footer = l.footer;
       statistics = slice_get (cut_tops l.summary.items l.statistics.items) 0;
       schemas = cut_tops l.summary.items l.schemas.items;
@@ -50,14 +52,14 @@ impl Model for Loaded {
       summary_offsets = cut_tops l.summary.items l.summary_offsets.items;
     } };
 
-    ghost invariant = { λ l. IsHeader (top 1 l.header.items)
-        × AreHeld l.summary.items 11 l.statistics.items
-        × AreHeld l.summary.items 3 l.schemas.items
-        × AreHeld l.summary.items 4 l.channels.items
-        × AreHeld l.summary.items 8 l.chunk_indexes.items
-        × AreHeld l.summary.items 10 l.attachment_indexes.items
-        × AreHeld l.summary.items 13 l.metadata_indexes.items
-        × AreHeld l.summary.items 14 l.summary_offsets.items
+    ghost invariant = { λ l. IsHeader (top header_opcode l.header.items)
+        × AreHeld l.summary.items statistics_opcode l.statistics.items
+        × AreHeld l.summary.items schema_opcode l.schemas.items
+        × AreHeld l.summary.items channel_opcode l.channels.items
+        × AreHeld l.summary.items chunk_index_opcode l.chunk_indexes.items
+        × AreHeld l.summary.items attachment_index_opcode l.attachment_indexes.items
+        × AreHeld l.summary.items metadata_index_opcode l.metadata_indexes.items
+        × AreHeld l.summary.items summary_offset_opcode l.summary_offsets.items
         × (l.footer.summary_start + length l.summary.items < 2 ^ 64) };
 }
 

@@ -2,6 +2,7 @@
 ghost use Rattle.std.specs.Prelude.{◌≡◌, ◌+◌, ◌^◌, ◌<◌, ◌≤◌, length, IfOk, OnOk};
 ghost use Rattle.mcap_io.specs.OutsideCalls.{HasCause};
 ghost use Rattle.mcap_io.specs.StoreAnswers.{LeavesStore};
+ghost use Rattle.rec_data.specs.Records.{header_opcode};
 ghost use Rattle.mcap_model.specs.Fields.{IsHeader};
 ghost use Rattle.mcap_model.specs.Made.{top};
 ghost use Rattle.summary_read.specs.Loading.{Loads, LoadCause, PlainCause};
@@ -158,7 +159,7 @@ fn read_header<T: Store>(alloc: Global, store: &mut T, len: u64) -> Result<Vec<u
     requires known { len ≤ (T.state store.old).known }
     requires whole { 37 ≤ len }
     ensures judged { TellsHeader (T.state store.old).bytes len result }
-    ensures is { IfOk result (λ content. IsHeader (top 1 content.items)) }
+    ensures is { IfOk result (λ content. IsHeader (top header_opcode content.items)) }
     ensures cause { StepCause (T.state store.old).faults (T.state store.new).faults result }
     ensures takes { AsksAtMost (T.state store.old) (T.state store.new) len }
     ensures asks { HeaderAsks (T.state store.old) (T.state store.new) len }
@@ -188,7 +189,7 @@ fn list_records(
     summary: Vec<u8>,
     cuts: &[Cut],
 ) -> Result<Loaded, Memory>
-    requires is { IsHeader (top 1 header.items) }
+    requires is { IsHeader (top header_opcode header.items) }
     requires cut { AreCut summary.items cuts.now }
     requires fits { footer.summary_start + length summary.items < 2 ^ 64 }
     ensures { IfOk result (ListsParts header.items footer summary.items cuts.now) }

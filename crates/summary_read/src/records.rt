@@ -1,5 +1,7 @@
 //! The records that stand in a summary, judged one by one.
 ghost use Rattle.std.specs.Prelude.{◌≡◌, ◌↔◌, ℕ, List, IsTrue};
+ghost use Rattle.rec_data.specs.Records.{schema_opcode, channel_opcode};
+ghost use Rattle.rec_index.specs.Records.{chunk_index_opcode, attachment_index_opcode, statistics_opcode, metadata_index_opcode, summary_offset_opcode};
 ghost use Rattle.mcap_model.specs.Fields.{SchemaFields, IsSchema, ChannelFields, IsChannel, ChunkIndexFields, IsChunkIndex, AttachmentIndexFields, IsAttachmentIndex, StatisticsFields, IsStatistics, IsMetadataIndex, IsSummaryOffset};
 ghost use Rattle.mcap_model.specs.Made.{top};
 ghost use Rattle.summary_read.specs.Steps.{Judged};
@@ -13,7 +15,7 @@ use rec_index::{
 
 // Whether the content is that of a Schema, whose id isn't 0.
 fn is_schema(content: &[u8]) -> bool
-    ensures { IsTrue result ↔ ((id : ℕ) × (f : SchemaFields) × IsSchema (top 3 content.now) id f) }
+    ensures { IsTrue result ↔ ((id : ℕ) × (f : SchemaFields) × IsSchema (top schema_opcode content.now) id f) }
 {
     match Schema::parse(content) {
         Ok(schema) => {
@@ -28,7 +30,7 @@ fn is_schema(content: &[u8]) -> bool
 
 // Whether the content is that of a Channel.
 fn is_channel(content: &[u8]) -> bool
-    ensures { IsTrue result ↔ ((id : ℕ) × (f : ChannelFields) × IsChannel (top 4 content.now) id f) }
+    ensures { IsTrue result ↔ ((id : ℕ) × (f : ChannelFields) × IsChannel (top channel_opcode content.now) id f) }
 {
     match Channel::parse(content) {
         Ok(_) => return true,
@@ -38,7 +40,7 @@ fn is_channel(content: &[u8]) -> bool
 
 // Whether the content is that of a Chunk Index.
 fn is_chunk_index(content: &[u8]) -> bool
-    ensures { IsTrue result ↔ ((f : ChunkIndexFields) × IsChunkIndex (top 8 content.now) f) }
+    ensures { IsTrue result ↔ ((f : ChunkIndexFields) × IsChunkIndex (top chunk_index_opcode content.now) f) }
 {
     match ChunkIndex::parse(content) {
         Ok(_) => return true,
@@ -48,7 +50,7 @@ fn is_chunk_index(content: &[u8]) -> bool
 
 // Whether the content is that of an Attachment Index.
 fn is_attachment_index(content: &[u8]) -> bool
-    ensures { IsTrue result ↔ ((f : AttachmentIndexFields) × IsAttachmentIndex (top 10 content.now) f) }
+    ensures { IsTrue result ↔ ((f : AttachmentIndexFields) × IsAttachmentIndex (top attachment_index_opcode content.now) f) }
 {
     match AttachmentIndex::parse(content) {
         Ok(_) => return true,
@@ -58,7 +60,7 @@ fn is_attachment_index(content: &[u8]) -> bool
 
 // Whether the content is that of a Statistics.
 fn is_statistics(content: &[u8]) -> bool
-    ensures { IsTrue result ↔ ((f : StatisticsFields) × IsStatistics (top 11 content.now) f) }
+    ensures { IsTrue result ↔ ((f : StatisticsFields) × IsStatistics (top statistics_opcode content.now) f) }
 {
     match Statistics::parse(content) {
         Ok(_) => return true,
@@ -68,7 +70,7 @@ fn is_statistics(content: &[u8]) -> bool
 
 // Whether the content is that of a Metadata Index.
 fn is_metadata_index(content: &[u8]) -> bool
-    ensures { IsTrue result ↔ ((offset size : ℕ) × (name : List ℕ) × IsMetadataIndex (top 13 content.now) offset size name) }
+    ensures { IsTrue result ↔ ((offset size : ℕ) × (name : List ℕ) × IsMetadataIndex (top metadata_index_opcode content.now) offset size name) }
 {
     match MetadataIndex::parse(content) {
         Ok(_) => return true,
@@ -78,7 +80,7 @@ fn is_metadata_index(content: &[u8]) -> bool
 
 // Whether the content is that of a Summary Offset.
 fn is_summary_offset(content: &[u8]) -> bool
-    ensures { IsTrue result ↔ ((op offset size : ℕ) × IsSummaryOffset (top 14 content.now) op offset size) }
+    ensures { IsTrue result ↔ ((op offset size : ℕ) × IsSummaryOffset (top summary_offset_opcode content.now) op offset size) }
 {
     match SummaryOffset::parse(content) {
         Ok(_) => return true,

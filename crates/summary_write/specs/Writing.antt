@@ -2,9 +2,9 @@
 use Rattle.std.specs.Prelude.{ℕ, zero, suc, ◌+◌, List, [], ◌++◌, length, take}
 use Rattle.mcap_wire.specs.Layout.{framed, magic}
 use Rattle.mcap_crc.specs.Remainder.{remainder}
-use Rattle.rec_data.specs.Records.{footer_text}
+use Rattle.rec_data.specs.Records.{footer_opcode, footer_text}
 use Rattle.rec_index.specs.Fields.{StatisticsFields}
-use Rattle.rec_index.specs.Records.{statistics_text, summary_offset_text}
+use Rattle.rec_index.specs.Records.{statistics_opcode, summary_offset_opcode, statistics_text, summary_offset_text}
 use Rattle.mcap_model.specs.Summary.{capped, footer_of_offsets}
 use Rattle.summary_write.specs.declared.text.Numbers.{Numbers}
 use Rattle.summary_write.specs.Tally.{Tally}
@@ -24,7 +24,7 @@ statistics_of_numbers n = record {
 }
 
 abbrev pub statistics_record : StatisticsFields → List ℕ
-statistics_record f = framed 11 (statistics_text f)
+statistics_record f = framed statistics_opcode (statistics_text f)
 
 abbrev pub tally_fields : Tally → StatisticsFields
 tally_fields t = record {
@@ -51,7 +51,7 @@ groups_of_tally t = six_texts t.schemas t.channels (statistics_of t) t.chunk_ind
 -- the Summary Offset of a group of so many bytes, if it is there
 abbrev pub group_offset_record : ℕ → ℕ → ℕ → List ℕ
 group_offset_record op at zero = []
-group_offset_record op at (suc len) = framed 14 (summary_offset_text (record { op = op; offset = at; size = suc len }))
+group_offset_record op at (suc len) = framed summary_offset_opcode (summary_offset_text (record { op = op; offset = at; size = suc len }))
 
 -- those of the six groups, where they have these lengths and the first one stands at that offset
 abbrev pub six_offsets : ℕ → ℕ → ℕ → ℕ → ℕ → ℕ → ℕ → List ℕ
@@ -68,7 +68,7 @@ offsets_of_tally t at = six_offsets at (length t.schemas) (length t.channels) (l
 
 -- behind these bytes the Footer of a summary that starts at one offset, its Summary Offsets at another, and the magic
 abbrev pub closed_by : List ℕ → ℕ → ℕ → List ℕ
-closed_by bytes at behind = bytes ++ (framed 2 (footer_text (footer_of_offsets at behind (remainder (bytes ++ take 25 (framed 2 (footer_text (footer_of_offsets at behind 0))))))) ++ magic)
+closed_by bytes at behind = bytes ++ (framed footer_opcode (footer_text (footer_of_offsets at behind (remainder (bytes ++ take 25 (framed footer_opcode (footer_text (footer_of_offsets at behind 0))))))) ++ magic)
 
 unfoldable pub closed_summary : Tally → ℕ → List ℕ
 closed_summary t at = closed_by (groups_of_tally t ++ offsets_of_tally t at) at (at + length (groups_of_tally t))

@@ -4,7 +4,7 @@ ghost use Rattle.mcap_wire.specs.Limits.{record_count_limit};
 ghost use Rattle.rec_data.specs.declared.owned.Rec.{Rec};
 ghost use Rattle.rec_data.specs.OwnedReading.{LengthsFit};
 ghost use Rattle.rec_data.specs.Fields.{AttachmentFields, MetadataFields};
-ghost use Rattle.rec_data.specs.Records.{ShowsAttachment, ShowsMetadata};
+ghost use Rattle.rec_data.specs.Records.{attachment_opcode, metadata_opcode, ShowsAttachment, ShowsMetadata};
 ghost use Rattle.chunk_build.specs.Building.{mark_of};
 ghost use Rattle.chunk_build.specs.Chunker.{AreFramed};
 ghost use Rattle.mcap_model.specs.Built.{IsBlock};
@@ -171,7 +171,7 @@ impl Summary {
     pub fn note_attachment(&mut self, at: u64, content: &[u8]) -> Result<(), Memory>
         requires within { at ≤ 2 ^ 41 }
         requires meets { (f : AttachmentFields) × ShowsAttachment content.now f }
-        ensures ok { OnOk result ((n : Noted) → SummaryStandsFor self.old n → SummaryStandsFor self.new (with_noted_extra n at (record { op = 9; content = content.now }))) }
+        ensures ok { OnOk result ((n : Noted) → SummaryStandsFor self.old n → SummaryStandsFor self.new (with_noted_extra n at (record { op = attachment_opcode; content = content.now }))) }
         ensures err { OnErr result (self.new ≡ self.old) }
         ensures messages { self.new.messages ≡ self.old.messages }
         ensures blocks { self.new.blocks ≡ self.old.blocks }
@@ -188,7 +188,7 @@ impl Summary {
     pub fn note_metadata(&mut self, at: u64, content: &[u8]) -> Result<(), Memory>
         requires within { at ≤ 2 ^ 41 }
         requires meets { (f : MetadataFields) × ShowsMetadata content.now f }
-        ensures ok { OnOk result ((n : Noted) → SummaryStandsFor self.old n → SummaryStandsFor self.new (with_noted_extra n at (record { op = 12; content = content.now }))) }
+        ensures ok { OnOk result ((n : Noted) → SummaryStandsFor self.old n → SummaryStandsFor self.new (with_noted_extra n at (record { op = metadata_opcode; content = content.now }))) }
         ensures err { OnErr result (self.new ≡ self.old) }
         ensures messages { self.new.messages ≡ self.old.messages }
         ensures blocks { self.new.blocks ≡ self.old.blocks }

@@ -1,5 +1,6 @@
 //! Keeping the messages that are asked for.
 ghost use Rattle.std.specs.Prelude.{◌∷◌, [], OnOk};
+ghost use Rattle.rec_data.specs.Records.{message_opcode};
 ghost use Rattle.mcap_model.specs.Made.{top};
 ghost use Rattle.mcap_model.specs.Plain.{asked_topic};
 ghost use Rattle.record_walk.specs.Walking.{flat_content, flat_tables, placed_at};
@@ -22,7 +23,7 @@ fn keep_message(
     place: Place,
     content: &[u8],
 ) -> Result<(), Memory>
-    ensures { OnOk result (KeepsAsked range (asked_topic topic.entry) tables.now (record { place = place; top = top 5 content.now } ∷ []) (kept_in kept.old) (kept_in kept.new)) }
+    ensures { OnOk result (KeepsAsked range (asked_topic topic.entry) tables.now (record { place = place; top = top message_opcode content.now } ∷ []) (kept_in kept.old) (kept_in kept.new)) }
 {
     let message = match Message::parse(content) {
         Ok(message) => message,
