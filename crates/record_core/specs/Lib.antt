@@ -1,4 +1,4 @@
--- What the promise of the program reaches, in the order to read it.
+-- What `Runs` of mcap_app reaches, in the order to read it.
 pub mod DeclarationFields
 -- What the functions of this crate and its proofs say besides.
 pub mod Ids

@@ -1,2 +1,2 @@
--- What the promise of the program reaches, in the order to read it.
+-- What `Runs` of mcap_app reaches, in the order to read it.
 pub mod Findings
