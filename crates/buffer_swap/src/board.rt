@@ -161,7 +161,8 @@ impl Board {
         desk.found()
     }
 
-    // The desk's answer to a message.
+    // The desk's answer to a message. It is inlined as the desk's call is.
+    #[inline(always)]
     fn publish_out(&self, seat: &mut Seat, m: &NewMessage<'_>) -> Result<u64, CallRefused>
         requires id { seat.old.table_id ≡ self.now.table.shared.table_id }
         requires desk { HasDesk seat.old.me }

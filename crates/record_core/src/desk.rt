@@ -134,7 +134,9 @@ impl Desk {
         None
     }
 
-    // Adds a message, unless it is refused.
+    // Adds a message, unless it is refused. It and `publish` are inlined, so that the answer, mostly a place alone, isn't copied through
+    // memory as long as the longest refusal.
+    #[inline(always)]
     fn accept(&mut self, m: &NewMessage<'_>) -> Result<u64, CallRefused>
         ensures answer { Published self.old m.now.channel (fields_of_message m.now) result self.new }
         ensures last { EndIsLast self.old }
@@ -151,6 +153,7 @@ impl Desk {
     }
 
     /// Adds a message, and answers its place. Where it is refused nothing changes; no id and no memory ever lacks for it.
+    #[inline(always)]
     pub fn publish(&mut self, m: &NewMessage<'_>) -> Result<u64, CallRefused>
         ensures answer { Published self.old m.now.channel (fields_of_message m.now) result self.new }
         ensures reasons { IfErr result IsForMessage }

@@ -131,11 +131,16 @@ impl FlatReader {
         reader.into_refusal()
     }
 
-    // The next record inside the chunk that was read last, if one is left.
-    #[inline]
+    // The next record inside the chunk that was read last, if one is left. It and `advance` are inlined, so that a step isn't copied
+    // through memory on its way to whoever looks at it.
+    #[inline(always)]
     fn next_inside(&mut self) -> Option<FlatStep>
         ensures { StepsInside self.old self.new result }
     {
+        // Behind a record that is no chunk, the walk needn't be begun.
+        if self.at == self.to {
+            return None;
+        }
         let content = self.reader.content();
         let mut walk = InnerWalk::new(&content[self.at..self.to]);
         match walk.next() {
@@ -203,6 +208,7 @@ impl FlatReader {
     /// Reads the next record of the source (MCAP specification: Records), or goes on to the next one inside the chunk that was read
     /// last; the first call reads the magic too. A Chunk is judged whole before it is given. Nothing behind the Data End is read,
     /// and nothing more after a refusal: each later call gives the same answer.
+    #[inline(always)]
     pub fn advance<S: Source>(&mut self, source: &mut S) -> FlatStep
         ensures steps { (before : SourceState) (tops : List Top) (given : List Placed) → FlatStands self.old before (S.state source.old) tops given
             → FlatAdvanced self.new before (S.state source.new) tops given result }

@@ -1,9 +1,9 @@
-use Rattle.std.proofs.Common.{◌≡◌, ◌+◌, ◌-◌, ◌++◌, ◌∷◌, List, ℕ, length, refl, sym, ap, ◌∙◌, arith}
+use Rattle.std.proofs.Common.{◌≡◌, ◌+◌, ◌-◌, ◌++◌, ◌∷◌, List, [], ℕ, length, refl, sym, ap, subst, ◌∙◌, arith}
 use Rattle.mcap_wire.specs.Layout.{part}
-use Rattle.mcap_model.specs.Tops.{records_in}
+use Rattle.mcap_model.specs.Tops.{records_in, placed_inside}
 use Rattle.mcap_model.specs.Walk.{walk_rest}
 use Rattle.mcap_scan.specs.Scanning.{content_of}
-use Rattle.record_walk.proofs.Steps.{finds_inside, due_inside, frame_inside}
+use Rattle.record_walk.proofs.Steps.{nothing_due, finds_inside, due_inside, frame_inside}
 use Rattle.record_walk.proofs.flat_reader.FlatReader.next_inside.Goals as goal
 
 pub invariant_of-self : goal.invariant_of-self
@@ -43,3 +43,10 @@ returns-in-Some c =
       lent = refl;
       less = omega (arith, fits);
     }
+
+pub returns-then-self : goal.returns-then-self
+returns-then-self c =
+    let self = c.args.self.now in
+    let bytes = content_of self.reader in
+    let before = self.at - self.from in
+    (subst (λ (n : ℕ). placed_inside self.top before (records_in (part self.at n bytes)) ≡ []) c.if-self.true (nothing_due self.top before self.at bytes), refl)
