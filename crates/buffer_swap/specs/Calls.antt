@@ -67,7 +67,8 @@ pub record DeclaredInTurn (m : Sat) (c : ChannelDef) (result : Result Declared C
   pub after : DeskView
   pub declared : DeclaredBy m.0.hand c result after
   pub few : HasFewIds after.ids
-  pub is : n ≡ (frees (counts_declared m.0 after result) (pass_declared (counts_declared m.0 after result) c result), [])
+  pub is : n
+      ≡ (frees (counts_declared m.0 after result) (pass_declared (counts_declared m.0 after result) c result), [])
 
 -- what a drain hands over
 abbrev pub hands_if : View → Result Buffer Empty → View
@@ -125,10 +126,12 @@ reasoned p reasons = record p { reasons = reasons }
 -- A message was published or refused as a pass says it. Why earlier calls were refused is no part of a seat's pass, since a
 -- message that is too large is refused without a step.
 abbrev pub PublishesMessage : PassState → PassState → NewMessage → Result ℕ CallRefused → Type 0
-PublishesMessage before after m result = (reasons : List CallRefused) → (more : List CallRefused) × PublishedBy (reasoned before reasons) (reasoned after more) m result
+PublishesMessage before after m result = (reasons : List CallRefused)
+    → (more : List CallRefused) × PublishedBy (reasoned before reasons) (reasoned after more) m result
 
 abbrev pub DeclaresChannel : PassState → PassState → ChannelDef → Result Declared CallRefused → Type 0
-DeclaresChannel before after c result = (reasons : List CallRefused) → (more : List CallRefused) × DeclaredInto (reasoned before reasons) (reasoned after more) c result
+DeclaresChannel before after c result = (reasons : List CallRefused)
+    → (more : List CallRefused) × DeclaredInto (reasoned before reasons) (reasoned after more) c result
 
 -- the pass has that id for a channel with this schema, or with none where this is none
 abbrev pub NamesSchema : PassState → ℕ → Option SchemaDef → Type 0
@@ -171,11 +174,13 @@ FoundSo before after found = Finds before found × (after ≡ with_found before 
 -- numbered. Nothing was taken exactly where the intake was found with no more records than were taken; then the empty buffer
 -- comes back. Behind the drain's stop, the end that is found is that stop.
 abbrev pub SwapsTo : PassState → Post → PassState → Post → Result Buffer Empty → Type 0
-SwapsTo before post after now (Ok full) = (found : Found) × FoundSo before after found × (full.limit ≡ before.limit) × (full.records ≡ [] → ⊥)
-    × (now ≡ drain_post post.stop (post.taken ++ full.records)) × (found.count ≡ length now.taken) × Numbered now.taken
+SwapsTo before post after now (Ok full) = (found : Found) × FoundSo before after found × (full.limit ≡ before.limit)
+    × (full.records ≡ [] → ⊥) × (now ≡ drain_post post.stop (post.taken ++ full.records))
+    × (found.count ≡ length now.taken) × Numbered now.taken
     × ((stop : Stop) → post.stop ≡ Some stop → found.end ≡ Some (Stopped stop))
-SwapsTo before post after now (Err empty) = (found : Found) × FoundSo before after found × (empty.cache ≡ record { limit = before.limit; records = [] })
-    × (found.count ≡ length post.taken) × (empty.at ≡ length post.taken) × (empty.end ≡ found.end) × (now ≡ post)
+SwapsTo before post after now (Err empty) = (found : Found) × FoundSo before after found
+    × (empty.cache ≡ record { limit = before.limit; records = [] }) × (found.count ≡ length post.taken)
+    × (empty.at ≡ length post.taken) × (empty.end ≡ found.end) × (now ≡ post)
     × ((stop : Stop) → post.stop ≡ Some stop → found.end ≡ Some (Stopped stop))
 
 -- the end was set where none was found, and its place is that of all records that were found
@@ -187,7 +192,8 @@ abbrev pub closed_at : Option End → Post → Post
 closed_at None post = record post { closed = true }
 closed_at (Some end) post = post
 
-pub record StopsBy (before : PassState) (post : Post) (stop : Stop) (after : PassState) (now : Post) (at : ℕ) : Type 0 where
+pub record StopsBy (before : PassState) (post : Post) (stop : Stop) (after : PassState) (now : Post) (at : ℕ)
+    : Type 0 where
   pub found : Found
   pub finds : FoundSo before after found
   pub place : at ≡ found.count

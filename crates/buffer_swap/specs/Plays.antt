@@ -107,7 +107,9 @@ pub record MayCount (hand : DeskView) (records : List Rec) (d : DeskView) : Type
   pub spares : (s : State) → DeskStandsFor hand s → Spares s.history records
 
 abbrev pub counts : View → DeskView → View
-counts v d = view true d v.missed (record v.pass { own = v.pass.own ++ with_places (accepted v.hand) (fresh_records v.hand d) }) v.post
+counts v d =
+    view true d v.missed (record v.pass { own = v.pass.own ++ with_places (accepted v.hand) (fresh_records v.hand d) })
+    v.post
 
 abbrev pub records_counted : StepTold
 records_counted st m r n = IsEvent st × (n ≡ (counts m.0 (desk_out m.1), m.1))
@@ -117,7 +119,8 @@ abbrev pub hands_over : View → DeskView → View
 hands_over v d = view true d v.missed v.pass (drain_post v.post.stop (v.post.taken ++ v.hand.primary))
 
 abbrev pub handed_over : StepTold
-handed_over st m r n = IsEvent st × (n ≡ (hands_over m.0 (desk_out m.1), m.1)) × Numbered (m.0.post.taken ++ m.0.hand.primary)
+handed_over st m r n =
+    IsEvent st × (n ≡ (hands_over m.0 (desk_out m.1), m.1)) × Numbered (m.0.post.taken ++ m.0.hand.primary)
 
 abbrev pub shuts : Post → Post
 shuts p = record p { closed = true }
@@ -173,7 +176,8 @@ with_lacking pair v = record v.pass { lacks = v.pass.lacks ++ pair ∷ [] }
 
 -- the channel stands under that id, in whatever state the desk stands
 abbrev pub NamedAt : DeskView → ℕ × ChannelDef → Type 0
-NamedAt d pair = (s : State) → DeskStandsFor d s → ChannelStands s.history pair.0 pair.1 × (1 ≤ pair.0) × (pair.0 ≤ length d.ids.channels)
+NamedAt d pair = (s : State) → DeskStandsFor d s
+    → ChannelStands s.history pair.0 pair.1 × (1 ≤ pair.0) × (pair.0 ≤ length d.ids.channels)
 
 abbrev pub LacksIdAt : DeskView → ChannelDef × CallRefused → Type 0
 LacksIdAt d pair = (s : State) → DeskStandsFor d s → IdsLack s.history pair.0 pair.1
@@ -207,7 +211,8 @@ abbrev pub drain_noted : View → View
 drain_noted v = newcomer 0 (note_post v.post.stop v.post.taken v.pass.found)
 
 abbrev pub reads : View → View → View
-reads v w = view v.holds v.hand v.missed v.pass (record v.post { stop = w.post.stop; taken = w.post.taken; told = w.post.told })
+reads v w =
+    view v.holds v.hand v.missed v.pass (record v.post { stop = w.post.stop; taken = w.post.taken; told = w.post.told })
 
 -- ---- looks
 
@@ -217,7 +222,8 @@ Unclosed p = (f : Found) → p.found ≡ Some f → f.end ≡ Some Closed → �
 
 -- where the control hasn't closed, no pass that it knows found that
 abbrev pub settled : StepTold
-settled st m r n = (n ≡ m) × (m.0.post.controls ≡ true → m.0.post.closed ≡ false → Each (λ g. Unclosed g.pass) m.0.post.known)
+settled st m r n =
+    (n ≡ m) × (m.0.post.controls ≡ true → m.0.post.closed ≡ false → Each (λ g. Unclosed g.pass) m.0.post.known)
 
 -- All publishers were gathered, and the drain that is noted took all and found the end.
 pub record IsMet (v : View) (end : End) : Type 0 where
@@ -232,7 +238,8 @@ pub record IsMet (v : View) (end : End) : Type 0 where
 
 -- However pairs of a place and a record are weighed, those of the passes weigh what the records weigh at their places.
 abbrev pub WeighAlike : List Gathered → List Rec → Type 0
-WeighAlike known taken = (h : ℕ × Rec → ℕ) → total (λ (g : Gathered). total h g.pass.own) known ≡ total h (with_places 0 taken)
+WeighAlike known taken =
+    (h : ℕ × Rec → ℕ) → total (λ (g : Gathered). total h g.pass.own) known ≡ total h (with_places 0 taken)
 
 -- the publishers that are known are all that were made, each once
 abbrev pub AreAll : List Gathered → ℕ → Type 0
@@ -241,7 +248,8 @@ AreAll known made = (h : ℕ → ℕ) → total (λ (g : Gathered). h g.number) 
 -- What a control, which has made so many publishers, knows and what a drain took are one history, which came to this end: what
 -- each publisher showed is so of the records that were taken, their places with their records are those of the publishers,
 -- each once, and the end is that of the control or of the drain: that of whichever set one.
-pub record Met (made : ℕ) (known : List Gathered) (closed : Bool) (stop : Option Stop) (taken : List Rec) (end : End) : Type 0 where
+pub record Met (made : ℕ) (known : List Gathered) (closed : Bool) (stop : Option Stop) (taken : List Rec) (end : End)
+    : Type 0 where
   pub publishers : AreAll known made
   pub numbered : Numbered taken
   pub pairs : WeighAlike known taken
@@ -252,4 +260,5 @@ pub record Met (made : ℕ) (known : List Gathered) (closed : Bool) (stop : Opti
   pub stop_is : (s : Stop) → stop ≡ Some s → end ≡ Stopped s
 
 abbrev pub met : StepTold
-met st m r n = (n ≡ m) × ((end : End) → IsMet m.0 end → Met m.0.post.made m.0.post.known m.0.post.closed m.0.post.stop m.0.post.taken end)
+met st m r n = (n ≡ m)
+    × ((end : End) → IsMet m.0 end → Met m.0.post.made m.0.post.known m.0.post.closed m.0.post.stop m.0.post.taken end)

@@ -29,7 +29,8 @@ pub record Post : Type 0 where
   pub told : Option Found
 
 abbrev pub no_post : Post
-no_post = record { seated = false; controls = false; drains = false; publishes = false; number = 0; made = 0; started = false; closed = false; known = []; stop = None; taken = []; told = None }
+no_post = record
+    { seated = false; controls = false; drains = false; publishes = false; number = 0; made = 0; started = false; closed = false; known = []; stop = None; taken = []; told = None }
 
 abbrev pub first_post : Post
 first_post = record no_post { seated = true; controls = true }

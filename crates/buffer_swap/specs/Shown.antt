@@ -30,7 +30,8 @@ pub record ChannelStands (history : List Rec) (id : ℕ) (d : ChannelDef) : Type
 -- all ids of schemas were given, and none to this schema
 abbrev pub LacksSchema : List Rec → Option SchemaDef → Type 0
 LacksSchema history None = ⊥
-LacksSchema history (Some s) = (schema_count history ≡ id_limit) × ((id : ℕ) → Has history (schema_of id (fields_of_schema s)) → ⊥)
+LacksSchema history (Some s) =
+    (schema_count history ≡ id_limit) × ((id : ℕ) → Has history (schema_of id (fields_of_schema s)) → ⊥)
 
 -- all ids of channels were given, and none to this content
 abbrev pub LacksChannelId : List Rec → ChannelDef → Type 0

@@ -64,7 +64,8 @@ fn pause(pauses: u32) {
 impl Board {
     pub(crate) fn open(alloc: Global, desk: Desk) -> Result<(Board, Seat), Memory>
         requires { (limit : ℕ) × (desk ≡ new_desk limit) }
-        ensures { IfOk result (λ t. (t.1.table_id ≡ t.0.table.shared.table_id) × (t.1.me ≡ (newcomer desk.limit first_post, []))) }
+        ensures { IfOk result (λ t. (t.1.table_id ≡ t.0.table.shared.table_id)
+            × (t.1.me ≡ (newcomer desk.limit first_post, []))) }
     {
         let limit = desk.limit();
         let mut slots = Vec::new(alloc);
@@ -169,8 +170,10 @@ impl Board {
         ensures id { seat.new.table_id ≡ seat.old.table_id }
         ensures same { seat.new.me.0 ≡ seat.old.me.0 }
         ensures out { seat.new.me.1 ≡ (0, desk_out seat.new.me.1) ∷ [] }
-        ensures published { Published seat.old.me.0.hand m.now.channel (fields_of_message m.now) result (desk_out seat.new.me.1) }
-        ensures counts { OnOk result (MayCount seat.old.me.0.hand (message_record m.now ∷ []) (desk_out seat.new.me.1)) }
+        ensures published { Published seat.old.me.0.hand m.now.channel (fields_of_message m.now) result
+            (desk_out seat.new.me.1) }
+        ensures counts { OnOk result (MayCount seat.old.me.0.hand (message_record m.now ∷ [])
+            (desk_out seat.new.me.1)) }
         ensures refused { OnErr result (desk_out seat.new.me.1 ≡ seat.old.me.0.hand) }
     {
         let desk = seat.slot_mut(&self.table.shared, 0);
@@ -192,13 +195,15 @@ impl Board {
         ensures same { seat.new.me.0 ≡ seat.old.me.0 }
         ensures out { seat.new.me.1 ≡ (0, desk_out seat.new.me.1) ∷ [] }
         ensures declared { DeclaredBy seat.old.me.0.hand channel.now result (desk_out seat.new.me.1) }
-        ensures counts { OnOk result (MayCount seat.old.me.0.hand (new_records seat.old.me.0.hand.ids channel.now) (desk_out seat.new.me.1)) }
+        ensures counts { OnOk result (MayCount seat.old.me.0.hand (new_records seat.old.me.0.hand.ids channel.now)
+            (desk_out seat.new.me.1)) }
         ensures known { IfOk result (λ given. given.count ≡ 0 → desk_out seat.new.me.1 ≡ seat.old.me.0.hand) }
         ensures refused { OnErr result (desk_out seat.new.me.1 ≡ seat.old.me.0.hand) }
         ensures named { IfOk result (λ given. NamedAt (desk_out seat.new.me.1) (given.channel, channel.now)) }
         ensures few { HasFewIds (desk_out seat.new.me.1).ids }
         ensures no_schemas { result ≡ Err TooManySchemas → LacksIdAt seat.old.me.0.hand (channel.now, TooManySchemas) }
-        ensures no_channels { result ≡ Err TooManyChannels → LacksIdAt seat.old.me.0.hand (channel.now, TooManyChannels) }
+        ensures no_channels { result ≡ Err TooManyChannels
+            → LacksIdAt seat.old.me.0.hand (channel.now, TooManyChannels) }
     {
         let desk = seat.slot_mut(&self.table.shared, 0);
         desk.declare_sharing(channel, like)
@@ -266,7 +271,8 @@ impl Board {
         requires desk { (seat.old.me.0.holds ≡ true) × (seat.old.me.1 ≡ (0, swapped seat.old.me.0.hand) ∷ []) }
         requires drain { seat.old.me.0.post ≡ drain_post seat.old.me.0.post.stop seat.old.me.0.post.taken }
         ensures id { seat.new.table_id ≡ seat.old.table_id }
-        ensures me { seat.new.me ≡ (hands_over seat.old.me.0 (swapped seat.old.me.0.hand), (0, swapped seat.old.me.0.hand) ∷ []) }
+        ensures me { seat.new.me
+            ≡ (hands_over seat.old.me.0 (swapped seat.old.me.0.hand), (0, swapped seat.old.me.0.hand) ∷ []) }
         ensures numbered { Numbered (seat.old.me.0.post.taken ++ seat.old.me.0.hand.primary) }
     {
         self.table.shared.fetch_add::<HandOver>(seat, EVENTS, 1);
@@ -279,7 +285,8 @@ impl Board {
         requires unended { seat.old.me.0.hand.end ≡ None }
         requires control { (seat.old.me.0.post.controls ≡ true) × (seat.old.me.0.post.drains ≡ false) }
         ensures id { seat.new.table_id ≡ seat.old.table_id }
-        ensures me { seat.new.me ≡ (closes seat.old.me.0 (ended seat.old.me.0.hand Closed), (0, ended seat.old.me.0.hand Closed) ∷ []) }
+        ensures me { seat.new.me
+            ≡ (closes seat.old.me.0 (ended seat.old.me.0.hand Closed), (0, ended seat.old.me.0.hand Closed) ∷ []) }
     {
         self.table.shared.fetch_add::<Close>(seat, EVENTS, 1);
     }
@@ -287,11 +294,13 @@ impl Board {
     // The drain stops the intake.
     fn stop(&self, seat: &mut Seat, _stop: Why)
         requires id { seat.old.table_id ≡ self.now.table.shared.table_id }
-        requires desk { (seat.old.me.0.holds ≡ true) × (seat.old.me.1 ≡ (0, ended seat.old.me.0.hand (Stopped _stop)) ∷ []) }
+        requires desk { (seat.old.me.0.holds ≡ true)
+            × (seat.old.me.1 ≡ (0, ended seat.old.me.0.hand (Stopped _stop)) ∷ []) }
         requires unended { seat.old.me.0.hand.end ≡ None }
         requires drain { seat.old.me.0.post ≡ drain_post seat.old.me.0.post.stop seat.old.me.0.post.taken }
         ensures id { seat.new.table_id ≡ seat.old.table_id }
-        ensures me { seat.new.me ≡ (stops seat.old.me.0 (ended seat.old.me.0.hand (Stopped _stop)), (0, ended seat.old.me.0.hand (Stopped _stop)) ∷ []) }
+        ensures me { seat.new.me
+            ≡ (stops seat.old.me.0 (ended seat.old.me.0.hand (Stopped _stop)), (0, ended seat.old.me.0.hand (Stopped _stop)) ∷ []) }
     {
         self.table.shared.fetch_add::<Stop>(seat, EVENTS, 1);
     }
@@ -372,7 +381,8 @@ impl Board {
         requires id { seat.old.table_id ≡ self.now.table.shared.table_id }
         requires desk { (seat.old.me.0.holds ≡ true) × (seat.old.me.1 ≡ (0, desk_out seat.old.me.1) ∷ []) }
         requires publisher { seat.old.me.0.post.publishes ≡ true }
-        requires counts { OnOk answer.now (MayCount seat.old.me.0.hand (message_record _m.now ∷ []) (desk_out seat.old.me.1)) }
+        requires counts { OnOk answer.now (MayCount seat.old.me.0.hand (message_record _m.now ∷ [])
+            (desk_out seat.old.me.1)) }
         requires refused { OnErr answer.now (desk_out seat.old.me.1 ≡ seat.old.me.0.hand) }
         ensures id { seat.new.table_id ≡ seat.old.table_id }
         ensures me { seat.new.me ≡ (frees_published seat.old.me.0 (desk_out seat.old.me.1) answer.now, []) }
@@ -413,7 +423,8 @@ impl Board {
         requires id { seat.old.table_id ≡ self.now.table.shared.table_id }
         requires desk { (seat.old.me.0.holds ≡ true) × (seat.old.me.1 ≡ (0, desk_out seat.old.me.1) ∷ []) }
         requires publisher { seat.old.me.0.post.publishes ≡ true }
-        requires counts { OnOk answer.now (MayCount seat.old.me.0.hand (new_records seat.old.me.0.hand.ids _channel.now) (desk_out seat.old.me.1)) }
+        requires counts { OnOk answer.now (MayCount seat.old.me.0.hand
+            (new_records seat.old.me.0.hand.ids _channel.now) (desk_out seat.old.me.1)) }
         requires known { IfOk answer.now (λ given. given.count ≡ 0 → desk_out seat.old.me.1 ≡ seat.old.me.0.hand) }
         requires refused { OnErr answer.now (desk_out seat.old.me.1 ≡ seat.old.me.0.hand) }
         ensures id { seat.new.table_id ≡ seat.old.table_id }
@@ -431,7 +442,8 @@ impl Board {
         requires id { seat.old.table_id ≡ self.now.table.shared.table_id }
         requires desk { (seat.old.me.0.holds ≡ true) × (seat.old.me.1 ≡ (0, desk_out seat.old.me.1) ∷ []) }
         requires publisher { seat.old.me.0.post.publishes ≡ true }
-        requires counts { MayCount seat.old.me.0.hand (new_records seat.old.me.0.hand.ids _channel.now) (desk_out seat.old.me.1) }
+        requires counts { MayCount seat.old.me.0.hand (new_records seat.old.me.0.hand.ids _channel.now)
+            (desk_out seat.old.me.1) }
         requires known { count ≡ 0 → desk_out seat.old.me.1 ≡ seat.old.me.0.hand }
         ensures id { seat.new.table_id ≡ seat.old.table_id }
         ensures view { seat.new.me.0 ≡ counts seat.old.me.0 (desk_out seat.old.me.1) }
@@ -452,8 +464,10 @@ impl Board {
         requires id { seat.old.table_id ≡ self.now.table.shared.table_id }
         requires desk { HasDesk seat.old.me }
         requires named { IfOk answer.now (λ given. NamedAt seat.old.me.0.hand (given.channel, channel.now)) }
-        requires no_schemas { answer.now ≡ Err TooManySchemas → LacksIdAt seat.old.me.0.hand (channel.now, TooManySchemas) }
-        requires no_channels { answer.now ≡ Err TooManyChannels → LacksIdAt seat.old.me.0.hand (channel.now, TooManyChannels) }
+        requires no_schemas { answer.now ≡ Err TooManySchemas
+            → LacksIdAt seat.old.me.0.hand (channel.now, TooManySchemas) }
+        requires no_channels { answer.now ≡ Err TooManyChannels
+            → LacksIdAt seat.old.me.0.hand (channel.now, TooManyChannels) }
         ensures id { seat.new.table_id ≡ seat.old.table_id }
         ensures me { seat.new.me ≡ (frees seat.old.me.0 (pass_declared seat.old.me.0 channel.now answer.now), []) }
     {
@@ -566,7 +580,8 @@ impl Board {
     // The drain stops the intake where no end was found.
     fn stop_if(&self, seat: &mut Seat, end: Option<End>, stop: Why)
         requires id { seat.old.table_id ≡ self.now.table.shared.table_id }
-        requires desk { (seat.old.me.0.holds ≡ true) × (seat.old.me.1 ≡ (0, ended seat.old.me.0.hand (Stopped stop)) ∷ []) }
+        requires desk { (seat.old.me.0.holds ≡ true)
+            × (seat.old.me.1 ≡ (0, ended seat.old.me.0.hand (Stopped stop)) ∷ []) }
         requires drain { seat.old.me.0.post ≡ drain_post seat.old.me.0.post.stop seat.old.me.0.post.taken }
         requires end { end ≡ desk_end seat.old.me.0.hand }
         ensures id { seat.new.table_id ≡ seat.old.table_id }
@@ -604,7 +619,8 @@ impl Board {
         requires id { seat.old.table_id ≡ self.now.table.shared.table_id }
         requires desk { (seat.old.me.0.holds ≡ true) × (seat.old.me.1 ≡ (0, desk_out seat.old.me.1) ∷ []) }
         requires publisher { seat.old.me.0.post.publishes ≡ true }
-        requires counts { OnOk answer.now (MayCount seat.old.me.0.hand (message_record _m.now ∷ []) (desk_out seat.old.me.1)) }
+        requires counts { OnOk answer.now (MayCount seat.old.me.0.hand (message_record _m.now ∷ [])
+            (desk_out seat.old.me.1)) }
         requires refused { OnErr answer.now (desk_out seat.old.me.1 ≡ seat.old.me.0.hand) }
         ensures id { seat.new.table_id ≡ seat.old.table_id }
         ensures me { seat.new.me ≡ (frees_behind seat.old.me.0 (desk_out seat.old.me.1) answer.now, []) }
@@ -644,8 +660,10 @@ impl Board {
         requires id { seat.old.table_id ≡ self.now.table.shared.table_id }
         requires desk { HasDesk seat.old.me }
         requires named { IfOk answer.now (λ given. NamedAt seat.old.me.0.hand (given.channel, channel.now)) }
-        requires no_schemas { answer.now ≡ Err TooManySchemas → LacksIdAt seat.old.me.0.hand (channel.now, TooManySchemas) }
-        requires no_channels { answer.now ≡ Err TooManyChannels → LacksIdAt seat.old.me.0.hand (channel.now, TooManyChannels) }
+        requires no_schemas { answer.now ≡ Err TooManySchemas
+            → LacksIdAt seat.old.me.0.hand (channel.now, TooManySchemas) }
+        requires no_channels { answer.now ≡ Err TooManyChannels
+            → LacksIdAt seat.old.me.0.hand (channel.now, TooManyChannels) }
         ensures id { seat.new.table_id ≡ seat.old.table_id }
         ensures me { seat.new.me ≡ (frees seat.old.me.0 (pass_named seat.old.me.0 channel.now answer.now), []) }
     {

@@ -16,7 +16,8 @@ impl<'t> Control<'t> {
     /// A publisher. They are numbered from 0, in order.
     pub fn publisher(&mut self) -> Publisher<'t>
         requires { self.old.seat.me.0.post.made < 64 }
-        ensures turn { (self.new.seat.table_id ≡ self.old.seat.table_id) × (result.seat.table_id ≡ self.old.seat.table_id) }
+        ensures turn { (self.new.seat.table_id ≡ self.old.seat.table_id)
+            × (result.seat.table_id ≡ self.old.seat.table_id) }
         ensures made { self.new.seat.me.0 ≡ hires self.old.seat.me.0 }
         ensures number { result.number ≡ self.old.seat.me.0.post.made }
         ensures new { result.seat.me.0 ≡ hired self.old.seat.me.0 }
@@ -62,7 +63,8 @@ impl<'t> Control<'t> {
     /// Closes the intake where no end stands, and answers how many records it has then. It may wait for the turn.
     pub fn close<R: Wait>(&mut self, rt: &R) -> u64
         ensures turn { self.new.seat.table_id ≡ self.old.seat.table_id }
-        ensures closed { ClosesBy self.old.seat.me.0.pass self.old.seat.me.0.post self.new.seat.me.0.pass self.new.seat.me.0.post result }
+        ensures closed { ClosesBy self.old.seat.me.0.pass self.old.seat.me.0.post self.new.seat.me.0.pass
+            self.new.seat.me.0.post result }
     {
         self.board.wait(rt, &mut self.seat);
         self.board.close_in_turn(&mut self.seat)

@@ -14,7 +14,8 @@ impl Drain<'_> {
     pub fn swap<R: Wait>(&mut self, rt: &R, empty: Cache) -> Result<Cache, Empty>
         requires { empty ≡ record { limit = self.old.seat.me.0.pass.limit; records = [] } }
         ensures turn { self.new.seat.table_id ≡ self.old.seat.table_id }
-        ensures swapped { SwapsTo self.old.seat.me.0.pass self.old.seat.me.0.post self.new.seat.me.0.pass self.new.seat.me.0.post result }
+        ensures swapped { SwapsTo self.old.seat.me.0.pass self.old.seat.me.0.post self.new.seat.me.0.pass
+            self.new.seat.me.0.post result }
     {
         self.board.wait(rt, &mut self.seat);
         self.board.swap_in_turn(&mut self.seat, empty)
@@ -24,7 +25,8 @@ impl Drain<'_> {
     pub fn stop<R: Wait>(&mut self, rt: &R, stop: Stop) -> u64
         requires { IsCause stop }
         ensures turn { self.new.seat.table_id ≡ self.old.seat.table_id }
-        ensures stopped { StopsBy self.old.seat.me.0.pass self.old.seat.me.0.post stop self.new.seat.me.0.pass self.new.seat.me.0.post result }
+        ensures stopped { StopsBy self.old.seat.me.0.pass self.old.seat.me.0.post stop self.new.seat.me.0.pass
+            self.new.seat.me.0.post result }
     {
         self.board.wait(rt, &mut self.seat);
         self.board.stop_in_turn(&mut self.seat, stop)

@@ -24,7 +24,8 @@ impl<R: Wait> Pass for LanePass<'_, '_, R> {
     ghost use Rattle.buffer_swap.specs.Calls.{reasoned, NamesSchema};
 
     // It is the same publisher, of the same turn, waits for room as before, and shows what that publisher shows.
-    ghost since = { λ begun now shown. (now.publisher.seat.table_id ≡ begun.publisher.seat.table_id) × (now.publisher.number ≡ begun.publisher.number) × (now.lossless ≡ begun.lossless)
+    ghost since = { λ begun now shown. (now.publisher.seat.table_id ≡ begun.publisher.seat.table_id)
+        × (now.publisher.number ≡ begun.publisher.number) × (now.lossless ≡ begun.lossless)
         × (shown ≡ reasoned now.publisher.seat.me.0.pass shown.reasons) × (now.lossless ≡ true → shown.fulls ≡ []) };
 
     ghost knows = { λ pass schema. NamesSchema pass.publisher.seat.me.0.pass pass.publisher.last schema };

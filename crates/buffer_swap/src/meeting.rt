@@ -14,12 +14,15 @@ use crate::seats::{Control, Drain};
 pub fn meet(control: &mut Control<'_>, drain: &mut Drain<'_>)
     requires turn { drain.old.seat.table_id ≡ control.old.seat.table_id }
     requires gathered { length control.old.seat.me.0.post.known ≡ control.old.seat.me.0.post.made }
-    ensures control { (control.new.seat.table_id ≡ control.old.seat.table_id) × (control.new.seat.me.0.pass ≡ control.old.seat.me.0.pass) }
-    ensures made { (control.new.seat.me.0.post.made ≡ control.old.seat.me.0.post.made) × (control.new.seat.me.0.post.known ≡ control.old.seat.me.0.post.known) }
+    ensures control { (control.new.seat.table_id ≡ control.old.seat.table_id)
+        × (control.new.seat.me.0.pass ≡ control.old.seat.me.0.pass) }
+    ensures made { (control.new.seat.me.0.post.made ≡ control.old.seat.me.0.post.made)
+        × (control.new.seat.me.0.post.known ≡ control.old.seat.me.0.post.known) }
     ensures closed { control.new.seat.me.0.post.closed ≡ control.old.seat.me.0.post.closed }
     ensures drain { (drain.new.seat.table_id ≡ drain.old.seat.table_id) × (drain.new.seat.me ≡ drain.old.seat.me) }
     ensures met { (end : End) → DrainIsOver drain.old.seat.me.0.pass drain.old.seat.me.0.post end
-        → Met control.old.seat.me.0.post.made control.old.seat.me.0.post.known control.old.seat.me.0.post.closed drain.old.seat.me.0.post.stop drain.old.seat.me.0.post.taken end }
+        → Met control.old.seat.me.0.post.made control.old.seat.me.0.post.known control.old.seat.me.0.post.closed
+        drain.old.seat.me.0.post.stop drain.old.seat.me.0.post.taken end }
 {
     let shared = &control.board.table.shared;
     let note = shared.split_seat::<Note>(&mut drain.seat);

@@ -65,7 +65,8 @@ impl<'t> Publisher<'t> {
     pub fn try_publish(&mut self, m: &NewMessage<'_>) -> Option<Result<u64, CallRefused>>
         ensures turn { self.new.seat.table_id ≡ self.old.seat.table_id }
         ensures number { self.new.number ≡ self.old.number }
-        ensures answer { TriesBy self.old.seat.me.0.pass self.old.seat.me.0.missed self.new.seat.me.0.pass self.new.seat.me.0.missed m.now result }
+        ensures answer { TriesBy self.old.seat.me.0.pass self.old.seat.me.0.missed self.new.seat.me.0.pass
+            self.new.seat.me.0.missed m.now result }
     {
         let len = m.payload.len() as u64;
         if len > 33_554_432 {
@@ -146,8 +147,10 @@ impl<'t> Publisher<'t> {
         ensures turn { self.new.seat.table_id ≡ self.old.seat.table_id }
         ensures number { self.new.number ≡ self.old.number }
         ensures last { self.new.last ≡ self.old.last }
-        ensures answer { NotFull result → PublishesMessage self.old.seat.me.0.pass self.new.seat.me.0.pass m.now result }
-        ensures full { (held from to : ℕ) → result ≡ Err (Full held from to) → LooksOn self.old.seat.me.0.pass self.new.seat.me.0.pass }
+        ensures answer { NotFull result
+            → PublishesMessage self.old.seat.me.0.pass self.new.seat.me.0.pass m.now result }
+        ensures full { (held from to : ℕ) → result ≡ Err (Full held from to)
+            → LooksOn self.old.seat.me.0.pass self.new.seat.me.0.pass }
     {
         self.board.wait(rt, &mut self.seat);
         let found = self.board.found_out(&mut self.seat);
@@ -195,8 +198,10 @@ impl<'t> Publisher<'t> {
         ensures turn { self.new.seat.table_id ≡ self.old.seat.table_id }
         ensures number { self.new.number ≡ self.old.number }
         ensures last { self.new.last ≡ last_of self.old.last result }
-        ensures answer { NeverFull result → DeclaresChannel self.old.seat.me.0.pass self.new.seat.me.0.pass channel.now result }
-        ensures full { (held from to : ℕ) → result ≡ Err (Full held from to) → LooksOn self.old.seat.me.0.pass self.new.seat.me.0.pass }
+        ensures answer { NeverFull result
+            → DeclaresChannel self.old.seat.me.0.pass self.new.seat.me.0.pass channel.now result }
+        ensures full { (held from to : ℕ) → result ≡ Err (Full held from to)
+            → LooksOn self.old.seat.me.0.pass self.new.seat.me.0.pass }
     {
         self.board.wait(rt, &mut self.seat);
         let found = self.board.found_out(&mut self.seat);

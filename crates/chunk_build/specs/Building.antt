@@ -66,7 +66,8 @@ pub record CanClose (chunk : Building) (more : ℕ) (closing : Closing) : Type 0
 -- Indexes.
 abbrev pub ClosingReady : ℕ → ℕ → Building → Option Closing → Type 0
 ClosingReady size len chunk None = (length (drop 49 chunk.bytes.items) + len < size) × HasRoom chunk.bytes len
-ClosingReady size len chunk (Some closing) = (size ≤ length (drop 49 chunk.bytes.items) + len) × HasRoom chunk.bytes (len + (chunk.index + 31)) × CanClose chunk 1 closing
+ClosingReady size len chunk (Some closing) = (size ≤ length (drop 49 chunk.bytes.items) + len)
+    × HasRoom chunk.bytes (len + (chunk.index + 31)) × CanClose chunk 1 closing
 
 -- a record of so many bytes can be put with no refusal
 pub record IsReady (size len : ℕ) (mark : Option Mark) (chunk : Building) (ready : Ready) : Type 0 where

@@ -16,10 +16,12 @@ StandsFor c history = c.chunk ≡ chunk_of_records (cuts (Some c.size) history).
 -- a block is given exactly where one more is cut, and it is that of the records that waited and this one
 abbrev pub Closes : Cuts → Rec → Cuts → Option Block → Type 0
 Closes before r after None = after.pieces ≡ before.pieces
-Closes before r after (Some b) = (after.pieces ≡ before.pieces ++ block (before.waiting ++ r ∷ []) ∷ []) × IsBlock b (before.waiting ++ r ∷ [])
+Closes before r after (Some b) =
+    (after.pieces ≡ before.pieces ++ block (before.waiting ++ r ∷ []) ∷ []) × IsBlock b (before.waiting ++ r ∷ [])
 
 -- a record was put behind a history
-pub record PutsRecord (size : ℕ) (history : List Rec) (r : Rec) (closed : Option Block) (after : Chunking) : Type 0 where
+pub record PutsRecord (size : ℕ) (history : List Rec) (r : Rec) (closed : Option Block) (after : Chunking)
+    : Type 0 where
   pub stands : StandsFor after (history ++ r ∷ [])
   pub same_size : after.size ≡ size
   pub closes : Closes (cuts (Some size) history) r (cuts (Some size) (history ++ r ∷ [])) closed

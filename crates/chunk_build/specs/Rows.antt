@@ -75,13 +75,15 @@ rows_size (row ∷ rows) = 15 + length row.1 + rows_size rows
 -- where they start and what they hold, where the first one stands at that offset
 abbrev pub rows_parts : ℕ → List (ℕ × List ℕ) → List IndexPart
 rows_parts at [] = []
-rows_parts at (row ∷ rows) = record { channel = row.0; offset = at; count = length row.1 / 16 } ∷ rows_parts (at + (15 + length row.1)) rows
+rows_parts at (row ∷ rows) =
+    record { channel = row.0; offset = at; count = length row.1 / 16 } ∷ rows_parts (at + (15 + length row.1)) rows
 
 -- ---- a row is taken
 
 -- The entries of a channel are taken, if it has some, and its Message Index is added to the bytes and to the parts. What is left is
 -- of later channels.
-pub record TakesRow (old new : List (ℕ × List ℕ)) (channel : ℕ) (bytes : List ℕ × List ℕ) (parts : List IndexPart × List IndexPart) : Type 0 where
+pub record TakesRow (old new : List (ℕ × List ℕ)) (channel : ℕ) (bytes : List ℕ × List ℕ)
+    (parts : List IndexPart × List IndexPart) : Type 0 where
   pub taken : List (ℕ × List ℕ)
   pub joined : old ≡ taken ++ new
   pub bytes_are : bytes.1 ≡ bytes.0 ++ rows_bytes taken

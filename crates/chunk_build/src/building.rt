@@ -220,7 +220,8 @@ fn note_message(chunk: &mut Building, offset: u64, mark: Mark, row: usize)
     requires row { IsRowReady chunk.old.rows row mark.channel }
     requires before { 31 * chunk.old.messages + chunk.old.declared ≤ offset }
     requires behind { offset + 31 ≤ length (drop 49 chunk.old.bytes.items) }
-    ensures noted { chunk_in_memory chunk.new ≡ with_indexed_message (chunk_in_memory chunk.old) offset mark.channel mark.time }
+    ensures noted { chunk_in_memory chunk.new
+        ≡ with_indexed_message (chunk_in_memory chunk.old) offset mark.channel mark.time }
     ensures sound { IsSound chunk.new }
     ensures bytes { chunk.new.bytes ≡ chunk.old.bytes }
     ensures used { length chunk.new.rows.used.items ≤ length chunk.old.rows.used.items + 1 }
@@ -277,7 +278,8 @@ pub(crate) fn settle(
     requires behind { StandsBehind offset (length (drop 49 chunk.old.bytes.items)) mark }
     requires closing { CanCloseBy chunk.old ready.closing }
     requires small { chunk.old.index < 2 ^ 31 }
-    ensures settled { Settles (record_counted (chunk_in_memory chunk.old) offset mark) ready.closing result (chunk_in_memory chunk.new) }
+    ensures settled { Settles (record_counted (chunk_in_memory chunk.old) offset mark) ready.closing result
+        (chunk_in_memory chunk.new) }
     ensures sound { IsSound chunk.new }
 {
     let Ready { row, closing } = ready;
@@ -292,7 +294,8 @@ pub(crate) fn settle(
 fn add_chunk_head(head: &mut Vec<u8>, start: u64, end: u64, records: &[u8])
     requires room { HasRoom head.old 49 }
     requires empty { head.old.items ≡ [] }
-    ensures framed { head.new.items ++ records.now ≡ framed chunk_opcode (chunk_text (plain_chunk start end records.now)) }
+    ensures framed { head.new.items ++ records.now
+        ≡ framed chunk_opcode (chunk_text (plain_chunk start end records.now)) }
     ensures len { length head.new.items ≡ 49 }
 {
     let len = records.len() as u64;

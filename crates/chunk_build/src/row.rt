@@ -123,7 +123,8 @@ pub(crate) fn put_entry(rows: &mut Rows, i: usize, channel: u16, time: u64, offs
     requires sound { RowsSound rows.old }
     requires row { IsRowReady rows.old i channel }
     ensures sound { RowsSound rows.new }
-    ensures entries { rows_in rows.new.list.items ≡ with_entry (rows_in rows.old.list.items) channel (le 8 time ++ le 8 offset) }
+    ensures entries { rows_in rows.new.list.items
+        ≡ with_entry (rows_in rows.old.list.items) channel (le 8 time ++ le 8 offset) }
     ensures used { length rows.new.used.items ≤ length rows.old.used.items + 1 }
     ensures size { rows_size (rows_in rows.new.list.items) ≡ rows_size (rows_in rows.old.list.items) + result }
     ensures few { result ≤ 31 }
@@ -192,7 +193,8 @@ fn take_index(
     requires room { HasRoom bytes.old (rows_size (rows_in rows.old.items)) }
     requires parts_room { vec_len parts.old + 1 ≤ vec_capacity parts.old }
     ensures rise { RowsRise rows.new.items }
-    ensures taken { TakesRow (rows_in rows.old.items) (rows_in rows.new.items) channel (bytes.old.items, bytes.new.items) (parts.old.items, parts.new.items) }
+    ensures taken { TakesRow (rows_in rows.old.items) (rows_in rows.new.items) channel
+        (bytes.old.items, bytes.new.items) (parts.old.items, parts.new.items) }
     ensures capacity { vec_capacity bytes.old ≤ vec_capacity bytes.new }
     ensures parts_len { vec_len parts.new ≤ vec_len parts.old + 1 }
     ensures parts_capacity { vec_capacity parts.old ≤ vec_capacity parts.new }
@@ -246,7 +248,8 @@ pub(crate) fn take_indexes(
     ensures sound { RowsSound rows.new }
     ensures none { rows_in rows.new.list.items ≡ [] }
     ensures bytes { bytes.new.items ≡ bytes.old.items ++ rows_bytes (rows_in rows.old.list.items) }
-    ensures parts { parts.new.items ≡ parts.old.items ++ rows_parts (length bytes.old.items) (rows_in rows.old.list.items) }
+    ensures parts { parts.new.items
+        ≡ parts.old.items ++ rows_parts (length bytes.old.items) (rows_in rows.old.list.items) }
 {
     rows.used.sort_unstable();
     take_each(alloc, &mut rows.list, &rows.used, bytes, parts);

@@ -9,7 +9,9 @@ use Rattle.chunk_survey.specs.Spans.{spans_one}
 
 -- a span stands at its record's offset, its times are those of the record's messages, and it has as many
 abbrev pub SpansTellTimes : Type 0
-SpansTellTimes = (offset : ℕ) (t : Top) (s : Span) → Has (spans_one offset t) s → (s.offset ≡ offset) × TimesSpan (times_of (unchunked t)) s.least s.greatest s.in_order × (s.messages ≡ length (times_of (unchunked t)))
+SpansTellTimes = (offset : ℕ) (t : Top) (s : Span) → Has (spans_one offset t) s
+    → (s.offset ≡ offset) × TimesSpan (times_of (unchunked t)) s.least s.greatest s.in_order
+    × (s.messages ≡ length (times_of (unchunked t)))
 
 -- a record without a span is and holds no Message whose content meets its layout
 abbrev pub SilentRecordsHaveNone : Type 0

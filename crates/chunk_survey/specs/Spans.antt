@@ -8,7 +8,9 @@ use Rattle.chunk_survey.specs.Times.{times_of, extent_of}
 -- the span of so many messages with that extent, if there are any
 abbrev pub spans_made : ℕ → ℕ → ℕ → ℕ → Option Extent → List Span
 spans_made offset at len count None = []
-spans_made offset at len count (Some e) = record { offset = offset; at = at; length = len; messages = count; least = e.least; greatest = e.greatest; in_order = e.in_order } ∷ []
+spans_made offset at len count (Some e) = record
+    { offset = offset; at = at; length = len; messages = count; least = e.least; greatest = e.greatest; in_order = e.in_order }
+    ∷ []
 
 -- that of messages with those times
 abbrev pub spans_timed : ℕ → ℕ → ℕ → List ℕ → List Span

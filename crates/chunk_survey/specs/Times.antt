@@ -13,7 +13,9 @@ times_of records = map (λ t. time_in t.content) (filter is_headed records)
 -- the extent of one time more
 abbrev pub with_time : Option Extent → ℕ → Option Extent
 with_time None time = Some (record { least = time; greatest = time; last = time; in_order = true })
-with_time (Some e) time = Some (record { least = min e.least time; greatest = max e.greatest time; last = time; in_order = e.in_order && nat_le e.last time })
+with_time (Some e) time =
+    Some (record
+    { least = min e.least time; greatest = max e.greatest time; last = time; in_order = e.in_order && nat_le e.last time })
 
 -- that of some times, if there are any
 abbrev pub extent_of : List ℕ → Option Extent

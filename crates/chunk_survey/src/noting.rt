@@ -72,7 +72,8 @@ fn note_message(
     content: &[u8],
 ) -> Result<(), Memory>
     requires { heads.old.items ≡ [] }
-    ensures spans { OnOk result (spans.new.items ≡ spans.old.items ++ spans_one offset (top message_opcode content.now)) }
+    ensures spans { OnOk result (spans.new.items
+        ≡ spans.old.items ++ spans_one offset (top message_opcode content.now)) }
     ensures heads { OnOk result (heads.new.items ≡ heads_under (top message_opcode content.now)) }
 {
     let head = head_alone(content)?;

@@ -23,7 +23,8 @@ TurnBefore t u = (t.log_time < u.log_time)
 
 -- a message comes before all of another piece, none of which was logged before its least time
 abbrev pub TurnBeforePiece : Turn → Piece → Type 0
-TurnBeforePiece t p = (t.log_time < p.span.least) ⊎ ((t.log_time ≡ p.span.least) × ((t.input < p.input) ⊎ ((t.input ≡ p.input) × (t.at < p.span.at))))
+TurnBeforePiece t p = (t.log_time < p.span.least)
+    ⊎ ((t.log_time ≡ p.span.least) × ((t.input < p.input) ⊎ ((t.input ≡ p.input) × (t.at < p.span.at))))
 
 -- the turns that are left in a piece
 abbrev pub turns_left : Cursor → List Turn
@@ -31,7 +32,8 @@ turns_left c = map (turn_of c.piece) (drop c.given c.heads.items)
 
 -- a message of one piece doesn't come behind that of another: their places inside aren't looked at
 abbrev pub PieceTurnNotBehind : Turn → Turn → Type 0
-PieceTurnNotBehind t u = (t.log_time < u.log_time) ⊎ ((t.log_time ≡ u.log_time) × ((t.input < u.input) ⊎ ((t.input ≡ u.input) × (t.at ≤ u.at))))
+PieceTurnNotBehind t u = (t.log_time < u.log_time)
+    ⊎ ((t.log_time ≡ u.log_time) × ((t.input < u.input) ⊎ ((t.input ≡ u.input) × (t.at ≤ u.at))))
 
 -- one is left
 abbrev pub HasLeft : Cursor → Type 0
@@ -43,11 +45,13 @@ IsNext c t = (e : MessageHead) × At c.heads.items c.given e × (t ≡ turn_of c
 
 -- of the pieces at two places this is one whose next message doesn't come behind that of the other
 abbrev pub EarlierOf : List Cursor → ℕ → ℕ → ℕ → Type 0
-EarlierOf cursors first i n = (c d : Cursor) (t u : Turn) → At cursors first c → At cursors i d → IsNext c t → IsNext d u → ((n ≡ first) × PieceTurnNotBehind t u) ⊎ ((n ≡ i) × PieceTurnNotBehind u t)
+EarlierOf cursors first i n = (c d : Cursor) (t u : Turn) → At cursors first c → At cursors i d → IsNext c t
+    → IsNext d u → ((n ≡ first) × PieceTurnNotBehind t u) ⊎ ((n ≡ i) × PieceTurnNotBehind u t)
 
 -- the piece at that place has a next message which doesn't come behind that of any other
 abbrev pub IsFirst : List Cursor → ℕ → Type 0
-IsFirst cursors i = (c : Cursor) × (t : Turn) × At cursors i c × IsNext c t × Each (λ d. (u : Turn) → IsNext d u → PieceTurnNotBehind t u) cursors
+IsFirst cursors i = (c : Cursor) × (t : Turn) × At cursors i c × IsNext c t
+    × Each (λ d. (u : Turn) → IsNext d u → PieceTurnNotBehind t u) cursors
 
 abbrev pub FindsFirstCursor : List Cursor → Option ℕ → Type 0
 FindsFirstCursor cursors (Some i) = IsFirst cursors i
@@ -55,7 +59,8 @@ FindsFirstCursor cursors None = cursors ≡ []
 
 -- whether there is a next message of the piece at that place, and it comes before all of another piece
 abbrev pub TellsBefore : List Cursor → Option ℕ → Piece → Bool → Type 0
-TellsBefore cursors (Some i) p before = (c : Cursor) × (t : Turn) × At cursors i c × IsNext c t × (IsTrue before ↔ TurnBeforePiece t p)
+TellsBefore cursors (Some i) p before =
+    (c : Cursor) × (t : Turn) × At cursors i c × IsNext c t × (IsTrue before ↔ TurnBeforePiece t p)
 TellsBefore cursors None p before = before ≡ false
 
 -- nothing was given of a piece with these bytes: its messages are those of the bytes, in their order, as many as the span's and
@@ -72,5 +77,6 @@ pub record IsFreshCursor (p : Piece) (bytes : List ℕ) (c : Cursor) : Type 0 wh
 -- bytes that can't be those of the piece's span are refused as changed
 abbrev pub MakesCursor : Piece → List ℕ → Result Cursor WalkRefused → Type 0
 MakesCursor p bytes (Ok c) = IsFreshCursor p bytes c
-MakesCursor p bytes (Err (refusals.Changed input offset)) = (input ≡ p.input) × (offset ≡ p.span.offset) × (FitsSpan p.span bytes → ⊥)
+MakesCursor p bytes (Err (refusals.Changed input offset)) =
+    (input ≡ p.input) × (offset ≡ p.span.offset) × (FitsSpan p.span bytes → ⊥)
 MakesCursor p bytes (Err (refusals.Refused input why)) = (input ≡ p.input) × (why ≡ readings.Memory)

@@ -25,4 +25,5 @@ HeadBefore a b = (a.time < b.time) ⊎ ((a.time ≡ b.time) × (a.offset < b.off
 
 -- each comes before the next
 abbrev pub HeadsRise : List MessageHead → Type 0
-HeadsRise heads = (k : ℕ) (d : MessageHead) → k + 1 < length heads → HeadBefore (slice_index_or heads k d) (slice_index_or heads (k + 1) d)
+HeadsRise heads = (k : ℕ) (d : MessageHead) → k + 1 < length heads
+    → HeadBefore (slice_index_or heads k d) (slice_index_or heads (k + 1) d)

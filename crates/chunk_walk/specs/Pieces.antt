@@ -15,11 +15,13 @@ pieces_with input spans = map (λ s. record { input = input; span = s }) spans
 
 -- a piece isn't loaded behind another: by least time, input, and where it begins
 abbrev pub PieceNotBehind : Piece → Piece → Type 0
-PieceNotBehind p q = (p.span.least < q.span.least) ⊎ ((p.span.least ≡ q.span.least) × ((p.input < q.input) ⊎ ((p.input ≡ q.input) × (p.span.at ≤ q.span.at))))
+PieceNotBehind p q = (p.span.least < q.span.least)
+    ⊎ ((p.span.least ≡ q.span.least) × ((p.input < q.input) ⊎ ((p.input ≡ q.input) × (p.span.at ≤ q.span.at))))
 
 -- none comes behind the next
 abbrev pub PiecesInOrder : List Piece → Type 0
-PiecesInOrder pieces = (k : ℕ) (d : Piece) → k + 1 < length pieces → PieceNotBehind (slice_index_or pieces k d) (slice_index_or pieces (k + 1) d)
+PiecesInOrder pieces = (k : ℕ) (d : Piece) → k + 1 < length pieces
+    → PieceNotBehind (slice_index_or pieces k d) (slice_index_or pieces (k + 1) d)
 
 -- these are as many bytes as a piece has; where its input tells, they stand in it there
 pub record AreBytesOf (files : InputBytes) (p : Piece) (bytes : List ℕ) : Type 0 where
@@ -40,7 +42,8 @@ pieces_size input pieces = sum_by (λ p. if p.input == input then p.span.length 
 
 -- how many bytes those have in whose times a time lies
 abbrev pub overlap_at : ℕ → List Piece → ℕ
-overlap_at time pieces = sum_by (λ p. if nat_le p.span.least time && nat_le time p.span.greatest then p.span.length else 0) pieces
+overlap_at time pieces =
+    sum_by (λ p. if nat_le p.span.least time && nat_le time p.span.greatest then p.span.length else 0) pieces
 
 -- so many bytes are no more than pieces overlap at the least time of one of them, or none
 abbrev pub IsInOverlap : List Piece → ℕ → Type 0

@@ -20,7 +20,8 @@ files_of stores = map (λ s. s.bytes) stores
 
 -- each piece lies within the length that its store has answered
 abbrev pub StoresFit : List StoreState → List Piece → Type 0
-StoresFit stores pieces = Each (λ p. (s : StoreState) × At stores p.input s × (p.span.at + p.span.length ≤ s.known)) pieces
+StoresFit stores pieces =
+    Each (λ p. (s : StoreState) × At stores p.input s × (p.span.at + p.span.length ≤ s.known)) pieces
 
 -- stores tell the same bytes and the same length
 abbrev pub StoresStay : List StoreState → List StoreState → Type 0
@@ -46,7 +47,8 @@ pub record OneRose (olds news : List StoreState) (place faults : ℕ) : Type 0 w
 
 -- Each store, by its number, was asked for no more than so many bytes, but for those that it may still be asked for.
 abbrev pub AskedWithin : List StoreState → List StoreState → (ℕ → ℕ) → (ℕ → ℕ) → Type 0
-AskedWithin olds news before after = (k : ℕ) (old new : StoreState) → At olds k old → At news k new → new.asked + after k ≤ old.asked + before k
+AskedWithin olds news before after =
+    (k : ℕ) (old new : StoreState) → At olds k old → At news k new → new.asked + after k ≤ old.asked + before k
 
 -- how many bytes of an input a walk may still ask for: those of the pieces that weren't loaded
 abbrev pub unasked : Walk → ℕ → ℕ
@@ -78,7 +80,8 @@ AskedAfter olds news old new (Ok it) = AskedWithin olds news (unasked old) (unas
 AskedAfter olds news old new (Err why) = AskedWithin olds news (unasked old) none_left
 
 -- what a call leaves of the stores
-pub record LeavesStores {X : Type 0} (olds news : List StoreState) (old new : Walk) (result : Result X WalkRefused) : Type 0 where
+pub record LeavesStores {X : Type 0} (olds news : List StoreState) (old new : Walk) (result : Result X WalkRefused)
+    : Type 0 where
   pub stay : StoresStay olds news
   pub counts : CountsAfter olds news result
   pub asked : AskedAfter olds news old new result

@@ -61,7 +61,8 @@ pub record IsTextOf (files : InputBytes) (p : Piece) (x : Text) : Type 0 where
 
 -- the window holds the text, and nothing else that begins there
 abbrev pub HoldsText : Walk → Text → Type 0
-HoldsText w x = IsPartLoaded (loaded_in w.window) x.piece.input x.piece.span.at × Each (λ l. IsPartAt x.piece.input x.piece.span.at l → l.bytes ≡ x.bytes) (loaded_in w.window)
+HoldsText w x = IsPartLoaded (loaded_in w.window) x.piece.input x.piece.span.at
+    × Each (λ l. IsPartAt x.piece.input x.piece.span.at l → l.bytes ≡ x.bytes) (loaded_in w.window)
 
 -- the record of a turn: it stands among those of the text, at the turn's place
 pub record IsMessageAt (x : Text) (t : Turn) (r : Top) : Type 0 where
@@ -135,7 +136,8 @@ StandsBehindSome files w = (texts : List Text) × (given : List Turn) × WalkSta
 
 -- no message that is next was logged before the least time of the next piece
 abbrev pub NextIsDue : Walk → Type 0
-NextIsDue w = (p : Piece) → At w.pieces.items w.next p → Each (λ c. (t : Turn) → IsNext c t → p.span.least ≤ t.log_time) w.cursors.items
+NextIsDue w = (p : Piece) → At w.pieces.items w.next p
+    → Each (λ c. (t : Turn) → IsNext c t → p.span.least ≤ t.log_time) w.cursors.items
 
 -- the next piece is loaded
 pub record LoadsNext (files : InputBytes) (old new : Walk) : Type 0 where
@@ -154,13 +156,15 @@ pub record LoadsNext (files : InputBytes) (old new : Walk) : Type 0 where
 
 -- the bytes of a piece are loaded
 abbrev pub LoadsPiece : InputBytes → Piece → List Loaded → List Loaded → Result Unit WalkRefused → Type 0
-LoadsPiece files p old new (Ok it) = (bytes : List ℕ) × AreBytesOf files p bytes × (new ≡ old ++ loaded_part p.input p.span.at bytes ∷ [])
+LoadsPiece files p old new (Ok it) =
+    (bytes : List ℕ) × AreBytesOf files p bytes × (new ≡ old ++ loaded_part p.input p.span.at bytes ∷ [])
 LoadsPiece files p old new (Err why) = Unit {0}
 
 -- A piece that wasn't loaded yet is changed: bytes were loaded for it which can't be those of its span; or another begins
 -- at its place.
 abbrev pub IsWalkRefused : InputBytes → Walk → WalkRefused → Type 0
-IsWalkRefused files w (refusals.Changed input offset) = (p : Piece) × Has (pieces_ahead w) p × (input ≡ p.input) × (offset ≡ p.span.offset)
+IsWalkRefused files w (refusals.Changed input offset) = (p : Piece) × Has (pieces_ahead w) p × (input ≡ p.input)
+    × (offset ≡ p.span.offset)
     × (((bytes : List ℕ) × AreBytesOf files p bytes × (FitsSpan p.span bytes → ⊥)) ⊎ IsSecond w.pieces.items p)
 IsWalkRefused files w (refusals.Refused input why) = Unit {0}
 
@@ -192,12 +196,14 @@ pub record LetsPieceGo (old new : Walk) : Type 0 where
 -- the piece has the next message, which comes before all of those that aren't loaded; or nothing is left
 abbrev pub DueIs : Walk → Option ℕ → Type 0
 DueIs w (Some i) = IsFirst w.cursors.items i
-    × (PiecesInOrder w.pieces.items → (c : Cursor) (t : Turn) (p : Piece) → At w.cursors.items i c → IsNext c t → Has (pieces_ahead w) p → TurnBeforePiece t p)
+    × (PiecesInOrder w.pieces.items → (c : Cursor) (t : Turn) (p : Piece) → At w.cursors.items i c → IsNext c t
+    → Has (pieces_ahead w) p → TurnBeforePiece t p)
 DueIs w None = (w.cursors.items ≡ []) × (length w.pieces.items ≤ w.next)
 
 -- from one walk to another some pieces are loaded
 abbrev pub StandsFrom : InputBytes → Walk → Walk → Type 0
-StandsFrom files start now = (texts : List Text) (given : List Turn) → WalkStands files start texts given → (more : List Text) × WalkStands files now (texts ++ more) given
+StandsFrom files start now = (texts : List Text) (given : List Turn) → WalkStands files start texts given
+    → (more : List Text) × WalkStands files now (texts ++ more) given
 
 pub record FindsDue (files : InputBytes) (old new : Walk) (found : Option ℕ) : Type 0 where
   pub pieces : new.pieces ≡ old.pieces
@@ -244,12 +250,14 @@ pub record IsOfHeld (w : Walk) (texts : List Text) (t : Turn) : Type 0 where
 -- the message that is next is given; or all pieces were loaded, and none is left
 abbrev pub GivesTurn : InputBytes → Walk → List Text → List Turn → Option Turn → Type 0
 GivesTurn files w texts given (Some t) = WalkStands files w texts (given ++ t ∷ []) × IsOfHeld w texts t
-GivesTurn files w texts given None = WalkStands files w texts given × AllGiven files w.pieces.items texts given × (pieces_loaded w ≡ w.pieces.items)
+GivesTurn files w texts given None =
+    WalkStands files w texts given × AllGiven files w.pieces.items texts given × (pieces_loaded w ≡ w.pieces.items)
 
 -- one turn more is given, of the texts so far and of those that are loaded for it; or none is left
 pub record Advances (files : InputBytes) (old new : Walk) (next : Option Turn) : Type 0 where
   pub pieces : new.pieces ≡ old.pieces
-  pub stands : (texts : List Text) (given : List Turn) → WalkStands files old texts given → (more : List Text) × GivesTurn files new (texts ++ more) given next
+  pub stands : (texts : List Text) (given : List Turn) → WalkStands files old texts given
+      → (more : List Text) × GivesTurn files new (texts ++ more) given next
 
 abbrev pub AdvancesOrRefuses : InputBytes → Walk → Walk → Result (Option Turn) WalkRefused → Type 0
 AdvancesOrRefuses files old new (Ok next) = Advances files old new next

@@ -35,8 +35,10 @@ fn load_piece<T: Store>(
 ) -> Result<(), WalkRefused>
     requires fits { StoresFit (map (λ s. T.state s) stores.old.items) (piece ∷ []) }
     requires unloaded { IsPartLoaded (loaded_in window.old) piece.input piece.span.at → ⊥ }
-    ensures loads { LoadsPiece (files_of (map (λ s. T.state s) stores.old.items)) piece (loaded_in window.old) (loaded_in window.new) result }
-    ensures stores { ReadsPiece (map (λ s. T.state s) stores.old.items) (map (λ s. T.state s) stores.new.items) piece result }
+    ensures loads { LoadsPiece (files_of (map (λ s. T.state s) stores.old.items)) piece (loaded_in window.old)
+        (loaded_in window.new) result }
+    ensures stores { ReadsPiece (map (λ s. T.state s) stores.old.items) (map (λ s. T.state s) stores.new.items) piece
+        result }
 {
     let at = Loadable {
         input: piece.input,
@@ -88,7 +90,8 @@ impl Walk {
     /// the piece.
     pub fn message(&self, turn: &Turn) -> Inner<'_>
         requires { (x : Text) × HoldsText self.now x × Has (turns_in x) turn.now }
-        ensures message { (x : Text) → HoldsText self.now x → Has (turns_in x) turn.now → IsMessageAt x turn.now (inner_top result) }
+        ensures message { (x : Text) → HoldsText self.now x → Has (turns_in x) turn.now
+            → IsMessageAt x turn.now (inner_top result) }
         ensures offset { result.offset ≡ turn.now.inner }
     {
         let bytes = self.window.bytes(turn.input, turn.at);
@@ -108,7 +111,8 @@ impl Walk {
         requires stands { StandsBehindSome (files_of (map (λ s. T.state s) stores.old.items)) self.old }
         requires fits { StoresFit (map (λ s. T.state s) stores.old.items) self.old.pieces.items }
         ensures loads { StepsOn (files_of (map (λ s. T.state s) stores.old.items)) self.old self.new result }
-        ensures stores { LeavesStores (map (λ s. T.state s) stores.old.items) (map (λ s. T.state s) stores.new.items) self.old self.new result }
+        ensures stores { LeavesStores (map (λ s. T.state s) stores.old.items) (map (λ s. T.state s) stores.new.items)
+            self.old self.new result }
     {
         let piece = self.pieces[self.next];
         if self.window.is_loaded(piece.input, piece.span.at) {
@@ -157,7 +161,8 @@ impl Walk {
         requires stands { StandsBehindSome (files_of (map (λ s. T.state s) stores.old.items)) self.old }
         requires fits { StoresFit (map (λ s. T.state s) stores.old.items) self.old.pieces.items }
         ensures finds { FindsOrRefuses (files_of (map (λ s. T.state s) stores.old.items)) self.old self.new result }
-        ensures stores { LeavesStores (map (λ s. T.state s) stores.old.items) (map (λ s. T.state s) stores.new.items) self.old self.new result }
+        ensures stores { LeavesStores (map (λ s. T.state s) stores.old.items) (map (λ s. T.state s) stores.new.items)
+            self.old self.new result }
     {
         'pieces: loop {
             let due = first_due(&self.cursors);
@@ -197,8 +202,10 @@ impl Walk {
     pub fn advance<T: Store>(&mut self, stores: &mut Vec<T>) -> Result<Option<Turn>, WalkRefused>
         requires stands { StandsBehindSome (files_of (map (λ s. T.state s) stores.old.items)) self.old }
         requires fits { StoresFit (map (λ s. T.state s) stores.old.items) self.old.pieces.items }
-        ensures advances { AdvancesOrRefuses (files_of (map (λ s. T.state s) stores.old.items)) self.old self.new result }
-        ensures stores { LeavesStores (map (λ s. T.state s) stores.old.items) (map (λ s. T.state s) stores.new.items) self.old self.new result }
+        ensures advances { AdvancesOrRefuses (files_of (map (λ s. T.state s) stores.old.items)) self.old self.new
+            result }
+        ensures stores { LeavesStores (map (λ s. T.state s) stores.old.items) (map (λ s. T.state s) stores.new.items)
+            self.old self.new result }
     {
         self.let_go();
         match self.load_due(stores) {

@@ -36,7 +36,8 @@ pub record IsOf (told : Option (List ℕ)) (at : Loadable) (bytes : List ℕ) : 
 
 -- one part more is loaded; or all stays as it was
 abbrev pub LoadsPart : Option (List ℕ) → Loadable → List Loaded → List Loaded → Result Unit ReadingRefused → Type 0
-LoadsPart told at old new (Ok it) = (bytes : List ℕ) × IsOf told at bytes × (new ≡ old ++ loaded_part at.input at.offset bytes ∷ [])
+LoadsPart told at old new (Ok it) =
+    (bytes : List ℕ) × IsOf told at bytes × (new ≡ old ++ loaded_part at.input at.offset bytes ∷ [])
 LoadsPart told at old new (Err why) = new ≡ old
 
 -- that part isn't loaded any more, and the others are
@@ -65,6 +66,7 @@ abbrev pub RoomHolds : Option (List ℕ) → Loadable → List ℕ → Result Un
 RoomHolds told at room (Ok it) = IsOf told at room
 RoomHolds told at room (Err why) = Unit {0}
 
-pub record FillsRoom (old new : StoreState) (at : Loadable) (room : List ℕ) (result : Result Unit ReadingRefused) : Type 0 where
+pub record FillsRoom (old new : StoreState) (at : Loadable) (room : List ℕ) (result : Result Unit ReadingRefused)
+    : Type 0 where
   pub holds : RoomHolds old.bytes at room result
   pub reads : LoadsFrom old new at.length result

@@ -51,7 +51,8 @@ ClosesPiece size history r piece = (cuts size (history ++ r ∷ [])).pieces ≡ 
 -- it closes a block, or none
 abbrev pub ClosesBlock : Option ℕ → List Rec → Rec → Option Block → Type 0
 ClosesBlock size history r None = (cuts size (history ++ r ∷ [])).pieces ≡ (cuts size history).pieces
-ClosesBlock size history r (Some b) = (records : List Rec) × ClosesPiece size history r (block records) × IsBlock b records
+ClosesBlock size history r (Some b) =
+    (records : List Rec) × ClosesPiece size history r (block records) × IsBlock b records
 
 -- a record was put behind a history, and the block that it closed was noted
 pub record NextBlock (size at : ℕ) (history : List Rec) (r : Rec) (closed : Option Block) (after : Body) : Type 0 where

@@ -14,4 +14,5 @@ planning p = record { body = p.body; blocks = p.blocks; bytes = p.bytes; phase =
 -- the numbers are within the limit, and while records may come the plan stands for a history
 pub record HasSoundPlan (p : Inside) : Type 0 where
   pub within : Holds p.blocks p.bytes
-  pub stands : p.phase ≡ phases.Going → (options : FileOptions) × (history : List Rec) × Plans options history (planning p)
+  pub stands : p.phase ≡ phases.Going
+      → (options : FileOptions) × (history : List Rec) × Plans options history (planning p)

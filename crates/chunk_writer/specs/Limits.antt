@@ -13,5 +13,6 @@ pub record Holds (blocks bytes : ℕ) : Type 0 where
 -- piece would pass that.
 abbrev pub StopWhy : Stop → ℕ → ℕ → ℕ → ℕ → Type 0
 StopWhy (stops.Fault faults) blocks bytes with_blocks with_bytes = Holds with_blocks with_bytes
-StopWhy (stops.Limit at_blocks at_bytes) blocks bytes with_blocks with_bytes = (at_blocks ≡ blocks) × (at_bytes ≡ bytes) × (Holds with_blocks with_bytes → ⊥)
+StopWhy (stops.Limit at_blocks at_bytes) blocks bytes with_blocks with_bytes =
+    (at_blocks ≡ blocks) × (at_bytes ≡ bytes) × (Holds with_blocks with_bytes → ⊥)
 StopWhy stops.Memory blocks bytes with_blocks with_bytes = Unit {0}

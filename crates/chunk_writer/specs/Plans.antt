@@ -34,23 +34,26 @@ counted_on p len = record p { bytes = p.bytes + len }
 -- what is to be appended for a record more
 abbrev pub IsToAppend : Option ℕ → List Rec → Rec → Next → Type 0
 IsToAppend size history r nexts.Waits = (cuts size (history ++ r ∷ [])).pieces ≡ (cuts size history).pieces
-IsToAppend size history r (nexts.Block b) = (records : List Rec) × ClosesPiece size history r (block records) × IsBlock b records
+IsToAppend size history r (nexts.Block b) =
+    (records : List Rec) × ClosesPiece size history r (block records) × IsBlock b records
 IsToAppend size history r nexts.Record = ClosesPiece size history r (alone r)
 
 -- a record is planned
-pub record IsPlanned (options : FileOptions) (history : List Rec) (r : Rec) (next : Next) (after : Planning) : Type 0 where
+pub record IsPlanned (options : FileOptions) (history : List Rec) (r : Rec) (next : Next) (after : Planning)
+    : Type 0 where
   pub stands : Plans options (history ++ r ∷ []) after
   pub next_is : IsToAppend options.chunk history r next
 
 -- with this piece a file passes what it may hold
 abbrev pub PiecePasses : ℕ → ℕ → Piece → Type 0
-PiecePasses blocks bytes piece = Holds (blocks + length (blocks_in (piece ∷ []))) (bytes + length (piece_bytes piece)) → ⊥
+PiecePasses blocks bytes piece =
+    Holds (blocks + length (blocks_in (piece ∷ []))) (bytes + length (piece_bytes piece)) → ⊥
 
 -- why there is none: memory lacks, or the piece that the record makes sure would pass the limit
 abbrev pub PutStopped : Option ℕ → List Rec → Rec → ℕ → ℕ → Stop → Type 0
 PutStopped size history r blocks bytes (stops.Fault faults) = ⊥
-PutStopped size history r blocks bytes (stops.Limit at_blocks at_bytes) = (piece : Piece) × ClosesPiece size history r piece
-    × (at_blocks ≡ blocks) × (at_bytes ≡ bytes) × PiecePasses blocks bytes piece
+PutStopped size history r blocks bytes (stops.Limit at_blocks at_bytes) = (piece : Piece)
+    × ClosesPiece size history r piece × (at_blocks ≡ blocks) × (at_bytes ≡ bytes) × PiecePasses blocks bytes piece
 PutStopped size history r blocks bytes stops.Memory = Unit {0}
 
 -- a file may hold a block more, where there is one
@@ -80,7 +83,8 @@ pub record StoppedBefore (blocks bytes : ℕ) (stop : Stop) (after : Planning) :
 
 -- all pieces of a history are counted, and its summary stands for them
 pub record CountsAllPieces (options : FileOptions) (history : List Rec) (p : Planning) : Type 0 where
-  pub body : SummaryFor options.chunk (noted_of (length (front options.profile)) history (pieces_of options.chunk history)) p.body
+  pub body : SummaryFor options.chunk
+      (noted_of (length (front options.profile)) history (pieces_of options.chunk history)) p.body
   pub blocks : p.blocks ≡ length (blocks_in (pieces_of options.chunk history))
   pub bytes : p.bytes ≡ length (front options.profile ++ pieces_bytes (pieces_of options.chunk history))
 
@@ -93,11 +97,13 @@ pub record IsFilled (options : FileOptions) (extras : List Top) (history : List 
 -- why an extra of these bytes isn't counted
 abbrev pub ExtraStopped : ℕ → ℕ → List ℕ → Stop → Type 0
 ExtraStopped blocks bytes framed (stops.Fault faults) = ⊥
-ExtraStopped blocks bytes framed (stops.Limit at_blocks at_bytes) = (at_blocks ≡ blocks) × (at_bytes ≡ bytes) × (Holds blocks (bytes + length framed) → ⊥)
+ExtraStopped blocks bytes framed (stops.Limit at_blocks at_bytes) =
+    (at_blocks ≡ blocks) × (at_bytes ≡ bytes) × (Holds blocks (bytes + length framed) → ⊥)
 ExtraStopped blocks bytes framed stops.Memory = Unit {0}
 
 -- a history has ended, with its last block
-pub record IsLastBlock (options : FileOptions) (history : List Rec) (last : Option Block) (after : Planning) : Type 0 where
+pub record IsLastBlock (options : FileOptions) (history : List Rec) (last : Option Block) (after : Planning)
+    : Type 0 where
   pub whole : CountsAllPieces options history after
   pub last_block : chunker.Last (cuts options.chunk history).waiting last
 
@@ -109,13 +115,14 @@ CountsBlock before (Some b) after = (after.blocks ≡ before.blocks + 1) × (aft
 -- why the last block isn't given
 abbrev pub LastStopped : Option ℕ → List Rec → ℕ → ℕ → Stop → Type 0
 LastStopped size history blocks bytes (stops.Fault faults) = ⊥
-LastStopped size history blocks bytes (stops.Limit at_blocks at_bytes) = (piece : Piece) × (last_piece (cuts size history).waiting ≡ piece ∷ [])
-    × (at_blocks ≡ blocks) × (at_bytes ≡ bytes) × PiecePasses blocks bytes piece
+LastStopped size history blocks bytes (stops.Limit at_blocks at_bytes) = (piece : Piece)
+    × (last_piece (cuts size history).waiting ≡ piece ∷ []) × (at_blocks ≡ blocks) × (at_bytes ≡ bytes)
+    × PiecePasses blocks bytes piece
 LastStopped size history blocks bytes stops.Memory = Unit {0}
 
 -- why what closes the file isn't given
 abbrev pub BackStopped : FileOptions → List Top → List Rec → ℕ → ℕ → Stop → Type 0
 BackStopped options extras history blocks bytes (stops.Fault faults) = ⊥
-BackStopped options extras history blocks bytes (stops.Limit at_blocks at_bytes) = (at_blocks ≡ blocks) × (at_bytes ≡ bytes)
-    × (Holds blocks (bytes + length (back_of options extras history)) → ⊥)
+BackStopped options extras history blocks bytes (stops.Limit at_blocks at_bytes) =
+    (at_blocks ≡ blocks) × (at_bytes ≡ bytes) × (Holds blocks (bytes + length (back_of options extras history)) → ⊥)
 BackStopped options extras history blocks bytes stops.Memory = Unit {0}

@@ -14,13 +14,15 @@ use Rattle.chunk_writer.specs.declared.tape.Written.{Written}
 use Rattle.chunk_writer.specs.Stops.{StopsAt}
 
 -- a writer stopped behind the front, whose bytes are among those that stand
-pub record StopsBehind (options : FileOptions) (extras : List Top) (history : List Rec) (opened now : Option (List ℕ)) (stop : Stop) (written : Written) : Type 0 where
+pub record StopsBehind (options : FileOptions) (extras : List Top) (history : List Rec) (opened now : Option (List ℕ))
+    (stop : Stop) (written : Written) : Type 0 where
   pub stops : StopsAt options extras history opened now stop written
   pub begun : length (front options.profile) ≤ written.bytes
 
 -- What an append did to a store: the piece stands there, in its extent; or it was refused, and the store took some first
 -- bytes of it where it failed, and none where memory lacked.
-abbrev pub Appends : {X : Type 0} → (X → Option (List ℕ)) → (X → ℕ) → LiveState → LiveState → List ℕ → Result X Stop → Type 0
+abbrev pub Appends : {X : Type 0} → (X → Option (List ℕ)) → (X → ℕ) → LiveState → LiveState → List ℕ → Result X Stop
+    → Type 0
 Appends tells size old new piece (Ok e) = Adds old.held new.held piece × (size e ≡ length piece)
     × TellsPiece (tells e) old.held piece
 Appends tells size old new piece (Err (stops.Fault faults)) = AddsPart old.held new.held 0 piece

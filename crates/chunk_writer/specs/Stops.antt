@@ -24,15 +24,18 @@ blocks_among options history pieces = length (blocks_in (take (pieces - 1) (piec
 -- The writer of this history and these extras stopped at a piece of their file. So many blocks and bytes are written before
 -- the piece, and where the store tells, these bytes, and of the piece no more than the store took of it in a failure, stand
 -- behind what it held.
-pub record StopsAt (options : FileOptions) (extras : List Top) (history : List Rec) (opened now : Option (List ℕ)) (stop : Stop) (written : Written) : Type 0 where
+pub record StopsAt (options : FileOptions) (extras : List Top) (history : List Rec) (opened now : Option (List ℕ))
+    (stop : Stop) (written : Written) : Type 0 where
   pub place : ℕ
   pub next : List ℕ
   pub at : At (file_pieces options extras history) place next
   pub blocks_are : written.blocks ≡ blocks_among options history place
   pub bytes_are : written.bytes ≡ length (pieces_before (file_pieces options extras history) place)
-  pub why : StopWhy stop written.blocks written.bytes (blocks_among options history (place + 1)) (written.bytes + length next)
+  pub why : StopWhy stop written.blocks written.bytes (blocks_among options history (place + 1))
+      (written.bytes + length next)
   pub took : (start : List ℕ) → opened ≡ Some start
-      → (text : List ℕ) × (now ≡ Some (start ++ text)) × StoppedAt (file_pieces options extras history) place stop text written.bytes
+      → (text : List ℕ) × (now ≡ Some (start ++ text))
+      × StoppedAt (file_pieces options extras history) place stop text written.bytes
 
 -- the count of a store rises by one where the writer stopped at a fault, which carries it, and stands still otherwise
 abbrev pub StopCause : ℕ → ℕ → Stop → Type 0
@@ -45,7 +48,9 @@ Cause before now (Ok it) = now ≡ before
 Cause before now (Err stop) = StopCause before now stop
 
 -- how the file of extras and a history ended: all of it stands behind what the store held, or the writer stopped at a piece of it
-abbrev pub Ends : FileOptions → List Top → Option (List ℕ) → Option (List ℕ) → List Rec → Written → Result Unit Stop → Type 0
+abbrev pub Ends : FileOptions → List Top → Option (List ℕ) → Option (List ℕ) → List Rec → Written → Result Unit Stop
+    → Type 0
 Ends options extras opened now history written (Ok it) = Adds opened now (file_of options extras history)
-    × (written.blocks ≡ length (blocks_in (pieces_of options.chunk history))) × (written.bytes ≡ length (file_of options extras history))
+    × (written.blocks ≡ length (blocks_in (pieces_of options.chunk history)))
+    × (written.bytes ≡ length (file_of options extras history))
 Ends options extras opened now history written (Err stop) = StopsAt options extras history opened now stop written

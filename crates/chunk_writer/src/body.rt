@@ -39,8 +39,8 @@ pub(crate) fn begin(alloc: Global, size: u64) -> Result<Body, Memory>
 pub(crate) fn take(body: &mut Body, framed: &[u8]) -> Result<Option<Block>, Memory>
     requires framed { (r : Rec) × AreFramed framed.now r }
     requires few { body.old.summary.messages < record_count_limit }
-    ensures ok { IfOk result (λ closed. (r : Rec) → AreFramed framed.now r → (size at : ℕ) (history : List Rec) → IsBody size at history body.old
-        → BodyTakes size at history r closed body.new) }
+    ensures ok { IfOk result (λ closed. (r : Rec) → AreFramed framed.now r → (size at : ℕ) (history : List Rec)
+        → IsBody size at history body.old → BodyTakes size at history r closed body.new) }
     ensures blocks { OnOk result (body.new.summary.blocks ≡ body.old.summary.blocks) }
 {
     match body.summary.note_framed(framed) {

@@ -52,10 +52,12 @@ fn last_of(full: &Cache) -> u64
 /// Appends the records of a buffer, each by itself and the last one through, so that none of them waits in the store. Where
 /// one is refused, answers at which offset of their bytes it begins.
 pub(crate) fn append_records<L: LiveStore>(store: &mut L, full: &Cache) -> Result<(), (u64, Stop)>
-    ensures adds { OnOk result (Adds (L.state store.old).held (L.state store.new).held (history_bytes full.now.records)) }
+    ensures adds { OnOk result (Adds (L.state store.old).held (L.state store.new).held
+        (history_bytes full.now.records)) }
     ensures through { OnOk result ((full.now.records ≡ [] → ⊥) → (L.state store.new).waiting ≡ 0) }
     ensures still { full.now.records ≡ [] → L.state store.new ≡ L.state store.old }
-    ensures refused { IfErr result (λ e. AppendRefusedAt (L.state store.old).held (L.state store.new).held full.now.records e.0 e.1) }
+    ensures refused { IfErr result (λ e. AppendRefusedAt (L.state store.old).held (L.state store.new).held
+        full.now.records e.0 e.1) }
     ensures cause { IfErr result (λ e. StopCause (L.state store.old).faults (L.state store.new).faults e.1) }
     ensures well { OnOk result ((L.state store.new).faults ≡ (L.state store.old).faults) }
 {

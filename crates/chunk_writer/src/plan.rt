@@ -72,8 +72,8 @@ fn note(summary: &mut Summary, blocks: u64, bytes: u64, block: &Block) -> Result
     requires within { Holds blocks bytes }
     requires few { summary.old.blocks < 2 ^ 48 }
     requires built { (records : List Rec) × IsBlock block.now records }
-    ensures ok { OnOk result ((records : List Rec) → IsBlock block.now records → (n : Noted) → SummaryStandsFor summary.old n
-        → SummaryStandsFor summary.new (with_noted_block n bytes records)) }
+    ensures ok { OnOk result ((records : List Rec) → IsBlock block.now records → (n : Noted)
+        → SummaryStandsFor summary.old n → SummaryStandsFor summary.new (with_noted_block n bytes records)) }
     ensures limit { HoldsOrStops blocks bytes (blocks + 1) (bytes + length block.now.bytes) result }
 {
     match keep_limit(blocks, bytes, 1, block.bytes.as_slice()) {
@@ -96,11 +96,11 @@ fn next_block(
     requires framed { (r : Rec) × AreFramed framed.now r }
     requires within { Holds blocks bytes }
     requires stands { (size at : ℕ) × (history : List Rec) × StandsSo size at history body.old blocks bytes }
-    ensures ok { IfOk result (λ closed. (r : Rec) → AreFramed framed.now r → (size at : ℕ) (history : List Rec) → StandsSo size at history body.old blocks bytes
-        → NextBlock size at history r closed body.new) }
+    ensures ok { IfOk result (λ closed. (r : Rec) → AreFramed framed.now r → (size at : ℕ) (history : List Rec)
+        → StandsSo size at history body.old blocks bytes → NextBlock size at history r closed body.new) }
     ensures room { IfOk result (λ closed. HoldsBlock blocks bytes closed) }
-    ensures err { IfErr result (λ stop. (r : Rec) → AreFramed framed.now r → (size at : ℕ) (history : List Rec) → StandsSo size at history body.old blocks bytes
-        → PutStopped (Some size) history r blocks bytes stop) }
+    ensures err { IfErr result (λ stop. (r : Rec) → AreFramed framed.now r → (size at : ℕ) (history : List Rec)
+        → StandsSo size at history body.old blocks bytes → PutStopped (Some size) history r blocks bytes stop) }
     ensures no_fault { IfErr result (λ stop. IsNoFault stop) }
 {
     match take(body, framed) {
@@ -117,11 +117,11 @@ fn next_block(
 fn last_block(body: &mut Body, blocks: u64, bytes: u64) -> Result<Option<Block>, Stop>
     requires within { Holds blocks bytes }
     requires stands { (size at : ℕ) × (history : List Rec) × StandsSo size at history body.old blocks bytes }
-    ensures ok { IfOk result (λ last. (size at : ℕ) (history : List Rec) → StandsSo size at history body.old blocks bytes
-        → LastBlock size at history last body.new) }
+    ensures ok { IfOk result (λ last. (size at : ℕ) (history : List Rec)
+        → StandsSo size at history body.old blocks bytes → LastBlock size at history last body.new) }
     ensures room { IfOk result (λ last. HoldsBlock blocks bytes last) }
-    ensures err { IfErr result (λ stop. (size at : ℕ) (history : List Rec) → StandsSo size at history body.old blocks bytes
-        → LastStopped (Some size) history blocks bytes stop) }
+    ensures err { IfErr result (λ stop. (size at : ℕ) (history : List Rec)
+        → StandsSo size at history body.old blocks bytes → LastStopped (Some size) history blocks bytes stop) }
     ensures no_fault { IfErr result (λ stop. IsNoFault stop) }
 {
     match take_last(body) {
@@ -146,7 +146,8 @@ fn content_of(framed: &[u8]) -> &[u8]
 fn note_in(summary: &mut Summary, at: u64, framed: &[u8]) -> Result<(), Memory>
     requires within { at ≤ 2 ^ 41 }
     requires extra { AreExtra framed.now }
-    ensures { OnOk result ((t : Top) → framed.now ≡ top_bytes t → (n : Noted) → SummaryStandsFor summary.old n → SummaryStandsFor summary.new (with_noted_extra n at t)) }
+    ensures { OnOk result ((t : Top) → framed.now ≡ top_bytes t → (n : Noted) → SummaryStandsFor summary.old n
+        → SummaryStandsFor summary.new (with_noted_extra n at t)) }
 {
     let content = content_of(framed);
     if framed[0] == ATTACHMENT {
@@ -159,7 +160,8 @@ fn note_in(summary: &mut Summary, at: u64, framed: &[u8]) -> Result<(), Memory>
 fn note_behind(body: &mut Option<Body>, at: u64, framed: &[u8]) -> Result<(), Memory>
     requires within { at ≤ 2 ^ 41 }
     requires extra { AreExtra framed.now }
-    ensures { OnOk result ((t : Top) → framed.now ≡ top_bytes t → (size : Option ℕ) (n : Noted) → SummaryFor size n body.old → SummaryFor size (with_noted_extra n at t) body.new) }
+    ensures { OnOk result ((t : Top) → framed.now ≡ top_bytes t → (size : Option ℕ) (n : Noted)
+        → SummaryFor size n body.old → SummaryFor size (with_noted_extra n at t) body.new) }
 {
     match body {
         Some(body) => return note_in(&mut body.summary, at, framed),
@@ -216,14 +218,16 @@ impl Plan {
     pub(crate) fn add(&mut self, framed: &[u8]) -> Result<Next, Stop>
         requires framed { (r : Rec) × AreFramed framed.now r }
         requires goes_on { self.old.phase ≡ phases.Going }
-        ensures ok { IfOk result (λ next. (r : Rec) → AreFramed framed.now r → (options : FileOptions) (history : List Rec) → Plans options history self.old
+        ensures ok { IfOk result (λ next. (r : Rec) → AreFramed framed.now r
+            → (options : FileOptions) (history : List Rec) → Plans options history self.old
             → IsPlanned options history r next self.new) }
         ensures going { OnOk result (self.new.phase ≡ phases.Going) }
         ensures within { OnOk result (Holds self.new.blocks self.new.bytes) }
         ensures room { IfOk result (λ next. HoldsNext self.old.blocks self.old.bytes framed.now next) }
         ensures counted { IfOk result (λ next. CountsNext self.old.blocks self.new.blocks next) }
         ensures plain { IfOk result (λ next. next ≡ nexts.Record → self.old.body ≡ None) }
-        ensures err { IfErr result (λ stop. (r : Rec) → AreFramed framed.now r → (options : FileOptions) (history : List Rec) → Plans options history self.old
+        ensures err { IfErr result (λ stop. (r : Rec) → AreFramed framed.now r
+            → (options : FileOptions) (history : List Rec) → Plans options history self.old
             → PutStopped options.chunk history r self.old.blocks self.old.bytes stop) }
         ensures no_fault { IfErr result (λ stop. IsNoFault stop) }
         ensures stopped { IfErr result (λ stop. StoppedBefore self.old.blocks self.old.bytes stop self.new) }
@@ -283,8 +287,8 @@ impl Plan {
         ensures ended { OnOk result (self.new.phase ≡ phases.Ended) }
         ensures room { IfOk result (λ last. HoldsBlock self.old.blocks self.old.bytes last) }
         ensures counted { IfOk result (λ last. CountsBlock self.old last self.new) }
-        ensures err { IfErr result (λ stop. (options : FileOptions) (history : List Rec) → Plans options history self.old
-            → LastStopped options.chunk history self.old.blocks self.old.bytes stop) }
+        ensures err { IfErr result (λ stop. (options : FileOptions) (history : List Rec)
+            → Plans options history self.old → LastStopped options.chunk history self.old.blocks self.old.bytes stop) }
         ensures no_fault { IfErr result (λ stop. IsNoFault stop) }
         ensures stopped { IfErr result (λ stop. StoppedBefore self.old.blocks self.old.bytes stop self.new) }
     {
@@ -316,8 +320,9 @@ impl Plan {
     pub(crate) fn note_extra(&mut self, framed: &[u8]) -> Result<(), Stop>
         requires ended { self.old.phase ≡ phases.Ended }
         requires extra { AreExtra framed.now }
-        ensures ok { OnOk result ((t : Top) → framed.now ≡ top_bytes t → (options : FileOptions) (extras : List Top) (history : List Rec) → IsFilled options extras history self.old
-            → IsFilled options (extras ++ t ∷ []) history self.new) }
+        ensures ok { OnOk result ((t : Top) → framed.now ≡ top_bytes t
+            → (options : FileOptions) (extras : List Top) (history : List Rec)
+            → IsFilled options extras history self.old → IsFilled options (extras ++ t ∷ []) history self.new) }
         ensures counted { OnOk result (self.new.bytes ≡ self.old.bytes + length framed.now) }
         ensures same { OnOk result ((self.new.blocks ≡ self.old.blocks) × (self.new.phase ≡ phases.Ended)) }
         ensures room { OnOk result (Holds self.old.blocks (self.old.bytes + length framed.now)) }
@@ -346,12 +351,13 @@ impl Plan {
     /// The Data End and all behind it, which it counts.
     pub(crate) fn back(&mut self) -> Result<Bytes, Stop>
         requires { self.old.phase ≡ phases.Ended }
-        ensures ok { IfOk result (λ piece. (options : FileOptions) (extras : List Top) (history : List Rec) → IsFilled options extras history self.old
-            → piece ≡ back_of options extras history) }
+        ensures ok { IfOk result (λ piece. (options : FileOptions) (extras : List Top) (history : List Rec)
+            → IsFilled options extras history self.old → piece ≡ back_of options extras history) }
         ensures counted { IfOk result (λ piece. self.new.bytes ≡ self.old.bytes + length piece) }
         ensures same { OnOk result ((self.new.blocks ≡ self.old.blocks) × (self.new.phase ≡ phases.Ended)) }
         ensures room { IfOk result (λ piece. Holds self.old.blocks (self.old.bytes + length piece)) }
-        ensures err { IfErr result (λ stop. (options : FileOptions) (extras : List Top) (history : List Rec) → IsFilled options extras history self.old
+        ensures err { IfErr result (λ stop. (options : FileOptions) (extras : List Top) (history : List Rec)
+            → IsFilled options extras history self.old
             → BackStopped options extras history self.old.blocks self.old.bytes stop) }
         ensures no_fault { IfErr result (λ stop. IsNoFault stop) }
         ensures stopped { IfErr result (λ stop. StoppedBefore self.old.blocks self.old.bytes stop self.new) }

@@ -65,7 +65,8 @@ pub(crate) fn refused<L: LiveStore>(store: &L, why: AppendRefused) -> Stop
 
 // Appends a piece.
 pub(crate) fn append<L: LiveStore>(store: &mut L, piece: &[u8]) -> Result<L::Extent, Stop>
-    ensures appends { Appends (λ e. L.Extent.tells e) (λ e. L.Extent.size e) (L.state store.old) (L.state store.new) piece.now result }
+    ensures appends { Appends (λ e. L.Extent.tells e) (λ e. L.Extent.size e) (L.state store.old) (L.state store.new)
+        piece.now result }
     ensures cause { Cause (L.state store.old).faults (L.state store.new).faults result }
 {
     match store.append(piece) {
@@ -76,7 +77,8 @@ pub(crate) fn append<L: LiveStore>(store: &mut L, piece: &[u8]) -> Result<L::Ext
 
 // Appends a piece, after which all that was appended is with the system.
 pub(crate) fn append_through<L: LiveStore>(store: &mut L, piece: &[u8]) -> Result<L::Extent, Stop>
-    ensures appends { Appends (λ e. L.Extent.tells e) (λ e. L.Extent.size e) (L.state store.old) (L.state store.new) piece.now result }
+    ensures appends { Appends (λ e. L.Extent.tells e) (λ e. L.Extent.size e) (L.state store.old) (L.state store.new)
+        piece.now result }
     ensures through { OnOk result ((L.state store.new).waiting ≡ 0) }
     ensures cause { Cause (L.state store.old).faults (L.state store.new).faults result }
 {
@@ -127,10 +129,12 @@ fn begin_file<L: LiveStore>(
 ) -> Result<Plan, Stop>
     requires size { (n : ℕ) → options.now.chunk ≡ Some n → (1 ≤ n) × (n ≤ chunk_size_limit) }
     requires profile { length options.now.profile ≤ content_limit }
-    ensures stands { IfOk result (λ plan. ScribeStands options.now (L.state store.old).held (L.state store.new).held [] plan) }
+    ensures stands { IfOk result (λ plan. ScribeStands options.now (L.state store.old).held (L.state store.new).held []
+        plan) }
     ensures goes_on { IfOk result (λ plan. plan.phase ≡ phases.Going) }
     ensures through { OnOk result ((L.state store.new).waiting ≡ 0) }
-    ensures refused { IfErr result (λ stop. (extras : List Top) (history : List Rec) → StopsAt options.now extras history (L.state store.old).held (L.state store.new).held stop (numbers 0 0)) }
+    ensures refused { IfErr result (λ stop. (extras : List Top) (history : List Rec)
+        → StopsAt options.now extras history (L.state store.old).held (L.state store.new).held stop (numbers 0 0)) }
     ensures cause { Cause (L.state store.old).faults (L.state store.new).faults result }
 {
     let (plan, piece) = match opening(alloc, options) {
@@ -170,7 +174,8 @@ impl<L: LiveStore> Scribe<L> {
         // The front is with the system, whether there are chunks or not.
         ensures through { IfOk result (λ s. (L.state (store_of s)).waiting ≡ 0) }
         ensures still { IfOk result (λ s. (L.state (store_of s)).faults ≡ (L.state store).faults) }
-        ensures refused { IfErr result (λ e. (extras : List Top) (history : List Rec) → StopsAt options.now extras history (L.state store).held (L.state e.0).held e.1 (numbers 0 0)) }
+        ensures refused { IfErr result (λ e. (extras : List Top) (history : List Rec)
+            → StopsAt options.now extras history (L.state store).held (L.state e.0).held e.1 (numbers 0 0)) }
         ensures cause { IfErr result (λ e. StopCause (L.state store).faults (L.state e.0).faults e.1) }
     {
         let mut store = store;
@@ -190,17 +195,23 @@ impl<L: LiveStore> Scribe<L> {
         requires fits { LengthsFit r.now }
         requires unended { phase_of self.old ≡ phases.Ended → ⊥ }
         ensures stands { ScribeGrows L.state self.old self.new (r.now ∷ []) }
-        ensures entry { IfOk result (λ entry. OfEach L.state self.old (λ options history. GivesEntry (seen_before (λ e. L.Extent.tells e) (λ e. L.Extent.size e) (L.state (store_of self.old))) options history r.now entry)) }
+        ensures entry { IfOk result (λ entry. OfEach L.state self.old (λ options history. GivesEntry
+            (seen_before (λ e. L.Extent.tells e) (λ e. L.Extent.size e) (L.state (store_of self.old))) options history
+            r.now entry)) }
         ensures counted { IfOk result (λ entry. CountsLast (blocks_of self.old) (blocks_of self.new) entry) }
         ensures keeps { KeepsOn (L.state (store_of self.old)).held (L.state (store_of self.new)).held }
         ensures goes_on { OnOk result ((phase_of self.old ≡ phases.Going) × (phase_of self.new ≡ phases.Going)) }
         ensures within { OnOk result (Holds (blocks_of self.new) (planned_bytes self.new)) }
-        ensures through { OnOk result (OfEach L.state self.old (λ options history. IsSome options.chunk → (L.state (store_of self.new)).waiting ≡ 0)) }
+        ensures through { OnOk result (OfEach L.state self.old (λ options history. IsSome options.chunk
+            → (L.state (store_of self.new)).waiting ≡ 0)) }
         ensures stopped { IfErr result (λ stop. phase_of self.new ≡ phases.Stopped stop) }
         // What stopped it isn't counted.
-        ensures uncounted { OnErr result ((blocks_of self.new ≡ blocks_of self.old) × (planned_bytes self.new ≡ planned_bytes self.old)) }
-        ensures kept { (stop : Stop) → phase_of self.old ≡ phases.Stopped stop → (result ≡ Err stop) × (self.new ≡ self.old) }
-        ensures cause { phase_of self.old ≡ phases.Going → Cause (L.state (store_of self.old)).faults (L.state (store_of self.new)).faults result }
+        ensures uncounted { OnErr result ((blocks_of self.new ≡ blocks_of self.old)
+            × (planned_bytes self.new ≡ planned_bytes self.old)) }
+        ensures kept { (stop : Stop) → phase_of self.old ≡ phases.Stopped stop
+            → (result ≡ Err stop) × (self.new ≡ self.old) }
+        ensures cause { phase_of self.old ≡ phases.Going
+            → Cause (L.state (store_of self.old)).faults (L.state (store_of self.new)).faults result }
     {
         match self.plan.phase() {
             Phase::Going => {}
@@ -219,17 +230,24 @@ impl<L: LiveStore> Scribe<L> {
         requires framed { (r : Rec) × AreFramed framed.now r }
         requires unended { phase_of self.old ≡ phases.Ended → ⊥ }
         ensures stands { (r : Rec) → AreFramed framed.now r → ScribeGrows L.state self.old self.new (r ∷ []) }
-        ensures entry { IfOk result (λ entry. (r : Rec) → AreFramed framed.now r → OfEach L.state self.old (λ options history. GivesEntry (seen_before (λ e. L.Extent.tells e) (λ e. L.Extent.size e) (L.state (store_of self.old))) options history r entry)) }
+        ensures entry { IfOk result (λ entry. (r : Rec) → AreFramed framed.now r
+            → OfEach L.state self.old (λ options history. GivesEntry
+            (seen_before (λ e. L.Extent.tells e) (λ e. L.Extent.size e) (L.state (store_of self.old))) options history r
+            entry)) }
         ensures counted { IfOk result (λ entry. CountsLast (blocks_of self.old) (blocks_of self.new) entry) }
         ensures keeps { KeepsOn (L.state (store_of self.old)).held (L.state (store_of self.new)).held }
         ensures goes_on { OnOk result ((phase_of self.old ≡ phases.Going) × (phase_of self.new ≡ phases.Going)) }
         ensures within { OnOk result (Holds (blocks_of self.new) (planned_bytes self.new)) }
-        ensures through { OnOk result (OfEach L.state self.old (λ options history. IsSome options.chunk → (L.state (store_of self.new)).waiting ≡ 0)) }
+        ensures through { OnOk result (OfEach L.state self.old (λ options history. IsSome options.chunk
+            → (L.state (store_of self.new)).waiting ≡ 0)) }
         ensures stopped { IfErr result (λ stop. phase_of self.new ≡ phases.Stopped stop) }
         // What stopped it isn't counted.
-        ensures uncounted { OnErr result ((blocks_of self.new ≡ blocks_of self.old) × (planned_bytes self.new ≡ planned_bytes self.old)) }
-        ensures kept { (stop : Stop) → phase_of self.old ≡ phases.Stopped stop → (result ≡ Err stop) × (self.new ≡ self.old) }
-        ensures cause { phase_of self.old ≡ phases.Going → Cause (L.state (store_of self.old)).faults (L.state (store_of self.new)).faults result }
+        ensures uncounted { OnErr result ((blocks_of self.new ≡ blocks_of self.old)
+            × (planned_bytes self.new ≡ planned_bytes self.old)) }
+        ensures kept { (stop : Stop) → phase_of self.old ≡ phases.Stopped stop
+            → (result ≡ Err stop) × (self.new ≡ self.old) }
+        ensures cause { phase_of self.old ≡ phases.Going
+            → Cause (L.state (store_of self.old)).faults (L.state (store_of self.new)).faults result }
     {
         match self.plan.phase() {
             Phase::Going => {}
@@ -248,7 +266,8 @@ impl<L: LiveStore> Scribe<L> {
         ensures goes_on { OnOk result ((phase_of self.old ≡ phases.Going) × (phase_of self.new ≡ phases.Going)) }
         ensures stopped { IfErr result (λ stop. phase_of self.new ≡ phases.Stopped stop) }
         ensures memory { phase_of self.old ≡ phases.Going → IfErr result (λ stop. stop ≡ stops.Memory) }
-        ensures kept { (stop : Stop) → phase_of self.old ≡ phases.Stopped stop → (result ≡ Err stop) × (self.new ≡ self.old) }
+        ensures kept { (stop : Stop) → phase_of self.old ≡ phases.Stopped stop
+            → (result ≡ Err stop) × (self.new ≡ self.old) }
     {
         match self.plan.phase() {
             Phase::Going => {}
@@ -271,16 +290,22 @@ impl<L: LiveStore> Scribe<L> {
     pub fn take(&mut self, full: Cache) -> Taken<L::Extent>
         requires unended { phase_of self.old ≡ phases.Ended → ⊥ }
         ensures grows { ScribeGrows L.state self.old self.new full.records }
-        ensures front { phase_of self.old ≡ phases.Going → OfEach L.state self.old (λ options history. PutsFront (seen_before (λ e. L.Extent.tells e) (λ e. L.Extent.size e) (L.state (store_of self.old))) options history full.records result.entries.items (planned_bytes self.new) result.end) }
+        ensures front { phase_of self.old ≡ phases.Going
+            → OfEach L.state self.old (λ options history. PutsFront
+            (seen_before (λ e. L.Extent.tells e) (λ e. L.Extent.size e) (L.state (store_of self.old))) options history
+            full.records result.entries.items (planned_bytes self.new) result.end) }
         ensures counted { blocks_of self.new ≡ blocks_of self.old + length result.entries.items }
         ensures keeps { KeepsOn (L.state (store_of self.old)).held (L.state (store_of self.new)).held }
         ensures cleared { result.cache ≡ record { limit = full.limit; records = [] } }
         ensures goes_on { OnOk result.end ((phase_of self.old ≡ phases.Going) × (phase_of self.new ≡ phases.Going)) }
         ensures within { Holds (blocks_of self.new) (planned_bytes self.new) }
-        ensures through { OnOk result.end (OfEach L.state self.old (λ options history. GoesThrough options full.records (L.state (store_of self.old)).waiting (L.state (store_of self.new)).waiting)) }
+        ensures through { OnOk result.end (OfEach L.state self.old (λ options history. GoesThrough options full.records
+            (L.state (store_of self.old)).waiting (L.state (store_of self.new)).waiting)) }
         ensures stopped { IfErr result.end (λ stop. phase_of self.new ≡ phases.Stopped stop) }
-        ensures kept { (stop : Stop) → phase_of self.old ≡ phases.Stopped stop → (result.end ≡ Err stop) × (result.entries.items ≡ []) × (self.new ≡ self.old) }
-        ensures cause { phase_of self.old ≡ phases.Going → Cause (L.state (store_of self.old)).faults (L.state (store_of self.new)).faults result.end }
+        ensures kept { (stop : Stop) → phase_of self.old ≡ phases.Stopped stop
+            → (result.end ≡ Err stop) × (result.entries.items ≡ []) × (self.new ≡ self.old) }
+        ensures cause { phase_of self.old ≡ phases.Going
+            → Cause (L.state (store_of self.old)).faults (L.state (store_of self.new)).faults result.end }
     {
         self.stays_within();
         let mut entries = Vec::new(self.plan.alloc());
@@ -309,12 +334,15 @@ impl<L: LiveStore> Scribe<L> {
         requires going { phase_of self.old ≡ phases.Going }
         requires none { entries.old.items ≡ [] }
         ensures grows { ScribeGrows L.state self.old self.new full.now.records }
-        ensures front { OfEach L.state self.old (λ options history. PutsFront (seen_before (λ e. L.Extent.tells e) (λ e. L.Extent.size e) (L.state (store_of self.old))) options history full.now.records entries.new.items (planned_bytes self.new) result) }
+        ensures front { OfEach L.state self.old (λ options history. PutsFront
+            (seen_before (λ e. L.Extent.tells e) (λ e. L.Extent.size e) (L.state (store_of self.old))) options history
+            full.now.records entries.new.items (planned_bytes self.new) result) }
         ensures counted { blocks_of self.new ≡ blocks_of self.old + length entries.new.items }
         ensures keeps { KeepsOn (L.state (store_of self.old)).held (L.state (store_of self.new)).held }
         ensures goes_on { OnOk result (phase_of self.new ≡ phases.Going) }
         ensures within { OnOk result (Holds (blocks_of self.new) (planned_bytes self.new)) }
-        ensures through { OnOk result (OfEach L.state self.old (λ options history. GoesThrough options full.now.records (L.state (store_of self.old)).waiting (L.state (store_of self.new)).waiting)) }
+        ensures through { OnOk result (OfEach L.state self.old (λ options history. GoesThrough options full.now.records
+            (L.state (store_of self.old)).waiting (L.state (store_of self.new)).waiting)) }
         ensures stopped { IfErr result (λ stop. phase_of self.new ≡ phases.Stopped stop) }
         ensures cause { Cause (L.state (store_of self.old)).faults (L.state (store_of self.new)).faults result }
     {
@@ -331,12 +359,15 @@ impl<L: LiveStore> Scribe<L> {
         requires plain { self.old.plan.body ≡ None }
         requires room { planned_bytes self.old + held full.now ≤ file_limit }
         ensures grows { ScribeGrows L.state self.old self.new full.now.records }
-        ensures front { OfEach L.state self.old (λ options history. PutsFront (seen_before (λ e. L.Extent.tells e) (λ e. L.Extent.size e) (L.state (store_of self.old))) options history full.now.records [] (planned_bytes self.new) result) }
+        ensures front { OfEach L.state self.old (λ options history. PutsFront
+            (seen_before (λ e. L.Extent.tells e) (λ e. L.Extent.size e) (L.state (store_of self.old))) options history
+            full.now.records [] (planned_bytes self.new) result) }
         ensures counted { blocks_of self.new ≡ blocks_of self.old }
         ensures keeps { KeepsOn (L.state (store_of self.old)).held (L.state (store_of self.new)).held }
         ensures goes_on { OnOk result (phase_of self.new ≡ phases.Going) }
         ensures within { OnOk result (Holds (blocks_of self.new) (planned_bytes self.new)) }
-        ensures through { OnOk result (OfEach L.state self.old (λ options history. GoesThrough options full.now.records (L.state (store_of self.old)).waiting (L.state (store_of self.new)).waiting)) }
+        ensures through { OnOk result (OfEach L.state self.old (λ options history. GoesThrough options full.now.records
+            (L.state (store_of self.old)).waiting (L.state (store_of self.new)).waiting)) }
         ensures stopped { IfErr result (λ stop. phase_of self.new ≡ phases.Stopped stop) }
         ensures cause { Cause (L.state (store_of self.old)).faults (L.state (store_of self.new)).faults result }
     {
@@ -359,7 +390,9 @@ impl<L: LiveStore> Scribe<L> {
         requires going { phase_of self.old ≡ phases.Going }
         requires none { entries.old.items ≡ [] }
         ensures grows { ScribeGrows L.state self.old self.new full.now.records }
-        ensures front { OfEach L.state self.old (λ options history. PutsFront (seen_before (λ e. L.Extent.tells e) (λ e. L.Extent.size e) (L.state (store_of self.old))) options history full.now.records entries.new.items (planned_bytes self.new) result) }
+        ensures front { OfEach L.state self.old (λ options history. PutsFront
+            (seen_before (λ e. L.Extent.tells e) (λ e. L.Extent.size e) (L.state (store_of self.old))) options history
+            full.now.records entries.new.items (planned_bytes self.new) result) }
         ensures counted { blocks_of self.new ≡ blocks_of self.old + length entries.new.items }
         ensures keeps { KeepsOn (L.state (store_of self.old)).held (L.state (store_of self.new)).held }
         ensures goes_on { OnOk result (phase_of self.new ≡ phases.Going) }
@@ -388,14 +421,18 @@ impl<L: LiveStore> Scribe<L> {
         requires framed { (r : Rec) × AreFramed framed.now r }
         requires going { phase_of self.old ≡ phases.Going }
         ensures grows { (r : Rec) → AreFramed framed.now r → ScribeGrows L.state self.old self.new (r ∷ []) }
-        ensures lists { OnOk result (ListsEntry L.state (seen_before (λ e. L.Extent.tells e) (λ e. L.Extent.size e) (L.state (store_of self.old))) self.old framed.now entries.old.items entries.new.items) }
-        ensures counted { blocks_of self.new + length entries.old.items ≡ blocks_of self.old + length entries.new.items }
+        ensures lists { OnOk result (ListsEntry L.state
+            (seen_before (λ e. L.Extent.tells e) (λ e. L.Extent.size e) (L.state (store_of self.old))) self.old
+            framed.now entries.old.items entries.new.items) }
+        ensures counted { blocks_of self.new + length entries.old.items
+            ≡ blocks_of self.old + length entries.new.items }
         ensures keeps { KeepsOn (L.state (store_of self.old)).held (L.state (store_of self.new)).held }
         ensures goes_on { OnOk result (phase_of self.new ≡ phases.Going) }
         ensures within { OnOk result (Holds (blocks_of self.new) (planned_bytes self.new)) }
         ensures stopped { IfErr result (λ stop. phase_of self.new ≡ phases.Stopped stop) }
         // What stopped it isn't counted.
-        ensures uncounted { OnErr result ((planned_bytes self.new ≡ planned_bytes self.old) × (entries.new.items ≡ entries.old.items)) }
+        ensures uncounted { OnErr result ((planned_bytes self.new ≡ planned_bytes self.old)
+            × (entries.new.items ≡ entries.old.items)) }
         ensures cause { Cause (L.state (store_of self.old)).faults (L.state (store_of self.new)).faults result }
     {
         match entries.reserve(1) {
@@ -432,14 +469,18 @@ impl<L: LiveStore> Scribe<L> {
         requires framed { (r : Rec) × AreFramed framed.now r }
         requires going { phase_of self.old ≡ phases.Going }
         ensures grows { (r : Rec) → AreFramed framed.now r → ScribeGrows L.state self.old self.new (r ∷ []) }
-        ensures entry { IfOk result (λ entry. (r : Rec) → AreFramed framed.now r → OfEach L.state self.old (λ options history. GivesEntry (seen_before (λ e. L.Extent.tells e) (λ e. L.Extent.size e) (L.state (store_of self.old))) options history r entry)) }
+        ensures entry { IfOk result (λ entry. (r : Rec) → AreFramed framed.now r
+            → OfEach L.state self.old (λ options history. GivesEntry
+            (seen_before (λ e. L.Extent.tells e) (λ e. L.Extent.size e) (L.state (store_of self.old))) options history r
+            entry)) }
         ensures counted { IfOk result (λ entry. CountsLast (blocks_of self.old) (blocks_of self.new) entry) }
         ensures keeps { KeepsOn (L.state (store_of self.old)).held (L.state (store_of self.new)).held }
         ensures goes_on { OnOk result (phase_of self.new ≡ phases.Going) }
         ensures within { OnOk result (Holds (blocks_of self.new) (planned_bytes self.new)) }
         ensures stopped { IfErr result (λ stop. phase_of self.new ≡ phases.Stopped stop) }
         // What stopped it isn't counted.
-        ensures uncounted { OnErr result ((blocks_of self.new ≡ blocks_of self.old) × (planned_bytes self.new ≡ planned_bytes self.old)) }
+        ensures uncounted { OnErr result ((blocks_of self.new ≡ blocks_of self.old)
+            × (planned_bytes self.new ≡ planned_bytes self.old)) }
         ensures cause { Cause (L.state (store_of self.old)).faults (L.state (store_of self.new)).faults result }
     {
         let blocks = self.plan.blocks();
@@ -466,7 +507,8 @@ impl<L: LiveStore> Scribe<L> {
         bytes: u64,
     ) -> Result<Entry<L::Extent>, Stop>
         requires { Holds blocks bytes }
-        ensures appends { Appends (λ e. L.Extent.tells e.extent) (λ e. L.Extent.size e.extent) (L.state (store_of self.old)) (L.state (store_of self.new)) block.bytes result }
+        ensures appends { Appends (λ e. L.Extent.tells e.extent) (λ e. L.Extent.size e.extent)
+            (L.state (store_of self.old)) (L.state (store_of self.new)) block.bytes result }
         ensures cause { Cause (L.state (store_of self.old)).faults (L.state (store_of self.new)).faults result }
         ensures entry { IfOk result (λ e. IsEntryWith e e.extent bytes block) }
         ensures waiting { self.new.extras ≡ self.old.extras }
@@ -490,7 +532,8 @@ impl<L: LiveStore> Scribe<L> {
     // Appends a framed record behind so many blocks and bytes. The plan counts it already.
     fn append_record(&mut self, framed: &[u8], blocks: u64, bytes: u64) -> Result<(), Stop>
         requires { Holds blocks bytes }
-        ensures appends { Added (L.state (store_of self.old)).held (L.state (store_of self.new)).held framed.now result }
+        ensures appends { Added (L.state (store_of self.old)).held (L.state (store_of self.new)).held framed.now
+            result }
         ensures cause { Cause (L.state (store_of self.old)).faults (L.state (store_of self.new)).faults result }
         ensures waiting { self.new.extras ≡ self.old.extras }
         ensures ok { OnOk result (self.new.plan ≡ self.old.plan) }
@@ -509,8 +552,11 @@ impl<L: LiveStore> Scribe<L> {
     /// it, appended through.
     pub fn finish(&mut self) -> Finished<L::Extent>
         requires unended { phase_of self.old ≡ phases.Ended → ⊥ }
-        ensures ends { EndsFile L.state self.old self.new (record { blocks = result.blocks; bytes = result.bytes }) result.end }
-        ensures last { OfEach L.state self.old (λ options history. GivesLast (seen_before (λ e. L.Extent.tells e) (λ e. L.Extent.size e) (L.state (store_of self.old))) options history result.last) }
+        ensures ends { EndsFile L.state self.old self.new (record { blocks = result.blocks; bytes = result.bytes })
+            result.end }
+        ensures last { OfEach L.state self.old (λ options history. GivesLast
+            (seen_before (λ e. L.Extent.tells e) (λ e. L.Extent.size e) (L.state (store_of self.old))) options history
+            result.last) }
         ensures counted { CountsLast (blocks_of self.old) result.blocks result.last }
         ensures numbers { (result.blocks ≡ blocks_of self.new) × (result.bytes ≡ planned_bytes self.new) }
         ensures ended { OnOk result.end (phase_of self.new ≡ phases.Ended) }
@@ -518,8 +564,10 @@ impl<L: LiveStore> Scribe<L> {
         ensures through { OnOk result.end ((L.state (store_of self.new)).waiting ≡ 0) }
         ensures within { Holds result.blocks result.bytes }
         ensures stopped { IfErr result.end (λ stop. phase_of self.new ≡ phases.Stopped stop) }
-        ensures kept { (stop : Stop) → phase_of self.old ≡ phases.Stopped stop → (result.end ≡ Err stop) × (result.last ≡ None) × (self.new ≡ self.old) }
-        ensures cause { phase_of self.old ≡ phases.Going → Cause (L.state (store_of self.old)).faults (L.state (store_of self.new)).faults result.end }
+        ensures kept { (stop : Stop) → phase_of self.old ≡ phases.Stopped stop
+            → (result.end ≡ Err stop) × (result.last ≡ None) × (self.new ≡ self.old) }
+        ensures cause { phase_of self.old ≡ phases.Going
+            → Cause (L.state (store_of self.old)).faults (L.state (store_of self.new)).faults result.end }
     {
         match self.plan.phase() {
             Phase::Going => {}
@@ -541,16 +589,23 @@ impl<L: LiveStore> Scribe<L> {
     // Appends the last block, if records wait for one. Records no longer come.
     fn append_last(&mut self) -> Result<Option<Entry<L::Extent>>, Stop>
         requires going { phase_of self.old ≡ phases.Going }
-        ensures last { IfOk result (λ last. (options : FileOptions) (extras : List Top) (opened : LiveState) (history : List Rec) → WritesHistory L.state options extras opened history self.old
+        ensures last { IfOk result (λ last. (options : FileOptions) (extras : List Top) (opened : LiveState)
+            (history : List Rec) → WritesHistory L.state options extras opened history self.old
             → AddsLast options opened.held (L.state (store_of self.new)).held history self.new.plan) }
         ensures waiting { self.new.extras ≡ self.old.extras }
-        ensures entry { IfOk result (λ last. OfEach L.state self.old (λ options history. GivesLast (seen_before (λ e. L.Extent.tells e) (λ e. L.Extent.size e) (L.state (store_of self.old))) options history last)) }
+        ensures entry { IfOk result (λ last. OfEach L.state self.old (λ options history. GivesLast
+            (seen_before (λ e. L.Extent.tells e) (λ e. L.Extent.size e) (L.state (store_of self.old))) options history
+            last)) }
         ensures counted { IfOk result (λ last. CountsLast (blocks_of self.old) (blocks_of self.new) last) }
-        ensures bytes { IfOk result (λ last. CountsBytes (λ e. L.Extent.size e) (planned_bytes self.old) (planned_bytes self.new) last) }
+        ensures bytes { IfOk result (λ last. CountsBytes (λ e. L.Extent.size e) (planned_bytes self.old)
+            (planned_bytes self.new) last) }
         ensures ended { OnOk result (phase_of self.new ≡ phases.Ended) }
-        ensures refused { IfErr result (λ stop. (options : FileOptions) (extras : List Top) (opened : LiveState) (history : List Rec) → WritesHistory L.state options extras opened history self.old
-            → StopsAt options extras history opened.held (L.state (store_of self.new)).held stop (numbers (blocks_of self.new) (planned_bytes self.new))) }
-        ensures stopped { IfErr result (λ stop. StoppedBefore (blocks_of self.old) (planned_bytes self.old) stop self.new.plan) }
+        ensures refused { IfErr result (λ stop. (options : FileOptions) (extras : List Top) (opened : LiveState)
+            (history : List Rec) → WritesHistory L.state options extras opened history self.old
+            → StopsAt options extras history opened.held (L.state (store_of self.new)).held stop
+            (numbers (blocks_of self.new) (planned_bytes self.new))) }
+        ensures stopped { IfErr result (λ stop. StoppedBefore (blocks_of self.old) (planned_bytes self.old) stop
+            self.new.plan) }
         ensures cause { Cause (L.state (store_of self.old)).faults (L.state (store_of self.new)).faults result }
     {
         let blocks = self.plan.blocks();
@@ -568,12 +623,15 @@ impl<L: LiveStore> Scribe<L> {
     // Appends the extras that wait.
     fn append_extras(&mut self) -> Result<(), Stop>
         requires ended { phase_of self.old ≡ phases.Ended }
-        ensures fills { OnOk result ((options : FileOptions) (extras : List Top) (opened : LiveState) (history : List Rec) → self.old.extras ≡ map top_bytes extras
+        ensures fills { OnOk result ((options : FileOptions) (extras : List Top) (opened : LiveState)
+            (history : List Rec) → self.old.extras ≡ map top_bytes extras
             → FillsExtras options [] opened.held (L.state (store_of self.old)).held history self.old.plan
             → FillsExtras options extras opened.held (L.state (store_of self.new)).held history self.new.plan) }
-        ensures refused { IfErr result (λ stop. (options : FileOptions) (extras : List Top) (opened : LiveState) (history : List Rec) → self.old.extras ≡ map top_bytes extras
+        ensures refused { IfErr result (λ stop. (options : FileOptions) (extras : List Top) (opened : LiveState)
+            (history : List Rec) → self.old.extras ≡ map top_bytes extras
             → FillsExtras options [] opened.held (L.state (store_of self.old)).held history self.old.plan
-            → StopsBehind options extras history opened.held (L.state (store_of self.new)).held stop (numbers (blocks_of self.new) (planned_bytes self.new))) }
+            → StopsBehind options extras history opened.held (L.state (store_of self.new)).held stop
+            (numbers (blocks_of self.new) (planned_bytes self.new))) }
         ensures same { blocks_of self.new ≡ blocks_of self.old }
         ensures stays { OnOk result (phase_of self.new ≡ phases.Ended) }
         ensures stopped { IfErr result (λ stop. phase_of self.new ≡ phases.Stopped stop) }
@@ -595,12 +653,16 @@ impl<L: LiveStore> Scribe<L> {
     fn append_extra(&mut self, place: usize) -> Result<(), Stop>
         requires there { place < length self.old.extras }
         requires ended { phase_of self.old ≡ phases.Ended }
-        ensures fills { OnOk result ((t : Top) → get_or self.old.extras place [] ≡ top_bytes t → (options : FileOptions) (extras : List Top) (opened : LiveState) (history : List Rec)
+        ensures fills { OnOk result ((t : Top) → get_or self.old.extras place [] ≡ top_bytes t
+            → (options : FileOptions) (extras : List Top) (opened : LiveState) (history : List Rec)
             → FillsExtras options extras opened.held (L.state (store_of self.old)).held history self.old.plan
-            → FillsExtras options (extras ++ t ∷ []) opened.held (L.state (store_of self.new)).held history self.new.plan) }
-        ensures refused { IfErr result (λ stop. (t : Top) → get_or self.old.extras place [] ≡ top_bytes t → (options : FileOptions) (extras behind : List Top) (opened : LiveState) (history : List Rec)
+            → FillsExtras options (extras ++ t ∷ []) opened.held (L.state (store_of self.new)).held history
+            self.new.plan) }
+        ensures refused { IfErr result (λ stop. (t : Top) → get_or self.old.extras place [] ≡ top_bytes t
+            → (options : FileOptions) (extras behind : List Top) (opened : LiveState) (history : List Rec)
             → FillsExtras options extras opened.held (L.state (store_of self.old)).held history self.old.plan
-            → StopsBehind options (extras ++ t ∷ behind) history opened.held (L.state (store_of self.new)).held stop (numbers (blocks_of self.new) (planned_bytes self.new))) }
+            → StopsBehind options (extras ++ t ∷ behind) history opened.held (L.state (store_of self.new)).held stop
+            (numbers (blocks_of self.new) (planned_bytes self.new))) }
         ensures same { (blocks_of self.new ≡ blocks_of self.old) × (self.new.extras ≡ self.old.extras) }
         ensures stays { OnOk result (phase_of self.new ≡ phases.Ended) }
         ensures stopped { IfErr result (λ stop. phase_of self.new ≡ phases.Stopped stop) }
@@ -624,15 +686,18 @@ impl<L: LiveStore> Scribe<L> {
     // Appends the Data End and all behind it.
     fn append_back(&mut self) -> Result<(), Stop>
         requires ended { phase_of self.old ≡ phases.Ended }
-        ensures ends { (options : FileOptions) (extras : List Top) (opened : LiveState) (history : List Rec) → FillsExtras options extras opened.held (L.state (store_of self.old)).held history self.old.plan
-            → Ends options extras opened.held (L.state (store_of self.new)).held history (numbers (blocks_of self.new) (planned_bytes self.new)) result }
+        ensures ends { (options : FileOptions) (extras : List Top) (opened : LiveState) (history : List Rec)
+            → FillsExtras options extras opened.held (L.state (store_of self.old)).held history self.old.plan
+            → Ends options extras opened.held (L.state (store_of self.new)).held history
+            (numbers (blocks_of self.new) (planned_bytes self.new)) result }
         ensures same { blocks_of self.new ≡ blocks_of self.old }
         ensures stays { OnOk result (phase_of self.new ≡ phases.Ended) }
         ensures through { OnOk result ((L.state (store_of self.new)).waiting ≡ 0) }
         ensures within { OnOk result (Holds (blocks_of self.new) (planned_bytes self.new)) }
         ensures stopped { IfErr result (λ stop. phase_of self.new ≡ phases.Stopped stop) }
         // What stopped it isn't counted.
-        ensures uncounted { OnErr result ((blocks_of self.new ≡ blocks_of self.old) × (planned_bytes self.new ≡ planned_bytes self.old)) }
+        ensures uncounted { OnErr result ((blocks_of self.new ≡ blocks_of self.old)
+            × (planned_bytes self.new ≡ planned_bytes self.old)) }
         ensures cause { Cause (L.state (store_of self.old)).faults (L.state (store_of self.new)).faults result }
     {
         let blocks = self.plan.blocks();
@@ -651,7 +716,8 @@ impl<L: LiveStore> Scribe<L> {
 
     // How the file ended, with the numbers as they are now.
     fn finished(&self, last: Option<Entry<L::Extent>>, end: Result<(), Stop>) -> Finished<L::Extent>
-        ensures is { (result.last ≡ last) × (result.end ≡ end) × (result.blocks ≡ blocks_of self.now) × (result.bytes ≡ planned_bytes self.now) }
+        ensures is { (result.last ≡ last) × (result.end ≡ end) × (result.blocks ≡ blocks_of self.now)
+            × (result.bytes ≡ planned_bytes self.now) }
         ensures within { Holds result.blocks result.bytes }
     {
         Finished {

@@ -70,7 +70,8 @@ pub trait Tape {
     /// A tape stands for the same where nothing is called, and over several calls.
     ghost grows_none: { (t : Self) → grows t t [] [] };
 
-    ghost grows_on: { (t u v : Self) (before behind : List Rec) (first second : List (BlockEntry Self.X)) → grows t u before first → grows u v behind second → grows t v (before ++ behind) (first ++ second) };
+    ghost grows_on: { (t u v : Self) (before behind : List Rec) (first second : List (BlockEntry Self.X))
+        → grows t u before first → grows u v behind second → grows t v (before ++ behind) (first ++ second) };
 
     /// Puts the buffer's records, in their order, each once, and gives the entries of the blocks that are appended, in theirs.
     /// Where that is refused the records behind are dropped. The records are numbered behind all that it took since it was new.
@@ -81,19 +82,24 @@ pub trait Tape {
         ensures cleared { result.cache ≡ record { limit = full.limit; records = [] } }
         ensures goes_on { OnOk result.end ((phase self.old ≡ phases.Going) × (phase self.new ≡ phases.Going)) }
         ensures stopped { IfErr result.end (λ stop. phase self.new ≡ phases.Stopped stop) }
-        ensures kept { (stop : Stop) → phase self.old ≡ phases.Stopped stop → (result.end ≡ Err stop) × (result.entries.items ≡ []) × (self.new ≡ self.old) }
-        ensures cause { phase self.old ≡ phases.Going → EndsFor (failures self.old) (failures self.new) (limit_met self.new) result.end };
+        ensures kept { (stop : Stop) → phase self.old ≡ phases.Stopped stop
+            → (result.end ≡ Err stop) × (result.entries.items ≡ []) × (self.new ≡ self.old) }
+        ensures cause { phase self.old ≡ phases.Going
+            → EndsFor (failures self.old) (failures self.new) (limit_met self.new) result.end };
 
     /// Writes what ends the file, and gives the entry of the last block, if that is appended here.
     fn finish(&mut self) -> Finished<Self::X>
         requires unended { phase self.old ≡ phases.Ended → ⊥ }
         requires behind { (taken : List Rec) × HasTaken is_new grows self.old taken }
-        ensures ends { ends self.old self.new result.last (record { blocks = result.blocks; bytes = result.bytes }) result.end }
+        ensures ends { ends self.old self.new result.last (record { blocks = result.blocks; bytes = result.bytes })
+            result.end }
         ensures numbers { numbers self.new ≡ record { blocks = result.blocks; bytes = result.bytes } }
         ensures ended { OnOk result.end (phase self.new ≡ phases.Ended) }
         ensures stopped { IfErr result.end (λ stop. phase self.new ≡ phases.Stopped stop) }
-        ensures kept { (stop : Stop) → phase self.old ≡ phases.Stopped stop → (result.end ≡ Err stop) × (result.last ≡ None) × (self.new ≡ self.old) }
-        ensures cause { phase self.old ≡ phases.Going → EndsFor (failures self.old) (failures self.new) (limit_met self.new) result.end };
+        ensures kept { (stop : Stop) → phase self.old ≡ phases.Stopped stop
+            → (result.end ≡ Err stop) × (result.last ≡ None) × (self.new ≡ self.old) }
+        ensures cause { phase self.old ≡ phases.Going
+            → EndsFor (failures self.old) (failures self.new) (limit_met self.new) result.end };
 
     fn written(&self) -> Written
         ensures { result ≡ numbers self.now };
@@ -111,9 +117,11 @@ impl<L: LiveStore> Tape for Scribe<L> {
     // It takes whatever it is handed.
     ghost is_new = { λ s. Unit {0} };
 
-    ghost grows = { λ before after records entries. TakesOn (seen_store L.state (λ e. L.Extent.tells e) (λ e. L.Extent.size e)) before after records entries };
+    ghost grows = { λ before after records entries. TakesOn
+        (seen_store L.state (λ e. L.Extent.tells e) (λ e. L.Extent.size e)) before after records entries };
 
-    ghost ends = { λ before after last written end. EndsOn (seen_store L.state (λ e. L.Extent.tells e) (λ e. L.Extent.size e)) before after last written end };
+    ghost ends = { λ before after last written end. EndsOn
+        (seen_store L.state (λ e. L.Extent.tells e) (λ e. L.Extent.size e)) before after last written end };
 
     ghost limit_met = { λ s blocks bytes. MeetsLimit L.state s blocks bytes };
 
@@ -125,7 +133,9 @@ impl<L: LiveStore> Tape for Scribe<L> {
 
     ghost grows_none = { λ s. takes_none (seen_store L.state (λ e. L.Extent.tells e) (λ e. L.Extent.size e)) s };
 
-    ghost grows_on = { λ one two three before behind es fs first second. takes_on (seen_store L.state (λ e. L.Extent.tells e) (λ e. L.Extent.size e)) one two three before behind es fs first second };
+    ghost grows_on = { λ one two three before behind es fs first second. takes_on
+        (seen_store L.state (λ e. L.Extent.tells e) (λ e. L.Extent.size e)) one two three before behind es fs first
+        second };
 
     fn take(&mut self, full: Cache) -> Taken<L::Extent> {
         Scribe::take(self, full)

@@ -75,7 +75,8 @@ abbrev pub single_file : ObjectKind → List ℕ → Files
 single_file kind file = record { kind = kind; inputs = file ∷ []; outputs = [] }
 
 -- what became of the file's name: it was opened and taken back, or not, and failed or not
-pub record NameRead (kind : ObjectKind) (file : List ℕ) (old new : WorldState) (entries : List Opening) (failed : Bool) : Type 0 where
+pub record NameRead (kind : ObjectKind) (file : List ℕ) (old new : WorldState) (entries : List Opening) (failed : Bool)
+    : Type 0 where
   pub opened : AreOpened (wanted (single_file kind file)) entries
   pub leaves : Leaves old new entries
   pub counts : CountsKept old new entries
@@ -94,19 +95,23 @@ AskedRose before now = Rose before.world now.world ⊎ (Rose before.inputs now.i
 -- ---- the command
 
 -- What a command did to the world and to both outputs that opened the one name, and whose reading of it ended so.
-pub record ReadsOne (kind : ObjectKind) (file : List ℕ) (old new : Scene) (entries : List Opening) (ending : Ending) (status : Status) : Type 0 where
+pub record ReadsOne (kind : ObjectKind) (file : List ℕ) (old new : Scene) (entries : List Opening) (ending : Ending)
+    (status : Status) : Type 0 where
   -- standard output takes the text, and standard error the troubles, which give the status
   pub ran : Ran (single_file kind file) old new entries (text_of ending) (findings_of ending) status
   -- the file alone is blamed, once, where a count of the world or of its inputs rose, or stands at the end of its type
   pub blamed : Bool
   pub blame : ran.failed ≡ record { inputs = blamed ∷ []; outputs = [] }
-  pub cause : (blamed ≡ true) ↔ (Rose old.world.faults new.world.faults ⊎ Rose old.world.input_faults new.world.input_faults)
+  pub cause : (blamed ≡ true)
+      ↔ (Rose old.world.faults new.world.faults ⊎ Rose old.world.input_faults new.world.input_faults)
   -- a want of memory is the answer exactly where memory lacked for the reading
   pub memory : (status ≡ statuses.Memory) ↔ (ending ≡ lacked)
   -- a count that rose is answered, also one that stands at the end of its type; and a fault is the answer only to such a count
   pub rose : AskedRose (counts_in old) (counts_in new) → (status ≡ statuses.Fault) ⊎ (status ≡ statuses.Memory)
   pub faulted : status ≡ statuses.Fault → AskedRose (counts_in old) (counts_in new)
   -- unless a count rises, the file didn't fail, and the ending decides the status
-  pub calm : (AnyRose (counts_in old) (counts_in new) → ⊥) → (failed_names entries ≡ []) × (ending ≡ failing → ⊥) × (status ≡ ending_status ending)
+  pub calm : (AnyRose (counts_in old) (counts_in new) → ⊥)
+      → (failed_names entries ≡ []) × (ending ≡ failing → ⊥) × (status ≡ ending_status ending)
   -- that all was done says that the file was read without a failure, and that all of the text was taken
-  pub whole : status ≡ statuses.Done → (failed_names entries ≡ []) × ((text : List ℕ) × (ending ≡ was_read text) × TellsAll old.out new.out text)
+  pub whole : status ≡ statuses.Done
+      → (failed_names entries ≡ []) × ((text : List ℕ) × (ending ≡ was_read text) × TellsAll old.out new.out text)

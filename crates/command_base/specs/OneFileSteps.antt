@@ -18,11 +18,13 @@ HaltsWell ending = (trouble : Trouble) → ending ≡ halted trouble → IsHalt 
 
 -- all troubles, in their order, where the file and standard output failed so
 abbrev pub one_troubles : List ℕ → Ending → Bool → Bool → List Trouble
-one_troubles file ending failed printing = troubles_in ending ++ (when failed (fault file) ++ (when printing output_fault ++ when (is_lack ending) no_memory))
+one_troubles file ending failed printing =
+    troubles_in ending ++ (when failed (fault file) ++ (when printing output_fault ++ when (is_lack ending) no_memory))
 
 -- all of the text was taken, or a first part where the output failed; it is as it was where nothing is printed
 abbrev pub PrintsEnding : SinkState → SinkState → Ending → Bool → Type 0
-PrintsEnding before now (was_read text) broke = ((broke ≡ false) × TellsAll before now text) ⊎ ((broke ≡ true) × TellsTextPart before now text)
+PrintsEnding before now (was_read text) broke =
+    ((broke ≡ false) × TellsAll before now text) ⊎ ((broke ≡ true) × TellsTextPart before now text)
 PrintsEnding before now (halted trouble) broke = (broke ≡ false) × (now ≡ before)
 PrintsEnding before now failing broke = (broke ≡ false) × (now ≡ before)
 PrintsEnding before now lacked broke = (broke ≡ false) × (now ≡ before)

@@ -22,7 +22,8 @@ pub record GoesOn (before now : SinkState) (waits left text : List ℕ) : Type 0
   pub waiting : taken ++ left ≡ waits ++ text
 
 -- The text was put behind what waited, or a write failed. After one that failed nothing is written.
-pub record PutsText (before : SinkState) (old : Waiting) (now : SinkState) (new : Waiting) (text : List ℕ) : Type 0 where
+pub record PutsText (before : SinkState) (old : Waiting) (now : SinkState) (new : Waiting) (text : List ℕ)
+    : Type 0 where
   pub puts : old.broken ≡ false → ((new.broken ≡ false) × GoesOn before now old.bytes.items new.bytes.items text)
       ⊎ ((new.broken ≡ true) × TakesTextPart before now (old.bytes.items ++ text))
   pub silent : old.broken ≡ true → (new.broken ≡ true) × (now ≡ before)

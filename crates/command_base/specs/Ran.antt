@@ -22,14 +22,16 @@ pub record Scene : Type 0 where
 
 -- the counts of the world, of its kept inputs and outputs, and of standard output
 abbrev pub counted_faults : WorldState → SinkState → Counts
-counted_faults world out = record { world = world.faults; inputs = world.input_faults; outputs = world.output_faults; printing = out.faults }
+counted_faults world out =
+    record { world = world.faults; inputs = world.input_faults; outputs = world.output_faults; printing = out.faults }
 
 abbrev pub counts_in : Scene → Counts
 counts_in s = counted_faults s.world s.out
 
 -- a count of the world has risen
 abbrev pub WorldRose : WorldState → WorldState → Type 0
-WorldRose old new = Rose old.faults new.faults ⊎ (Rose old.input_faults new.input_faults ⊎ Rose old.output_faults new.output_faults)
+WorldRose old new =
+    Rose old.faults new.faults ⊎ (Rose old.input_faults new.input_faults ⊎ Rose old.output_faults new.output_faults)
 
 abbrev pub AnyRose : Counts → Counts → Type 0
 AnyRose before now = Rose before.world now.world ⊎ (Rose before.inputs now.inputs
@@ -83,7 +85,8 @@ pub record IsGivenLive (entries : List Opening) (name : List ℕ) : Type 0 where
 -- Where the world tells, it goes on telling: these openings stand behind those before, and a name that isn't written holds
 -- what it held.
 abbrev pub Leaves : WorldState → WorldState → List Opening → Type 0
-Leaves old new entries = (told : Told) → old.told ≡ Some told → (now : Told) × (new.told ≡ Some now) × (now.log ≡ told.log ++ entries)
+Leaves old new entries = (told : Told) → old.told ≡ Some told
+    → (now : Told) × (new.told ≡ Some now) × (now.log ≡ told.log ++ entries)
     × ((name : List ℕ) → (IsGivenLive entries name → ⊥) → now.names name ≡ told.names name)
 
 -- ---- faults of openings
@@ -210,12 +213,14 @@ first_failed (failed ∷ more) = failed
 -- what is told of names, in their order: of each where it halts, and then that it failed; and what is told behind
 abbrev pub told_of : List (List ℕ) → List (List Trouble) → List Bool → List Trouble → List Trouble
 told_of [] halts failed behind = behind
-told_of (name ∷ names) halts failed behind = first_halts halts ++ (when (first_failed failed) (fault name) ++ told_of names (drop 1 halts) (drop 1 failed) behind)
+told_of (name ∷ names) halts failed behind = first_halts halts
+    ++ (when (first_failed failed) (fault name) ++ told_of names (drop 1 halts) (drop 1 failed) behind)
 
 -- all troubles, in their order: those of the inputs, of the outputs, and the others
 abbrev pub troubles_of : Files → Findings → Failed → Bool → List Trouble
 troubles_of files found failed printing =
-    told_of files.inputs found.halts failed.inputs (told_of files.outputs [] failed.outputs (found.limits ++ (when printing output_fault ++ when found.lacked no_memory)))
+    told_of files.inputs found.halts failed.inputs (told_of files.outputs [] failed.outputs
+    (found.limits ++ (when printing output_fault ++ when found.lacked no_memory)))
 
 -- Standard error took the lines of these troubles, and no more; all of them, or a first part where it failed itself. They give
 -- the status.
@@ -227,7 +232,8 @@ pub record Complains (due : List Trouble) (before now : SinkState) (status : Sta
 
 -- What a command did that opened these names: the entries of its openings, the text that it had for standard output, what it
 -- found, and its status.
-pub record Ran (files : Files) (old new : Scene) (entries : List Opening) (text : List ℕ) (found : Findings) (status : Status) : Type 0 where
+pub record Ran (files : Files) (old new : Scene) (entries : List Opening) (text : List ℕ) (found : Findings)
+    (status : Status) : Type 0 where
   -- these names were opened, and nothing else
   pub opened : AreOpened (wanted files) entries
   pub leaves : Leaves old.world new.world entries

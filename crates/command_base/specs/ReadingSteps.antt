@@ -25,7 +25,8 @@ abbrev pub use_of : StoreState → StoreUse
 use_of store = store_use store.faults store.asked
 
 -- the name's reading came to that, and ended so; and where it failed, a failure is told
-pub record NameEnds (kind : ObjectKind) (file : List ℕ) (old new : WorldState) (Reads : List Opening → Type 0) (ending : Ending) (failed : Bool) : Type 0 where
+pub record NameEnds (kind : ObjectKind) (file : List ℕ) (old new : WorldState) (Reads : List Opening → Type 0)
+    (ending : Ending) (failed : Bool) : Type 0 where
   pub entries : List Opening
   pub reading : Reads entries
   pub name : NameRead kind file old new entries failed

@@ -32,14 +32,16 @@ store_use faults asked = record { faults = faults; asked = asked }
 
 -- the source that was opened under the name told the bytes there, where the world tells; this came of its reading, and it was
 -- taken back
-pub record SourceUnder {A : Type 0} (Comes : SourceState → SourceState → A → Type 0) (file : List ℕ) (world : WorldState) (keeping : Keeping) (came : A) : Type 0 where
+pub record SourceUnder {A : Type 0} (Comes : SourceState → SourceState → A → Type 0) (file : List ℕ)
+    (world : WorldState) (keeping : Keeping) (came : A) : Type 0 where
   pub source : SourceState
   pub tells : TellsName world file source
   pub unused : source.faults ≡ 0
   pub comes : Comes source (record { left = keeping.left; faults = keeping.faults }) came
 
 -- the same of a store
-pub record StoreUnder {A : Type 0} (Comes : StoreState → StoreUse → A → Type 0) (file : List ℕ) (world : WorldState) (keeping : Keeping) (came : A) : Type 0 where
+pub record StoreUnder {A : Type 0} (Comes : StoreState → StoreUse → A → Type 0) (file : List ℕ) (world : WorldState)
+    (keeping : Keeping) (came : A) : Type 0 where
   pub store : StoreState
   pub tells : TellsStore world file store
   pub unused : IsUnused store
@@ -49,23 +51,28 @@ pub record StoreUnder {A : Type 0} (Comes : StoreState → StoreUse → A → Ty
 
 -- No entry, where memory lacked for the opening; or it was refused; or an object was given and taken back, and of its reading this
 -- came.
-abbrev pub IsOpened : {T R : Type 0} → ObjectKind → (Keeping → Result T R → Type 0) → List ℕ → List Opening → Reading T R → Type 0
+abbrev pub IsOpened : {T R : Type 0} → ObjectKind → (Keeping → Result T R → Type 0) → List ℕ → List Opening
+    → Reading T R → Type 0
 IsOpened kind Under file [] reading = reading ≡ readings.Unopened outside_refusals.Memory
 IsOpened {T} {R} kind Under file (entry ∷ more) reading = ((entry ≡ refused kind file) × (reading ≡ readings.Unopened outside_refusals.Failed))
     ⊎ ((keeping : Keeping) × (entry ≡ kept kind file keeping) × ((came : Result T R) × (reading ≡ readings.Opened came) × Under keeping came))
 
 -- what the opening of a name as a source came to
-abbrev pub IsSourceRead : {T R : Type 0} → (SourceState → SourceState → Result T R → Type 0) → List ℕ → WorldState → List Opening → Reading T R → Type 0
-IsSourceRead Comes file world entries reading = IsOpened kinds.Source (SourceUnder Comes file world) file entries reading
+abbrev pub IsSourceRead : {T R : Type 0} → (SourceState → SourceState → Result T R → Type 0) → List ℕ → WorldState
+    → List Opening → Reading T R → Type 0
+IsSourceRead Comes file world entries reading =
+    IsOpened kinds.Source (SourceUnder Comes file world) file entries reading
 
 -- and as a store
-abbrev pub IsStoreRead : {T R : Type 0} → (StoreState → StoreUse → Result T R → Type 0) → List ℕ → WorldState → List Opening → Reading T R → Type 0
+abbrev pub IsStoreRead : {T R : Type 0} → (StoreState → StoreUse → Result T R → Type 0) → List ℕ → WorldState
+    → List Opening → Reading T R → Type 0
 IsStoreRead Comes file world entries reading = IsOpened kinds.Store (StoreUnder Comes file world) file entries reading
 
 -- ---- commands
 
 -- What a command did that reads one file: this came of its reading, and it has that text, or so a refusal ends it.
-pub record ReadsFile {T R : Type 0} (IsRead : WorldState → List Opening → Reading T R → Type 0) (kind : ObjectKind) (file : List ℕ) (ending : Reading T R → Ending) (old new : Scene) (status : Status) : Type 0 where
+pub record ReadsFile {T R : Type 0} (IsRead : WorldState → List Opening → Reading T R → Type 0) (kind : ObjectKind)
+    (file : List ℕ) (ending : Reading T R → Ending) (old new : Scene) (status : Status) : Type 0 where
   -- the file is opened as an object of that kind, and nothing else; this is what its reading came to
   pub entries : List Opening
   pub reading : Reading T R

@@ -90,7 +90,10 @@ status_is_asked troubles status = list_any (λ t. is_status status (asked_status
 -- the first of these that is asked for: that memory lacked, that something failed, that a limit was passed, and that something
 -- was refused
 abbrev pub status_of : List Trouble → Status
-status_of troubles = unwrap_or (find (status_is_asked troubles) (statuses.Memory ∷ statuses.Fault ∷ statuses.Limit ∷ statuses.Refused ∷ [])) statuses.Done
+status_of troubles =
+    unwrap_or
+    (find (status_is_asked troubles) (statuses.Memory ∷ statuses.Fault ∷ statuses.Limit ∷ statuses.Refused ∷ []))
+    statuses.Done
 
 -- that of where the reading of a file halts
 abbrev pub halt_status : Halt → Status

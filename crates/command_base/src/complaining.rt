@@ -31,7 +31,8 @@ fn put_some<E: Sink>(waiting: &mut Waiting, err: &mut E, complaint: &Option<Comp
 
 // Puts the lines of the complaints that there are, in their order.
 fn put_lines<E: Sink>(waiting: &mut Waiting, err: &mut E, complaints: &[Option<Complaint<'_>>])
-    ensures { PutsText (E.state err.old) waiting.old (E.state err.new) waiting.new (flat_map (λ c. said (complained c)) complaints.now) }
+    ensures { PutsText (E.state err.old) waiting.old (E.state err.new) waiting.new
+        (flat_map (λ c. said (complained c)) complaints.now) }
 {
     'complaints: for complaint in complaints {
         put_some(waiting, err, complaint);

@@ -93,7 +93,8 @@ fn put_offset<E: Sink>(waiting: &mut Waiting, err: &mut E, offset: u64)
 
 // Puts the line of what is the matter with a file.
 fn put_file<E: Sink>(waiting: &mut Waiting, err: &mut E, name: &str, what: &str)
-    ensures { PutsText (E.state err.old) waiting.old (E.state err.new) waiting.new (about name.now (what.now ++ codes "\n")) }
+    ensures { PutsText (E.state err.old) waiting.old (E.state err.new) waiting.new
+        (about name.now (what.now ++ codes "\n")) }
 {
     put_about(waiting, err, name, what);
     waiting.put_text(err, "\n");
@@ -101,7 +102,8 @@ fn put_file<E: Sink>(waiting: &mut Waiting, err: &mut E, name: &str, what: &str)
 
 // Puts the line of what is the matter at an offset of a file.
 fn put_place<E: Sink>(waiting: &mut Waiting, err: &mut E, name: &str, what: &str, offset: u64)
-    ensures { PutsText (E.state err.old) waiting.old (E.state err.new) waiting.new (about name.now (what.now ++ at_offset offset)) }
+    ensures { PutsText (E.state err.old) waiting.old (E.state err.new) waiting.new
+        (about name.now (what.now ++ at_offset offset)) }
 {
     put_about(waiting, err, name, what);
     put_offset(waiting, err, offset);
@@ -116,7 +118,8 @@ fn put_compressed<E: Sink>(
     compression: &str,
     offset: u64,
 )
-    ensures { PutsText (E.state err.old) waiting.old (E.state err.new) waiting.new (trouble_line (compressed name.now compression.now offset)) }
+    ensures { PutsText (E.state err.old) waiting.old (E.state err.new) waiting.new
+        (trouble_line (compressed name.now compression.now offset)) }
 {
     put_about(waiting, err, name, ": compressed ");
     waiting.put_quoted(err, compression);
@@ -126,7 +129,8 @@ fn put_compressed<E: Sink>(
 // Puts the line of a rule that fails.
 #[tactic(auto, unfolding(crate::specs::Texts::trouble_line))]
 fn put_flaw<E: Sink>(waiting: &mut Waiting, err: &mut E, name: &str, rule: Rule, offset: u64)
-    ensures { PutsText (E.state err.old) waiting.old (E.state err.new) waiting.new (trouble_line (flaw name.now rule offset)) }
+    ensures { PutsText (E.state err.old) waiting.old (E.state err.new) waiting.new
+        (trouble_line (flaw name.now rule offset)) }
 {
     put_about(waiting, err, name, ": flaw V");
     waiting.put_number(err, rule.number() as u64);
@@ -136,7 +140,8 @@ fn put_flaw<E: Sink>(waiting: &mut Waiting, err: &mut E, name: &str, rule: Rule,
 /// Puts the line of a complaint. Names are quoted as JSON strings.
 #[tactic(auto, unfolding(crate::specs::Texts::trouble_line))]
 pub(crate) fn put_line<E: Sink>(waiting: &mut Waiting, err: &mut E, complaint: &Complaint<'_>)
-    ensures { PutsText (E.state err.old) waiting.old (E.state err.new) waiting.new (trouble_line (trouble_of complaint.now)) }
+    ensures { PutsText (E.state err.old) waiting.old (E.state err.new) waiting.new
+        (trouble_line (trouble_of complaint.now)) }
 {
     match complaint {
         Complaint::Fault { name } => put_file(waiting, err, name, ": fault"),

@@ -69,10 +69,18 @@ pub fn print_reading<K: FileReading, O: Sink>(
     out: &mut O,
     reading: &mut Reading<K::Read, K::Refused>,
 ) -> bool
-    ensures prints { (file : List ℕ) → PrintsEnding (O.state out.old) (O.state out.new) (ending_of (K.text what.now) (K.ending what.now file) reading.old) result }
-    ensures takes { (file : List ℕ) → Takes (O.state out.old) (O.state out.new) (text_of (ending_of (K.text what.now) (K.ending what.now file) reading.old)) }
-    ensures halts { (file : List ℕ) → troubles_in (ending_of (K.text what.now) (K.ending what.now file) reading.new) ≡ troubles_in (ending_of (K.text what.now) (K.ending what.now file) reading.old) }
-    ensures lacks { (file : List ℕ) → is_lack (ending_of (K.text what.now) (K.ending what.now file) reading.new) ≡ is_lack (ending_of (K.text what.now) (K.ending what.now file) reading.old) }
+    ensures prints { (file : List ℕ)
+        → PrintsEnding (O.state out.old) (O.state out.new)
+        (ending_of (K.text what.now) (K.ending what.now file) reading.old) result }
+    ensures takes { (file : List ℕ)
+        → Takes (O.state out.old) (O.state out.new) (text_of (ending_of (K.text what.now) (K.ending what.now file)
+        reading.old)) }
+    ensures halts { (file : List ℕ)
+        → troubles_in (ending_of (K.text what.now) (K.ending what.now file) reading.new)
+        ≡ troubles_in (ending_of (K.text what.now) (K.ending what.now file) reading.old) }
+    ensures lacks { (file : List ℕ)
+        → is_lack (ending_of (K.text what.now) (K.ending what.now file) reading.new)
+        ≡ is_lack (ending_of (K.text what.now) (K.ending what.now file) reading.old) }
 {
     match reading {
         Reading::Opened { came: Ok(read) } => return what.print(out, read),
@@ -123,10 +131,12 @@ pub fn answer_reading<K: FileReading, W: World, O: Sink, E: Sink>(
     out: &mut O,
     err: &mut E,
 ) -> Status
-    ensures { (kind : ObjectKind) (old : WorldState) (entries : List Opening) → before.now ≡ counted_faults old (O.state out.old)
+    ensures { (kind : ObjectKind) (old : WorldState) (entries : List Opening)
+        → before.now ≡ counted_faults old (O.state out.old)
         → NameRead kind file.now old (W.state world.now) entries read.old.failed
         → (ending_of (K.text what.now) (K.ending what.now file.now) read.old.reading ≡ failing → read.old.failed ≡ true)
-        → ReadsOne kind file.now (scene old (O.state out.old) (E.state err.old)) (scene (W.state world.now) (O.state out.new) (E.state err.new)) entries
+        → ReadsOne kind file.now (scene old (O.state out.old) (E.state err.old))
+        (scene (W.state world.now) (O.state out.new) (E.state err.new)) entries
         (ending_of (K.text what.now) (K.ending what.now file.now) read.old.reading) result }
 {
     let broke = print_reading(what, out, &mut read.reading);

@@ -39,7 +39,8 @@ pub fn answer_file<'a, E: Sink>(
     faults: Faults,
 ) -> Status
     ensures { (ending : Ending) → complained halt.entry ≡ troubles_in ending → lacked ≡ is_lack ending
-        → Complains (one_troubles file.now ending faults.file faults.printing) (E.state err.old) (E.state err.new) result }
+        → Complains (one_troubles file.now ending faults.file faults.printing) (E.state err.old) (E.state err.new)
+        result }
 {
     let complaints = [
         halt,

@@ -22,7 +22,8 @@ pub trait SourceReading: FileReading {
         ensures { comes self.now (S.state source.old) (S.state source.new) result };
 
     /// A reading that failed has a source that failed.
-    ghost fails: { (s : Self) (before now : SourceState) (file : List ℕ) (why : Self.Refused) → comes s before now (Err why) → before.faults ≡ 0 → Self.ending s file why ≡ failing → now.faults ≡ 0 → ⊥ };
+    ghost fails: { (s : Self) (before now : SourceState) (file : List ℕ) (why : Self.Refused)
+        → comes s before now (Err why) → before.faults ≡ 0 → Self.ending s file why ≡ failing → now.faults ≡ 0 → ⊥ };
 }
 
 /// Opens the name as a source, reads it, and keeps it.

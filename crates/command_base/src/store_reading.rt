@@ -22,7 +22,8 @@ pub trait StoreReading: FileReading {
         ensures { comes self.now (T.state store.old) (use_of (T.state store.new)) result };
 
     /// A reading that failed has a store that failed.
-    ghost fails: { (s : Self) (before : StoreState) (now : StoreUse) (file : List ℕ) (why : Self.Refused) → comes s before now (Err why) → before.faults ≡ 0 → Self.ending s file why ≡ failing → now.faults ≡ 0 → ⊥ };
+    ghost fails: { (s : Self) (before : StoreState) (now : StoreUse) (file : List ℕ) (why : Self.Refused)
+        → comes s before now (Err why) → before.faults ≡ 0 → Self.ending s file why ≡ failing → now.faults ≡ 0 → ⊥ };
 }
 
 /// Opens the name as a store, reads it, and keeps it.

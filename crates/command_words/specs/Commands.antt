@@ -89,7 +89,9 @@ name_of verb = (synopsis_of verb).name
 
 -- how the usage shows a command
 abbrev pub usage_of : Verb → Word
-usage_of verb.Record = codes "record [--plain] [--lossless] [--limit N] [--chunk N] [--profile T] [--watch START:END] [--watchers N] OUT FEED..."
+usage_of verb.Record =
+    codes
+    "record [--plain] [--lossless] [--limit N] [--chunk N] [--profile T] [--watch START:END] [--watchers N] OUT FEED..."
 usage_of (verb.OfFile what) = command_name what ++ codes " FILE"
 usage_of verb.Cat = codes "cat [--indexed] [--start N] [--end N] [--topic T] FILE"
 usage_of verb.Recover = codes "recover [--chunk N] IN OUT"
@@ -320,7 +322,8 @@ pub record IsGenerate (words : List Word) (seed feeds messages : ℕ) (out : Wor
 
 -- the words behind the command are those of this one
 abbrev pub WordsMean : List Word → Command → Type 0
-WordsMean words (Record out feeds file limit lossless range watchers) = IsRecord words out feeds (told_with file limit lossless range watchers)
+WordsMean words (Record out feeds file limit lossless range watchers) =
+    IsRecord words out feeds (told_with file limit lossless range watchers)
 WordsMean words (OfFile what file) = IsOfFile (file_synopsis (command_name what)) words file
 WordsMean words (Cat file indexed range topic) = IsCat words file indexed range topic
 WordsMean words (Recover input out chunk) = IsRecover words input out chunk

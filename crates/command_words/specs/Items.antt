@@ -46,10 +46,12 @@ words_of (plain word) = word ∷ []
 
 -- what ends the items: nothing, or `--` and positionals, none of which is `-`
 abbrev pub EndsItems : List Word → List Word → Type 0
-EndsItems tail behind = ((tail ≡ []) × (behind ≡ [])) ⊎ ((tail ≡ codes "--" ∷ behind) × All (λ word. word ≢ codes "-") behind)
+EndsItems tail behind =
+    ((tail ≡ []) × (behind ≡ [])) ⊎ ((tail ≡ codes "--" ∷ behind) × All (λ word. word ≢ codes "-") behind)
 
 -- the words are those of the items, and what ends them
-pub record WordsAreItems (synopsis : Synopsis) (words : List Word) (items : List Item) (behind : List Word) : Type 0 where
+pub record WordsAreItems (synopsis : Synopsis) (words : List Word) (items : List Item) (behind : List Word)
+    : Type 0 where
   pub tail : List Word
   pub form : words ≡ flat_map words_of items ++ tail
   pub each : All (IsItem synopsis) items

@@ -35,14 +35,16 @@ all_found name rows = unwrap_or (all_of name rows) []
 
 -- each name is given once at most, and there are no more positionals than the command takes
 pub record FitsSynopsis (synopsis : Synopsis) (items : List Item) (places : List Word) : Type 0 where
-  pub options : (name : Word) → IsOption synopsis name → (value : Option Word) × (given name items ≡ option_to_list value)
+  pub options : (name : Word) → IsOption synopsis name
+      → (value : Option Word) × (given name items ≡ option_to_list value)
   pub flags : (name : Word) → IsFlag synopsis name → (is_there : Bool) × Flags (given name items) is_there
   pub few : TakesPositionals synopsis (length places)
 
 -- what a parse that succeeded gives for the items and the positionals
 pub record ParsesInto (synopsis : Synopsis) (items : List Item) (places : List Word) (rows : List Row) : Type 0 where
   pub options : (name : Word) → IsOption synopsis name → given name items ≡ option_to_list (first_of name rows)
-  pub flags : (name : Word) → IsFlag synopsis name → (is_there : Bool) × Flags (given name items) is_there × (one_of name rows ≡ Some (bool_text is_there))
+  pub flags : (name : Word) → IsFlag synopsis name
+      → (is_there : Bool) × Flags (given name items) is_there × (one_of name rows ≡ Some (bool_text is_there))
   pub placed : AtPlaces synopsis places (λ id words. all_found id rows ≡ words)
   pub few : TakesPositionals synopsis (length places)
 
@@ -78,7 +80,9 @@ pub record EntersSubcommand (words : List Word) (entered : Option (Word × List 
 
 -- no command has the words, of any whose names are given once at most, with no more positionals than it takes
 abbrev pub AreNoCommand : List Word → Type 0
-AreNoCommand words = (verb : Verb) (rest : List Word) (items : List Item) (places : List Word) → words ≡ name_of verb ∷ rest → ReadsWords (synopsis_of verb) rest items places → FitsSynopsis (synopsis_of verb) items places → ⊥
+AreNoCommand words = (verb : Verb) (rest : List Word) (items : List Item) (places : List Word)
+    → words ≡ name_of verb ∷ rest → ReadsWords (synopsis_of verb) rest items places
+    → FitsSynopsis (synopsis_of verb) items places → ⊥
 
 -- texts, none of which is `-`
 abbrev pub AreFine : List Word → Type 0
@@ -96,7 +100,8 @@ values_in found name = all_found name (rows_found found)
 
 -- they may be the names of the feeds behind OUT
 abbrev pub AreFeedNames : Word → List Word → Type 0
-AreFeedNames out feeds = (1 ≤ length feeds) × (length feeds ≤ feed_limit) × All (λ feed. (feed ≢ []) × (out ≢ feed)) feeds
+AreFeedNames out feeds =
+    (1 ≤ length feeds) × (length feeds ≤ feed_limit) × All (λ feed. (feed ≢ []) × (out ≢ feed)) feeds
 
 -- none of the feeds is the file of one of so many watchers
 abbrev pub AreUnwatched : Word → ℕ → List Word → Type 0

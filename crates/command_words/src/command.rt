@@ -60,7 +60,8 @@ impl FileCommand {
 
     /// The one of this name.
     pub(crate) fn named(name: &str) -> Option<FileCommand>
-        ensures { MatchOption result ((what : Named) → name.now ≢ command_name what) (λ what. name.now ≡ command_name what) }
+        ensures { MatchOption result ((what : Named) → name.now ≢ command_name what)
+            (λ what. name.now ≡ command_name what) }
     {
         if name == "info" {
             return Some(FileCommand::Info);

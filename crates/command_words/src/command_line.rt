@@ -15,7 +15,8 @@ fn with_flag<'a>(
     alloc: Global,
     name: &'a str,
 ) -> Result<Command<'a>, AllocError>
-    ensures { (app : App) → IfOk made.entry (IsMade app) → IfOk result (IsMade (with_rule app (flag_given name.entry.now))) }
+    ensures { (app : App) → IfOk made.entry (IsMade app)
+        → IfOk result (IsMade (with_rule app (flag_given name.entry.now))) }
 {
     made?.arg(Arg::new(alloc, name).long(name).action(ArgAction::SetTrue))
 }
@@ -26,7 +27,8 @@ fn with_option<'a>(
     alloc: Global,
     name: &'a str,
 ) -> Result<Command<'a>, AllocError>
-    ensures { (app : App) → IfOk made.entry (IsMade app) → IfOk result (IsMade (with_rule app (option_given name.entry.now))) }
+    ensures { (app : App) → IfOk made.entry (IsMade app)
+        → IfOk result (IsMade (with_rule app (option_given name.entry.now))) }
 {
     made?.arg(Arg::new(alloc, name).long(name))
 }
@@ -37,7 +39,8 @@ fn with_place<'a>(
     alloc: Global,
     name: &'a str,
 ) -> Result<Command<'a>, AllocError>
-    ensures { (app : App) → IfOk made.entry (IsMade app) → IfOk result (IsMade (with_rule app (new_rule name.entry.now))) }
+    ensures { (app : App) → IfOk made.entry (IsMade app)
+        → IfOk result (IsMade (with_rule app (new_rule name.entry.now))) }
 {
     made?.arg(Arg::new(alloc, name))
 }
@@ -48,7 +51,8 @@ fn with_rest<'a>(
     alloc: Global,
     name: &'a str,
 ) -> Result<Command<'a>, AllocError>
-    ensures { (app : App) → IfOk made.entry (IsMade app) → IfOk result (IsMade (with_rule app (rest_given name.entry.now))) }
+    ensures { (app : App) → IfOk made.entry (IsMade app)
+        → IfOk result (IsMade (with_rule app (rest_given name.entry.now))) }
 {
     made?.arg(Arg::new(alloc, name).action(ArgAction::Append))
 }
@@ -129,7 +133,8 @@ fn with_made<'a>(
     made: Result<Command<'a>, AllocError>,
     verb: Command<'a>,
 ) -> Result<Command<'a>, AllocError>
-    ensures { (app below : App) → IfOk made.entry (IsMade app) → IsMade below verb.entry → IfOk result (IsMade (with_subcommand app below.top)) }
+    ensures { (app below : App) → IfOk made.entry (IsMade app) → IsMade below verb.entry
+        → IfOk result (IsMade (with_subcommand app below.top)) }
 {
     match made {
         Ok(made) => return made.subcommand(verb),
@@ -142,7 +147,8 @@ fn with_verb<'a>(
     made: Result<Command<'a>, AllocError>,
     verb: Result<Command<'a>, AllocError>,
 ) -> Result<Command<'a>, AllocError>
-    ensures { (app below : App) → IfOk made.entry (IsMade app) → IfOk verb.entry (IsMade below) → IfOk result (IsMade (with_subcommand app below.top)) }
+    ensures { (app below : App) → IfOk made.entry (IsMade app) → IfOk verb.entry (IsMade below)
+        → IfOk result (IsMade (with_subcommand app below.top)) }
 {
     match verb {
         Ok(verb) => return with_made(made, verb),

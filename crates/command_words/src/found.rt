@@ -22,7 +22,8 @@ pub fn value_of<'a>(found: &ArgMatches<'a>, name: &str) -> Option<&'a str>
 
 /// All the values of a name, from left to right, where there is one.
 pub fn values_of<'f, 'a>(found: &'f ArgMatches<'a>, name: &str) -> Option<&'f [&'a str]>
-    ensures { MatchOption result (values_in found.now name.now ≡ []) (λ values. texts values.now ≡ values_in found.now name.now) }
+    ensures { MatchOption result (values_in found.now name.now ≡ []) (λ values. texts values.now
+        ≡ values_in found.now name.now) }
 {
     found.get_strs(name)
 }
@@ -39,14 +40,16 @@ pub fn is_dash(found: &ArgMatches, name: &str) -> bool
 
 /// Whether a flag stands.
 pub fn has_flag(found: &ArgMatches, name: &str) -> bool
-    ensures { (is_there : Bool) → one_of name.now (rows_found found.now) ≡ Some (bool_text is_there) → result ≡ is_there }
+    ensures { (is_there : Bool) → one_of name.now (rows_found found.now) ≡ Some (bool_text is_there)
+        → result ≡ is_there }
 {
     found.get_flag(name)
 }
 
 /// The name of a file, which isn't empty.
 pub fn name_of_file<'a>(found: &ArgMatches<'a>, place: &str) -> Option<&'a str>
-    ensures { MatchOption result ((name : Word) → name ≢ [] → value_in found.now place.now ≢ Some name) (λ name. (name.now ≢ []) × (value_in found.now place.now ≡ Some name.now)) }
+    ensures { MatchOption result ((name : Word) → name ≢ [] → value_in found.now place.now ≢ Some name)
+        (λ name. (name.now ≢ []) × (value_in found.now place.now ≡ Some name.now)) }
 {
     match value_of(found, place) {
         Some(name) => {
@@ -85,8 +88,10 @@ pub fn number_of(
     least: u64,
     most: u64,
 ) -> Result<Option<u64>, BadValue>
-    ensures number { IfOk result (λ number. GivesNumber least most (option_to_list (value_in found.now name.now)) number) }
-    ensures bad { OnErr result ((number : Option ℕ) → GivesNumber least most (option_to_list (value_in found.now name.now)) number → ⊥) }
+    ensures number { IfOk result (λ number. GivesNumber least most (option_to_list (value_in found.now name.now))
+        number) }
+    ensures bad { OnErr result ((number : Option ℕ)
+        → GivesNumber least most (option_to_list (value_in found.now name.now)) number → ⊥) }
 {
     match value_of(found, name) {
         Some(word) => match parse_number(word, least, most) {
@@ -99,8 +104,10 @@ pub fn number_of(
 
 /// The number of a positional, from `least` to `most`.
 pub fn number_at(found: &ArgMatches, place: &str, least: u64, most: u64) -> Result<u64, BadValue>
-    ensures number { IfOk result (λ number. (word : Word) × (value_in found.now place.now ≡ Some word) × IsNumber least most word number) }
-    ensures bad { OnErr result ((word : Word) (number : ℕ) → value_in found.now place.now ≡ Some word → IsNumber least most word number → ⊥) }
+    ensures number { IfOk result (λ number. (word : Word) × (value_in found.now place.now ≡ Some word)
+        × IsNumber least most word number) }
+    ensures bad { OnErr result ((word : Word) (number : ℕ) → value_in found.now place.now ≡ Some word
+        → IsNumber least most word number → ⊥) }
 {
     match value_of(found, place) {
         Some(word) => match parse_number(word, least, most) {

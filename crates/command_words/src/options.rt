@@ -67,8 +67,11 @@ fn size_chunks(is_plain: bool, size: Option<u64>) -> Result<Option<u64>, BadValu
 
 // --plain and --chunk.
 fn chunk_of(found: &ArgMatches) -> Result<Option<u64>, BadValue>
-    ensures chunk { (items : List Item) (places : List Word) → ParsesInto (synopsis_of verb.Record) items places (rows_found found.now) → IfOk result (HasChunks items) }
-    ensures bad { (items : List Item) (places : List Word) → ParsesInto (synopsis_of verb.Record) items places (rows_found found.now) → OnErr result ((chunk : Option ℕ) → HasChunks items chunk → ⊥) }
+    ensures chunk { (items : List Item) (places : List Word)
+        → ParsesInto (synopsis_of verb.Record) items places (rows_found found.now) → IfOk result (HasChunks items) }
+    ensures bad { (items : List Item) (places : List Word)
+        → ParsesInto (synopsis_of verb.Record) items places (rows_found found.now)
+        → OnErr result ((chunk : Option ℕ) → HasChunks items chunk → ⊥) }
 {
     match number_of(found, "chunk", 1, LARGEST_CHUNK) {
         Ok(size) => return size_chunks(has_flag(found, "plain"), size),
@@ -88,8 +91,12 @@ fn profile_text<'a>(found: &ArgMatches<'a>) -> &'a str
 
 // --profile.
 fn profile_of<'a>(found: &ArgMatches<'a>) -> Result<&'a str, BadValue>
-    ensures profile { (items : List Item) (places : List Word) → ParsesInto (synopsis_of verb.Record) items places (rows_found found.now) → IfOk result (λ profile. HasProfile items profile.now) }
-    ensures bad { (items : List Item) (places : List Word) → ParsesInto (synopsis_of verb.Record) items places (rows_found found.now) → OnErr result ((profile : Word) → HasProfile items profile → ⊥) }
+    ensures profile { (items : List Item) (places : List Word)
+        → ParsesInto (synopsis_of verb.Record) items places (rows_found found.now)
+        → IfOk result (λ profile. HasProfile items profile.now) }
+    ensures bad { (items : List Item) (places : List Word)
+        → ParsesInto (synopsis_of verb.Record) items places (rows_found found.now)
+        → OnErr result ((profile : Word) → HasProfile items profile → ⊥) }
 {
     let profile = profile_text(found);
     if profile.len() > LONGEST_PROFILE {
@@ -100,8 +107,11 @@ fn profile_of<'a>(found: &ArgMatches<'a>) -> Result<&'a str, BadValue>
 
 /// The profile and the size of the chunks.
 pub fn file_options(alloc: Global, found: &ArgMatches) -> Result<FileOptions, WordsRefused>
-    ensures options { (items : List Item) (places : List Word) → ParsesInto (synopsis_of verb.Record) items places (rows_found found.now) → IfOk result (IsFileOptions items) }
-    ensures bad { (items : List Item) (places : List Word) → ParsesInto (synopsis_of verb.Record) items places (rows_found found.now) → IfErr result (λ refused. refused ≡ WordsRefused.BadWords → (file : Options) → IsFileOptions items file → ⊥) }
+    ensures options { (items : List Item) (places : List Word)
+        → ParsesInto (synopsis_of verb.Record) items places (rows_found found.now) → IfOk result (IsFileOptions items) }
+    ensures bad { (items : List Item) (places : List Word)
+        → ParsesInto (synopsis_of verb.Record) items places (rows_found found.now)
+        → IfErr result (λ refused. refused ≡ WordsRefused.BadWords → (file : Options) → IsFileOptions items file → ⊥) }
 {
     let chunk = match chunk_of(found) {
         Ok(chunk) => chunk,
@@ -118,8 +128,11 @@ pub fn file_options(alloc: Global, found: &ArgMatches) -> Result<FileOptions, Wo
 
 /// --start and --end.
 pub fn range_of(found: &ArgMatches) -> Result<Range, BadValue>
-    ensures range { (items : List Item) (places : List Word) → ParsesInto (synopsis_of verb.Cat) items places (rows_found found.now) → IfOk result (IsRange items) }
-    ensures bad { (items : List Item) (places : List Word) → ParsesInto (synopsis_of verb.Cat) items places (rows_found found.now) → OnErr result ((range : Times) → IsRange items range → ⊥) }
+    ensures range { (items : List Item) (places : List Word)
+        → ParsesInto (synopsis_of verb.Cat) items places (rows_found found.now) → IfOk result (IsRange items) }
+    ensures bad { (items : List Item) (places : List Word)
+        → ParsesInto (synopsis_of verb.Cat) items places (rows_found found.now)
+        → OnErr result ((range : Times) → IsRange items range → ⊥) }
 {
     match number_of(found, "start", 0, u64::MAX) {
         Ok(start) => match number_of(found, "end", 0, u64::MAX) {
@@ -156,7 +169,8 @@ fn parse_span(word: &str) -> Result<Range, BadValue>
 // --watch.
 fn span_of(found: &ArgMatches) -> Result<Option<Range>, BadValue>
     ensures span { IfOk result (λ span. GivesSpan (option_to_list (value_in found.now (codes "watch"))) span) }
-    ensures bad { OnErr result ((span : Option Times) → GivesSpan (option_to_list (value_in found.now (codes "watch"))) span → ⊥) }
+    ensures bad { OnErr result ((span : Option Times)
+        → GivesSpan (option_to_list (value_in found.now (codes "watch"))) span → ⊥) }
 {
     match value_of(found, "watch") {
         Some(word) => match parse_span(word) {
@@ -190,8 +204,12 @@ fn watchers_of(number: Option<u64>, span: Option<Range>) -> u32
 
 /// --watch and --watchers, beside which --plain doesn't stand.
 pub fn watching_of(found: &ArgMatches) -> Result<Watchers, BadValue>
-    ensures watchers { (items : List Item) (places : List Word) → ParsesInto (synopsis_of verb.Record) items places (rows_found found.now) → IfOk result (λ watchers. HasWatchers items watchers.range watchers.count) }
-    ensures bad { (items : List Item) (places : List Word) → ParsesInto (synopsis_of verb.Record) items places (rows_found found.now) → OnErr result ((range : Times) (count : ℕ) → HasWatchers items range count → ⊥) }
+    ensures watchers { (items : List Item) (places : List Word)
+        → ParsesInto (synopsis_of verb.Record) items places (rows_found found.now)
+        → IfOk result (λ watchers. HasWatchers items watchers.range watchers.count) }
+    ensures bad { (items : List Item) (places : List Word)
+        → ParsesInto (synopsis_of verb.Record) items places (rows_found found.now)
+        → OnErr result ((range : Times) (count : ℕ) → HasWatchers items range count → ⊥) }
 {
     let span = match span_of(found) {
         Ok(span) => span,

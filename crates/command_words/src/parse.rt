@@ -106,7 +106,8 @@ fn feeds_of(
     out: &str,
 ) -> Result<Names, WordsRefused>
     ensures feeds { IfOk result (λ feeds. (values_in found.now place.now ≡ feeds) × AreFeedNames out.now feeds) }
-    ensures bad { IfErr result (λ refused. refused ≡ WordsRefused.BadWords → AreFeedNames out.now (values_in found.now place.now) → ⊥) }
+    ensures bad { IfErr result (λ refused. refused ≡ WordsRefused.BadWords
+        → AreFeedNames out.now (values_in found.now place.now) → ⊥) }
 {
     let Some(feeds) = values_of(found, place) else {
         return Err(WordsRefused::BadWords);
@@ -127,8 +128,11 @@ fn recorded_feeds(
     out: &str,
     watchers: u32,
 ) -> Result<Names, WordsRefused>
-    ensures feeds { IfOk result (λ feeds. (values_in found.now (codes "feed") ≡ feeds) × AreFeedNames out.now feeds × AreUnwatched out.now watchers feeds) }
-    ensures bad { IfErr result (λ refused. refused ≡ WordsRefused.BadWords → AreFeedNames out.now (values_in found.now (codes "feed")) → AreUnwatched out.now watchers (values_in found.now (codes "feed")) → ⊥) }
+    ensures feeds { IfOk result (λ feeds. (values_in found.now (codes "feed") ≡ feeds) × AreFeedNames out.now feeds
+        × AreUnwatched out.now watchers feeds) }
+    ensures bad { IfErr result (λ refused. refused ≡ WordsRefused.BadWords
+        → AreFeedNames out.now (values_in found.now (codes "feed"))
+        → AreUnwatched out.now watchers (values_in found.now (codes "feed")) → ⊥) }
 {
     if !feeds_are_unwatched(found, out, watchers) {
         return Err(WordsRefused::BadWords);
@@ -142,7 +146,8 @@ fn recorded_feeds(
 // The name of the one file of a command.
 fn one_name(alloc: Global, found: &ArgMatches) -> Result<Text, WordsRefused>
     ensures file { IfOk result (λ file. (file ≢ []) × (value_in found.now (codes "file") ≡ Some file)) }
-    ensures bad { IfErr result (λ refused. refused ≡ WordsRefused.BadWords → (file : Word) → file ≢ [] → value_in found.now (codes "file") ≢ Some file) }
+    ensures bad { IfErr result (λ refused. refused ≡ WordsRefused.BadWords → (file : Word) → file ≢ []
+        → value_in found.now (codes "file") ≢ Some file) }
 {
     match name_of_file(found, "file") {
         Some(file) => match copy_of(alloc, file) {
@@ -155,8 +160,11 @@ fn one_name(alloc: Global, found: &ArgMatches) -> Result<Text, WordsRefused>
 
 // What was found behind `record`.
 fn record_of(alloc: Global, found: &ArgMatches) -> Result<Command, WordsRefused>
-    ensures command { (words : List Word) → IsReading (synopsis_of Verb.Record) words (rows_found found.now) → IfOk result (λ command. WordsMean words command × (verb_of command ≡ Verb.Record)) }
-    ensures bad { (words : List Word) → IsReading (synopsis_of Verb.Record) words (rows_found found.now) → IfErr result (λ refused. refused ≡ WordsRefused.BadWords → (out : Word) (feeds : List Word) (told : Recording) → IsRecord words out feeds told → ⊥) }
+    ensures command { (words : List Word) → IsReading (synopsis_of Verb.Record) words (rows_found found.now)
+        → IfOk result (λ command. WordsMean words command × (verb_of command ≡ Verb.Record)) }
+    ensures bad { (words : List Word) → IsReading (synopsis_of Verb.Record) words (rows_found found.now)
+        → IfErr result (λ refused. refused ≡ WordsRefused.BadWords → (out : Word) (feeds : List Word) (told : Recording)
+        → IsRecord words out feeds told → ⊥) }
 {
     if is_dash(found, "profile") {
         return Err(WordsRefused::BadWords);
@@ -196,8 +204,12 @@ fn record_of(alloc: Global, found: &ArgMatches) -> Result<Command, WordsRefused>
 
 // What was found behind `cat`.
 fn cat_of(alloc: Global, found: &ArgMatches) -> Result<Command, WordsRefused>
-    ensures command { (words : List Word) → IsReading (synopsis_of Verb.Cat) words (rows_found found.now) → IfOk result (λ command. WordsMean words command × (verb_of command ≡ Verb.Cat)) }
-    ensures bad { (words : List Word) → IsReading (synopsis_of Verb.Cat) words (rows_found found.now) → IfErr result (λ refused. refused ≡ WordsRefused.BadWords → (file : Word) (indexed : Bool) (range : Times) (topic : Option Word) → IsCat words file indexed range topic → ⊥) }
+    ensures command { (words : List Word) → IsReading (synopsis_of Verb.Cat) words (rows_found found.now)
+        → IfOk result (λ command. WordsMean words command × (verb_of command ≡ Verb.Cat)) }
+    ensures bad { (words : List Word) → IsReading (synopsis_of Verb.Cat) words (rows_found found.now)
+        → IfErr result (λ refused. refused ≡ WordsRefused.BadWords
+        → (file : Word) (indexed : Bool) (range : Times) (topic : Option Word) → IsCat words file indexed range topic
+        → ⊥) }
 {
     if is_dash(found, "topic") {
         return Err(WordsRefused::BadWords);
@@ -223,7 +235,9 @@ fn cat_of(alloc: Global, found: &ArgMatches) -> Result<Command, WordsRefused>
 
 // The one name of the output beside that input.
 fn only_output<'a>(found: &ArgMatches<'a>, input: &str) -> Option<&'a str>
-    ensures { MatchOption result ((out : Word) → out ≢ [] → input.now ≢ out → values_in found.now (codes "out") ≢ out ∷ []) (λ out. (out.now ≢ []) × (input.now ≢ out.now) × (values_in found.now (codes "out") ≡ out.now ∷ [])) }
+    ensures { MatchOption result
+        ((out : Word) → out ≢ [] → input.now ≢ out → values_in found.now (codes "out") ≢ out ∷ [])
+        (λ out. (out.now ≢ []) × (input.now ≢ out.now) × (values_in found.now (codes "out") ≡ out.now ∷ [])) }
 {
     let Some(names) = values_of(found, "out") else {
         return None;
@@ -236,8 +250,11 @@ fn only_output<'a>(found: &ArgMatches<'a>, input: &str) -> Option<&'a str>
 
 // What was found behind `recover`.
 fn recover_of(alloc: Global, found: &ArgMatches) -> Result<Command, WordsRefused>
-    ensures command { (words : List Word) → IsReading (synopsis_of Verb.Recover) words (rows_found found.now) → IfOk result (λ command. WordsMean words command × (verb_of command ≡ Verb.Recover)) }
-    ensures bad { (words : List Word) → IsReading (synopsis_of Verb.Recover) words (rows_found found.now) → IfErr result (λ refused. refused ≡ WordsRefused.BadWords → (input out : Word) (chunk : ℕ) → IsRecover words input out chunk → ⊥) }
+    ensures command { (words : List Word) → IsReading (synopsis_of Verb.Recover) words (rows_found found.now)
+        → IfOk result (λ command. WordsMean words command × (verb_of command ≡ Verb.Recover)) }
+    ensures bad { (words : List Word) → IsReading (synopsis_of Verb.Recover) words (rows_found found.now)
+        → IfErr result (λ refused. refused ≡ WordsRefused.BadWords → (input out : Word) (chunk : ℕ)
+        → IsRecover words input out chunk → ⊥) }
 {
     let Some(input) = name_of_file(found, "in") else {
         return Err(WordsRefused::BadWords);
@@ -261,8 +278,11 @@ fn recover_of(alloc: Global, found: &ArgMatches) -> Result<Command, WordsRefused
 
 // What was found behind `merge`.
 fn merge_of(alloc: Global, found: &ArgMatches) -> Result<Command, WordsRefused>
-    ensures command { (words : List Word) → IsReading (synopsis_of Verb.Merge) words (rows_found found.now) → IfOk result (λ command. WordsMean words command × (verb_of command ≡ Verb.Merge)) }
-    ensures bad { (words : List Word) → IsReading (synopsis_of Verb.Merge) words (rows_found found.now) → IfErr result (λ refused. refused ≡ WordsRefused.BadWords → (out : Word) (inputs : List Word) (chunk : ℕ) → IsMerge words out inputs chunk → ⊥) }
+    ensures command { (words : List Word) → IsReading (synopsis_of Verb.Merge) words (rows_found found.now)
+        → IfOk result (λ command. WordsMean words command × (verb_of command ≡ Verb.Merge)) }
+    ensures bad { (words : List Word) → IsReading (synopsis_of Verb.Merge) words (rows_found found.now)
+        → IfErr result (λ refused. refused ≡ WordsRefused.BadWords → (out : Word) (inputs : List Word) (chunk : ℕ)
+        → IsMerge words out inputs chunk → ⊥) }
 {
     let Some(out) = name_of_file(found, "out") else {
         return Err(WordsRefused::BadWords);
@@ -291,7 +311,8 @@ fn narrowed(number: u64) -> u32
 
 // The numbers of feeds and of the messages of each.
 fn amounts_of(feeds_word: &str, messages_word: &str) -> Result<Amounts, BadValue>
-    ensures amounts { IfOk result (λ amounts. AreAmounts feeds_word.now messages_word.now amounts.feeds amounts.messages) }
+    ensures amounts { IfOk result (λ amounts. AreAmounts feeds_word.now messages_word.now amounts.feeds
+        amounts.messages) }
     ensures bad { OnErr result ((feeds messages : ℕ) → AreAmounts feeds_word.now messages_word.now feeds messages → ⊥) }
 {
     let feeds = match parse_number(feeds_word, 1, MOST_FEEDS) {
@@ -313,8 +334,11 @@ fn amounts_of(feeds_word: &str, messages_word: &str) -> Result<Amounts, BadValue
 
 // What was found behind `gen`.
 fn generate_of(alloc: Global, found: &ArgMatches) -> Result<Command, WordsRefused>
-    ensures command { (words : List Word) → IsReading (synopsis_of Verb.Generate) words (rows_found found.now) → IfOk result (λ command. WordsMean words command × (verb_of command ≡ Verb.Generate)) }
-    ensures bad { (words : List Word) → IsReading (synopsis_of Verb.Generate) words (rows_found found.now) → IfErr result (λ refused. refused ≡ WordsRefused.BadWords → (seed feeds messages : ℕ) (out : Word) → IsGenerate words seed feeds messages out → ⊥) }
+    ensures command { (words : List Word) → IsReading (synopsis_of Verb.Generate) words (rows_found found.now)
+        → IfOk result (λ command. WordsMean words command × (verb_of command ≡ Verb.Generate)) }
+    ensures bad { (words : List Word) → IsReading (synopsis_of Verb.Generate) words (rows_found found.now)
+        → IfErr result (λ refused. refused ≡ WordsRefused.BadWords → (seed feeds messages : ℕ) (out : Word)
+        → IsGenerate words seed feeds messages out → ⊥) }
 {
     let seed = match number_at(found, "seed", 0, u64::MAX) {
         Ok(seed) => seed,
@@ -343,8 +367,11 @@ fn generate_of(alloc: Global, found: &ArgMatches) -> Result<Command, WordsRefuse
 
 // What was found behind the name of a command.
 fn command_of(alloc: Global, verb: Verb, found: &ArgMatches) -> Result<Command, WordsRefused>
-    ensures command { (words : List Word) → IsReading (synopsis_of verb) words (rows_found found.now) → IfOk result (λ command. WordsMean words command × (verb_of command ≡ verb)) }
-    ensures bad { (words : List Word) → IsReading (synopsis_of verb) words (rows_found found.now) → IfErr result (λ refused. refused ≡ WordsRefused.BadWords → (command : Wanted) → verb_of command ≡ verb → WordsMean words command → ⊥) }
+    ensures command { (words : List Word) → IsReading (synopsis_of verb) words (rows_found found.now)
+        → IfOk result (λ command. WordsMean words command × (verb_of command ≡ verb)) }
+    ensures bad { (words : List Word) → IsReading (synopsis_of verb) words (rows_found found.now)
+        → IfErr result (λ refused. refused ≡ WordsRefused.BadWords → (command : Wanted) → verb_of command ≡ verb
+        → WordsMean words command → ⊥) }
 {
     match verb {
         Verb::Record => return record_of(alloc, found),
@@ -361,8 +388,10 @@ fn command_of(alloc: Global, verb: Verb, found: &ArgMatches) -> Result<Command, 
 
 // The command that was found.
 fn found_command(alloc: Global, found: &ArgMatches) -> Result<Command, WordsRefused>
-    ensures command { (words : List Word) → EntersSubcommand words (subcommand_rows_of found.now) → IfOk result (Derives words) }
-    ensures bad { (words : List Word) → EntersSubcommand words (subcommand_rows_of found.now) → result ≡ Err WordsRefused.BadWords → AreBad words }
+    ensures command { (words : List Word) → EntersSubcommand words (subcommand_rows_of found.now)
+        → IfOk result (Derives words) }
+    ensures bad { (words : List Word) → EntersSubcommand words (subcommand_rows_of found.now)
+        → result ≡ Err WordsRefused.BadWords → AreBad words }
 {
     let Some((name, below)) = found.subcommand() else {
         return Err(WordsRefused::BadWords);

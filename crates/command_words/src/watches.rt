@@ -14,14 +14,16 @@ use std::alloc::Global;
 
 // What stands behind a text in another that begins with it.
 fn behind<'a>(front: &str, text: &'a str) -> Option<&'a str>
-    ensures { MatchOption result ((rest : Word) → text.now ≢ front.now ++ rest) (λ rest. text.now ≡ front.now ++ rest.now) }
+    ensures { MatchOption result ((rest : Word) → text.now ≢ front.now ++ rest) (λ rest. text.now
+        ≡ front.now ++ rest.now) }
 {
     text.strip_prefix(front)
 }
 
 // What stands in a name in the place of a watcher's number.
 fn place_of_number<'a>(out: &str, name: &'a str) -> Option<&'a str>
-    ensures { MatchOption result ((rest : Word) → name.now ≢ out.now ++ (codes ".watch" ++ rest)) (λ rest. name.now ≡ out.now ++ (codes ".watch" ++ rest.now)) }
+    ensures { MatchOption result ((rest : Word) → name.now ≢ out.now ++ (codes ".watch" ++ rest))
+        (λ rest. name.now ≡ out.now ++ (codes ".watch" ++ rest.now)) }
 {
     match behind(out, name) {
         Some(rest) => return behind(".watch", rest),

@@ -50,17 +50,20 @@ pub record IsInLast (tops : List Top) (index count : ℕ) : Type 0 where
 
 -- the intake had ended and refused the last message that was handled, which is one of the last record
 abbrev EndsInLast : List Top → ℕ → ℕ → List Refused → Type 0
-EndsInLast tops handled count refused = (r : Refused) × Has refused r × (r.index + 1 ≡ handled) × (goes_on r.cause ≡ false) × IsInLast tops r.index count
+EndsInLast tops handled count refused =
+    (r : Refused) × Has refused r × (r.index + 1 ≡ handled) × (goes_on r.cause ≡ false) × IsInLast tops r.index count
 
 -- All were taken, unless memory lacked for the next message, which is one of the last record, or the intake had ended.
 abbrev pub TakesMessages : List Top → ℕ → ℕ → List Refused → FeedEnd → Type 0
 TakesMessages tops handled count refused feed_ends.Done = AllHandled tops handled count
-TakesMessages tops handled count refused (feed_ends.Refused why) = AllHandled tops handled count ⊎ ((why ≡ refusals.Memory) × IsInLast tops handled count)
+TakesMessages tops handled count refused (feed_ends.Refused why) =
+    AllHandled tops handled count ⊎ ((why ≡ refusals.Memory) × IsInLast tops handled count)
 TakesMessages tops handled count refused feed_ends.Ended = EndsInLast tops handled count refused
 
 -- the lists of a report
 abbrev pub reported : FeedReport → ReportLists
-reported report = record { accepted = report.accepted.items; declared = report.declared.items; refused = report.refused.items }
+reported report =
+    record { accepted = report.accepted.items; declared = report.declared.items; refused = report.refused.items }
 
 -- A report on a feed, of the source as it was before and is now and of the pass as it is now: records that were read, how
 -- many of their messages were handled, how it ended, and that the lists fit. The feed ends with the intake where a message was
@@ -72,7 +75,8 @@ pub record Reports (before now : SourceState) (pass : PassState) (report : FeedR
   pub takes : TakesMessages tops handled report.passed report.refused.items report.end
   pub fits : LaneFits (flat tops) handled (reported report) pass
   pub refused_ends : Each (λ r. goes_on r.cause ≡ false → report.end ≡ feed_ends.Ended) report.refused.items
-  pub found_ends : (found : Found) (end : End) → pass.found ≡ Some found → found.end ≡ Some end → report.end ≡ feed_ends.Ended
+  pub found_ends : (found : Found) (end : End) → pass.found ≡ Some found → found.end ≡ Some end
+      → report.end ≡ feed_ends.Ended
   -- no declaration stands behind the records that the pass found
   pub firsts : Each (λ d. FoundAtLeast pass d.first) report.declared.items
   -- the channel of a message that is too large is declared all the same, and that of one for which memory lacked isn't

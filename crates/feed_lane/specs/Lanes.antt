@@ -110,11 +110,13 @@ pub record IsChannelOf (records : List Top) (index : ℕ) (content : ChannelDef)
 
 -- the records of that message's channel are longer than those of a declaration may be
 abbrev pub IsWide : List Top → ℕ → ℕ → Type 0
-IsWide records index len = (content : ChannelDef) × IsChannelOf records index content × (len ≡ declared_size content) × (declaration_limit < len)
+IsWide records index len = (content : ChannelDef) × IsChannelOf records index content × (len ≡ declared_size content)
+    × (declaration_limit < len)
 
 -- no id was left for that message's channel
 abbrev pub LacksId : List Top → PassState → ℕ → CallRefused → Type 0
-LacksId records pass index refusal = (content : ChannelDef) × IsChannelOf records index content × Has pass.lacks (content, refusal)
+LacksId records pass index refusal =
+    (content : ChannelDef) × IsChannelOf records index content × Has pass.lacks (content, refusal)
 
 -- The last of the handled messages was refused since the intake had ended.
 pub record LastFindsEnd (handled : ℕ) (pass : PassState) (index at : ℕ) (end : End) : Type 0 where
@@ -126,14 +128,17 @@ pub record LastFindsEnd (handled : ℕ) (pass : PassState) (index at : ℕ) (end
 
 -- what the cause of a refusal says of the message of that index, of its channel and of the pass
 abbrev pub CauseFits : List Top → ℕ → PassState → ℕ → CallRefused → Type 0
-CauseFits records handled pass index (refusing.Full held from to) = Has pass.fulls (filled held from to) × (pass.limit ≤ held) × (from ≤ to)
-CauseFits records handled pass index (refusing.TooLarge len) = HasTooMuchData records index len ⊎ IsWide records index len
+CauseFits records handled pass index (refusing.Full held from to) =
+    Has pass.fulls (filled held from to) × (pass.limit ≤ held) × (from ≤ to)
+CauseFits records handled pass index (refusing.TooLarge len) =
+    HasTooMuchData records index len ⊎ IsWide records index len
 CauseFits records handled pass index (refusing.Closed at) = LastFindsEnd handled pass index at ends.Closed
 CauseFits records handled pass index (refusing.Stopped at stop) = LastFindsEnd handled pass index at (ends.Stopped stop)
 CauseFits records handled pass index refusing.UnknownChannel = ⊥
 CauseFits records handled pass index refusing.TooManySchemas = LacksId records pass index refusing.TooManySchemas
 CauseFits records handled pass index refusing.TooManyChannels = LacksId records pass index refusing.TooManyChannels
-CauseFits records handled pass index (refusing.TooManyRecords count) = (record_count_limit ≤ count) × FoundAtLeast pass count
+CauseFits records handled pass index (refusing.TooManyRecords count) =
+    (record_count_limit ≤ count) × FoundAtLeast pass count
 CauseFits records handled pass index refusing.Memory = Unit {0}
 
 -- a declaration for that message's channel was made at the message or an earlier one
@@ -147,12 +152,14 @@ pub record IsDeclared (records : List Top) (declared : List DeclaredAt) (index :
 
 -- no declaration for that message's channel was made at the message or an earlier one
 abbrev pub IsUndeclared : List Top → List DeclaredAt → ℕ → Type 0
-IsUndeclared records declared index = (source : ℕ) (d : DeclaredAt) → IsOn records index source → Has declared d → IsOn records d.index source → index < d.index
+IsUndeclared records declared index = (source : ℕ) (d : DeclaredAt) → IsOn records index source → Has declared d
+    → IsOn records d.index source → index < d.index
 
 -- A message that was refused as too large was declared a channel for, unless that is too large itself. Memory lacks only for
 -- declaring a channel.
 pub record IsTried (records : List Top) (declared : List DeclaredAt) (r : Refused) : Type 0 where
-  pub large : (len : ℕ) → r.cause ≡ refusing.TooLarge len → IsWide records r.index len ⊎ IsDeclared records declared r.index
+  pub large : (len : ℕ) → r.cause ≡ refusing.TooLarge len
+      → IsWide records r.index len ⊎ IsDeclared records declared r.index
   pub lacking : r.cause ≡ refusing.Memory → IsUndeclared records declared r.index
 
 -- where the buffer was full, if that is the cause
@@ -216,7 +223,8 @@ pub record ListsFit (records : List Top) (handled bound : ℕ) (lists : ReportLi
   pub declares : Each (DeclarationAdds records pass) lists.declared
   pub refuses : Each (λ r. CauseFits records handled pass r.index r.cause) lists.refused
   -- a channel of the feed is declared once
-  pub once : (j k : ℕ) (d e : DeclaredAt) (source : ℕ) → At lists.declared j d → At lists.declared k e → IsOn records d.index source → IsOn records e.index source → j ≡ k
+  pub once : (j k : ℕ) (d e : DeclaredAt) (source : ℕ) → At lists.declared j d → At lists.declared k e
+      → IsOn records d.index source → IsOn records e.index source → j ≡ k
   -- each place that the pass got is given; it got each once
   pub given : Each (λ pair. IsGiven lists pair.0) pass.own
   pub own_rise : AllPairs (λ p q. p.0 < q.0) pass.own
@@ -249,7 +257,8 @@ pub record ListsFit (records : List Top) (handled bound : ℕ) (lists : ReportLi
   pub refused_below : Each (λ r. r.index < handled) lists.refused
   pub declared_below : Each (λ d. d.index < bound) lists.declared
   -- and none both
-  pub apart : (j k : ℕ) (a : Accepted) (r : Refused) → At lists.accepted j a → At lists.refused k r → a.index ≡ r.index → ⊥
+  pub apart : (j k : ℕ) (a : Accepted) (r : Refused) → At lists.accepted j a → At lists.refused k r → a.index ≡ r.index
+      → ⊥
 
 -- the same, of a lane that has no message at hand
 abbrev pub LaneFits : List Top → ℕ → ReportLists → PassState → Type 0

@@ -51,4 +51,5 @@ full_at found = record { from = found.taken; to = found.count; held = found.held
 abbrev pub AreAdded : ChannelDef → ℕ → List Rec → Type 0
 AreAdded d channel records = (records ≡ [])
     ⊎ (((schema : ℕ) × (records ≡ channel_of channel (fields_with d schema) ∷ []))
-    ⊎ ((schema : ℕ) × (s : _) × (d.schema ≡ Some s) × (records ≡ schema_of schema (fields_of_schema s) ∷ channel_of channel (fields_with d schema) ∷ [])))
+    ⊎ ((schema : ℕ) × (s : _) × (d.schema ≡ Some s)
+    × (records ≡ schema_of schema (fields_of_schema s) ∷ channel_of channel (fields_with d schema) ∷ [])))

@@ -53,7 +53,8 @@ abbrev pub with_reason : PassState → CallRefused → PassState
 with_reason before reason = record before { reasons = before.reasons ++ reason ∷ [] }
 
 abbrev pub with_full : PassState → Found → PassState
-with_full before found = record before { fulls = before.fulls ++ full_at found ∷ []; reasons = before.reasons ++ refused_full (full_at found) ∷ []; found = Some found }
+with_full before found = record before
+    { fulls = before.fulls ++ full_at found ∷ []; reasons = before.reasons ++ refused_full (full_at found) ∷ []; found = Some found }
 
 -- ---- publishing
 
@@ -61,7 +62,8 @@ abbrev pub message_record : NewMessage → Rec
 message_record m = message_of m.channel (fields_of_message m)
 
 abbrev pub with_published : PassState → Found → NewMessage → PassState
-with_published before found m = record before { own = before.own ++ (found.count, message_record m) ∷ []; found = Some found }
+with_published before found m =
+    record before { own = before.own ++ (found.count, message_record m) ∷ []; found = Some found }
 
 -- the intake gave that id to a channel
 abbrev pub IsGivenChannel : Found → ℕ → Type 0
@@ -86,17 +88,23 @@ FitsDataLimit m = length m.payload.now ≤ data_limit
 -- A message was accepted at a place, or refused for the first reason that held of how the intake was found. A message of too
 -- much data is refused without a look at the intake. No id and no memory lacks for one.
 abbrev pub PublishedBy : PassState → PassState → NewMessage → Result ℕ CallRefused → Type 0
-PublishedBy before after m (Ok place) = (found : Found) × FitsDataLimit m × MayTakeMessage before found m.channel × (place ≡ found.count) × (after ≡ with_published before found m)
-PublishedBy before after m (Err (refusing.TooLarge len)) = (len ≡ length m.payload.now) × (data_limit < len) × (after ≡ with_reason before (refusing.TooLarge len))
-PublishedBy before after m (Err (refusing.Closed at)) = (found : Found) × FitsDataLimit m × Finds before found × (found.end ≡ Some Closed) × (at ≡ found.count)
-    × (after ≡ with_refused before found (refusing.Closed at))
-PublishedBy before after m (Err (refusing.Stopped at stop)) = (found : Found) × FitsDataLimit m × Finds before found × (found.end ≡ Some (Stopped stop)) × (at ≡ found.count)
+PublishedBy before after m (Ok place) = (found : Found) × FitsDataLimit m × MayTakeMessage before found m.channel
+    × (place ≡ found.count) × (after ≡ with_published before found m)
+PublishedBy before after m (Err (refusing.TooLarge len)) =
+    (len ≡ length m.payload.now) × (data_limit < len) × (after ≡ with_reason before (refusing.TooLarge len))
+PublishedBy before after m (Err (refusing.Closed at)) = (found : Found) × FitsDataLimit m × Finds before found
+    × (found.end ≡ Some Closed) × (at ≡ found.count) × (after ≡ with_refused before found (refusing.Closed at))
+PublishedBy before after m (Err (refusing.Stopped at stop)) = (found : Found) × FitsDataLimit m × Finds before found
+    × (found.end ≡ Some (Stopped stop)) × (at ≡ found.count)
     × (after ≡ with_refused before found (refusing.Stopped at stop))
-PublishedBy before after m (Err refusing.UnknownChannel) = (found : Found) × FitsDataLimit m × Finds before found × (found.end ≡ None)
-    × ((m.channel ≡ 0) ⊎ (found.channels < m.channel)) × (after ≡ with_refused before found refusing.UnknownChannel)
-PublishedBy before after m (Err (refusing.TooManyRecords count)) = (found : Found) × FitsDataLimit m × Finds before found × (found.end ≡ None) × IsGivenChannel found m.channel
-    × (count ≡ found.count) × (record_count_limit ≤ count) × (after ≡ with_refused before found (refusing.TooManyRecords count))
-PublishedBy before after m (Err (refusing.Full held from to)) = (found : Found) × FitsDataLimit m × Finds before found × (found.end ≡ None) × IsGivenChannel found m.channel × (found.count < record_count_limit)
+PublishedBy before after m (Err refusing.UnknownChannel) = (found : Found) × FitsDataLimit m × Finds before found
+    × (found.end ≡ None) × ((m.channel ≡ 0) ⊎ (found.channels < m.channel))
+    × (after ≡ with_refused before found refusing.UnknownChannel)
+PublishedBy before after m (Err (refusing.TooManyRecords count)) = (found : Found) × FitsDataLimit m
+    × Finds before found × (found.end ≡ None) × IsGivenChannel found m.channel × (count ≡ found.count)
+    × (record_count_limit ≤ count) × (after ≡ with_refused before found (refusing.TooManyRecords count))
+PublishedBy before after m (Err (refusing.Full held from to)) = (found : Found) × FitsDataLimit m × Finds before found
+    × (found.end ≡ None) × IsGivenChannel found m.channel × (found.count < record_count_limit)
     × (filled held from to ≡ full_at found) × (before.limit ≤ held) × (after ≡ with_full before found)
 PublishedBy before after m (Err refusing.TooManySchemas) = ⊥
 PublishedBy before after m (Err refusing.TooManyChannels) = ⊥
@@ -105,10 +113,12 @@ PublishedBy before after m (Err refusing.Memory) = ⊥
 -- ---- declaring
 
 abbrev pub with_declared : PassState → Found → ChannelDef → ℕ → List Rec → PassState
-with_declared before found d channel records = record before { own = before.own ++ with_places found.count records; named = before.named ++ (channel, d) ∷ []; found = Some found }
+with_declared before found d channel records = record before
+    { own = before.own ++ with_places found.count records; named = before.named ++ (channel, d) ∷ []; found = Some found }
 
 abbrev pub with_lack : PassState → Found → ChannelDef → CallRefused → PassState
-with_lack before found d refusal = record before { lacks = before.lacks ++ (d, refusal) ∷ []; reasons = before.reasons ++ refusal ∷ []; found = Some found }
+with_lack before found d refusal = record before
+    { lacks = before.lacks ++ (d, refusal) ∷ []; reasons = before.reasons ++ refusal ∷ []; found = Some found }
 
 -- the records of a declaration are no longer than they may be
 abbrev pub IsNarrow : ChannelDef → Type 0
@@ -128,28 +138,38 @@ pub record IsNextId (before : PassState) (found : Found) (channel : ℕ) (record
 
 -- a channel whose content had an id gets that and adds no record
 abbrev pub GetsId : PassState → Found → ℕ → List Rec → Type 0
-GetsId before found channel records = ((records ≡ []) × IsGivenChannel found channel) ⊎ IsNextId before found channel records
+GetsId before found channel records =
+    ((records ≡ []) × IsGivenChannel found channel) ⊎ IsNextId before found channel records
 
 -- A channel got an id and its records their places, or the declaration was refused for the first reason that held of how the
 -- intake was found. Records that are too long are refused without a look at the intake. No other reason than an end refuses a
 -- content for which the pass has an id; memory may lack only where none of the others is seen. Whether an id is needed for its
 -- schema isn't seen here, since another may have declared that.
 abbrev pub DeclaredInto : PassState → PassState → ChannelDef → Result Declared CallRefused → Type 0
-DeclaredInto before after d (Ok given) = (found : Found) × (records : List Rec) × IsNarrow d × Finds before found × (found.end ≡ None) × (given.first ≡ found.count)
-    × (given.count ≡ length records) × AreAdded d given.channel records × GetsId before found given.channel records × (after ≡ with_declared before found d given.channel records)
-DeclaredInto before after d (Err (refusing.TooLarge len)) = (len ≡ declared_size d) × (declaration_limit < len) × (after ≡ with_reason before (refusing.TooLarge len))
-DeclaredInto before after d (Err (refusing.Closed at)) = (found : Found) × IsNarrow d × Finds before found × (found.end ≡ Some Closed) × (at ≡ found.count)
-    × (after ≡ with_refused before found (refusing.Closed at))
-DeclaredInto before after d (Err (refusing.Stopped at stop)) = (found : Found) × IsNarrow d × Finds before found × (found.end ≡ Some (Stopped stop)) × (at ≡ found.count)
+DeclaredInto before after d (Ok given) = (found : Found) × (records : List Rec) × IsNarrow d × Finds before found
+    × (found.end ≡ None) × (given.first ≡ found.count) × (given.count ≡ length records)
+    × AreAdded d given.channel records × GetsId before found given.channel records
+    × (after ≡ with_declared before found d given.channel records)
+DeclaredInto before after d (Err (refusing.TooLarge len)) =
+    (len ≡ declared_size d) × (declaration_limit < len) × (after ≡ with_reason before (refusing.TooLarge len))
+DeclaredInto before after d (Err (refusing.Closed at)) = (found : Found) × IsNarrow d × Finds before found
+    × (found.end ≡ Some Closed) × (at ≡ found.count) × (after ≡ with_refused before found (refusing.Closed at))
+DeclaredInto before after d (Err (refusing.Stopped at stop)) = (found : Found) × IsNarrow d × Finds before found
+    × (found.end ≡ Some (Stopped stop)) × (at ≡ found.count)
     × (after ≡ with_refused before found (refusing.Stopped at stop))
 DeclaredInto before after d (Err refusing.UnknownChannel) = ⊥
-DeclaredInto before after d (Err (refusing.TooManyRecords count)) = (found : Found) × IsNarrow d × Finds before found × (found.end ≡ None) × IsUnnamed before d
-    × (count ≡ found.count) × (record_count_limit ≤ count) × (after ≡ with_refused before found (refusing.TooManyRecords count))
-DeclaredInto before after d (Err (refusing.Full held from to)) = (found : Found) × IsNarrow d × Finds before found × (found.end ≡ None) × IsUnnamed before d × (found.count < record_count_limit)
+DeclaredInto before after d (Err (refusing.TooManyRecords count)) = (found : Found) × IsNarrow d × Finds before found
+    × (found.end ≡ None) × IsUnnamed before d × (count ≡ found.count) × (record_count_limit ≤ count)
+    × (after ≡ with_refused before found (refusing.TooManyRecords count))
+DeclaredInto before after d (Err (refusing.Full held from to)) = (found : Found) × IsNarrow d × Finds before found
+    × (found.end ≡ None) × IsUnnamed before d × (found.count < record_count_limit)
     × (filled held from to ≡ full_at found) × (before.limit ≤ held) × (after ≡ with_full before found)
-DeclaredInto before after d (Err refusing.TooManySchemas) = (found : Found) × IsNarrow d × Finds before found × (found.end ≡ None) × IsUnnamed before d × HasPlace before found
-    × (found.schemas ≡ id_limit) × (after ≡ with_lack before found d refusing.TooManySchemas)
-DeclaredInto before after d (Err refusing.TooManyChannels) = (found : Found) × IsNarrow d × Finds before found × (found.end ≡ None) × IsUnnamed before d × HasPlace before found
-    × (found.channels ≡ id_limit) × (after ≡ with_lack before found d refusing.TooManyChannels)
-DeclaredInto before after d (Err refusing.Memory) = (found : Found) × IsNarrow d × Finds before found × (found.end ≡ None) × IsUnnamed before d × HasPlace before found
-    × (found.channels < id_limit) × (after ≡ with_found before found)
+DeclaredInto before after d (Err refusing.TooManySchemas) = (found : Found) × IsNarrow d × Finds before found
+    × (found.end ≡ None) × IsUnnamed before d × HasPlace before found × (found.schemas ≡ id_limit)
+    × (after ≡ with_lack before found d refusing.TooManySchemas)
+DeclaredInto before after d (Err refusing.TooManyChannels) = (found : Found) × IsNarrow d × Finds before found
+    × (found.end ≡ None) × IsUnnamed before d × HasPlace before found × (found.channels ≡ id_limit)
+    × (after ≡ with_lack before found d refusing.TooManyChannels)
+DeclaredInto before after d (Err refusing.Memory) = (found : Found) × IsNarrow d × Finds before found
+    × (found.end ≡ None) × IsUnnamed before d × HasPlace before found × (found.channels < id_limit)
+    × (after ≡ with_found before found)

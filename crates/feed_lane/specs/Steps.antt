@@ -72,7 +72,8 @@ pub record IdsStand (records : List Top) (declared : List DeclaredAt) (ids : Lan
 abbrev pub lists_of : Lane → ReportLists
 lists_of lane = record { accepted = lane.accepted.items; declared = lane.declared.items; refused = lane.refused.items }
 
-pub record ListsStand (records : List Top) (handled bound : ℕ) (ids : LaneIds) (lists : ReportLists) (pass : PassState) : Type 0 where
+pub record ListsStand (records : List Top) (handled bound : ℕ) (ids : LaneIds) (lists : ReportLists) (pass : PassState)
+    : Type 0 where
   pub fits : ListsFit records handled bound lists pass
   pub ids_stand : IdsStand records lists.declared ids
   pub going : Each (λ r. goes_on r.cause ≡ true) lists.refused
@@ -101,7 +102,8 @@ abbrev pub AtHand : List Top → ℕ → List ℕ → Type 0
 AtHand records handled content = At (messages records) handled (top message_opcode content)
 
 -- what a refused call leaves to be listed, for that cause
-pub record RefusalLeaves (records : List Top) (handled : ℕ) (before after : PassState) (cause : CallRefused) : Type 0 where
+pub record RefusalLeaves (records : List Top) (handled : ℕ) (before after : PassState) (cause : CallRefused)
+    : Type 0 where
   pub extends : Extends before after
   pub own : after.own ≡ before.own
   pub named : after.named ≡ before.named
@@ -116,7 +118,8 @@ pub record RefusalLeaves (records : List Top) (handled : ℕ) (before after : Pa
   pub is_open : goes_on cause ≡ true → IsOpen before → IsOpen after
 
 -- the lane stood before the call, with declarations up to the message at hand
-pub record RefusalIsDue (lane : Lane) (records : List Top) (handled : ℕ) (after : PassState) (cause : CallRefused) : Type 0 where
+pub record RefusalIsDue (lane : Lane) (records : List Top) (handled : ℕ) (after : PassState) (cause : CallRefused)
+    : Type 0 where
   pub before : PassState
   pub stands : ListsStand records handled (handled + 1) lane.ids (lists_of lane) before
   pub refusal : RefusalLeaves records handled before after cause
@@ -125,7 +128,8 @@ pub record RefusalIsDue (lane : Lane) (records : List Top) (handled : ℕ) (afte
 
 -- what the channel of the message at hand came to: an id, or the message is refused
 abbrev pub ChannelFound : Lane → List Top → ℕ → ℕ → PassState → Result ℕ CallRefused → Type 0
-ChannelFound lane records handled source pass (Ok id) = DeclaredWithId records lane.declared.items source id × ListsStand records handled (handled + 1) lane.ids (lists_of lane) pass
+ChannelFound lane records handled source pass (Ok id) = DeclaredWithId records lane.declared.items source id
+    × ListsStand records handled (handled + 1) lane.ids (lists_of lane) pass
 ChannelFound lane records handled source pass (Err cause) = RefusalIsDue lane records handled pass cause
 
 -- the last message that was handled was refused for an end of the intake, and ends the list
@@ -144,10 +148,11 @@ pub record IntakeUnended (lists : ReportLists) (pass : PassState) : Type 0 where
 
 -- a lane that is over, for want of room or since the intake had ended
 abbrev pub LaneOver : Lane → List Top → ℕ → PassState → Over → Type 0
-LaneOver lane records handled pass overs.Memory = LaneFits records handled (lists_of lane) pass × (handled < length (messages records))
-    × ListsTell records (lists_of lane) pass × IntakeUnended (lists_of lane) pass
-LaneOver lane records handled pass overs.Ended = LaneFits records (handled + 1) (lists_of lane) pass × LastEnds (handled + 1) lane.refused.items
-    × ListsTell records (lists_of lane) pass
+LaneOver lane records handled pass overs.Memory = LaneFits records handled (lists_of lane) pass
+    × (handled < length (messages records)) × ListsTell records (lists_of lane) pass
+    × IntakeUnended (lists_of lane) pass
+LaneOver lane records handled pass overs.Ended = LaneFits records (handled + 1) (lists_of lane) pass
+    × LastEnds (handled + 1) lane.refused.items × ListsTell records (lists_of lane) pass
 
 -- what the message at hand came to
 abbrev pub MessageTaken : Lane → List Top → ℕ → PassState → Result Unit Over → Type 0
@@ -156,7 +161,8 @@ MessageTaken lane records handled pass (Err over) = LaneOver lane records handle
 
 -- what a Message shows but for its channel
 abbrev pub fields_of : Message → MessageFields
-fields_of m = record { sequence = m.sequence; log_time = m.log_time; publish_time = m.publish_time; payload = m.payload.now }
+fields_of m =
+    record { sequence = m.sequence; log_time = m.log_time; publish_time = m.publish_time; payload = m.payload.now }
 
 -- ---- a lane's own steps
 
@@ -184,8 +190,10 @@ pub record MessagesWait (records : List Top) (handled : ℕ) (more : List Top) :
 
 -- what a record comes to, before which so many messages were handled and behind which these still wait
 abbrev pub RecordHandled : Lane → List Top → ℕ → List Top → PassState → Result Unit Over → Type 0
-RecordHandled lane records before more pass (Ok it) = (handled : ℕ) × (before ≤ handled) × LaneStands lane records handled pass × MessagesWait records handled more
-RecordHandled lane records before more pass (Err over) = (handled : ℕ) × (before ≤ handled) × LaneOver lane records handled pass over
+RecordHandled lane records before more pass (Ok it) =
+    (handled : ℕ) × (before ≤ handled) × LaneStands lane records handled pass × MessagesWait records handled more
+RecordHandled lane records before more pass (Err over) =
+    (handled : ℕ) × (before ≤ handled) × LaneOver lane records handled pass over
 
 -- how many of the records are passed over
 abbrev pub passed_among : List Top → ℕ

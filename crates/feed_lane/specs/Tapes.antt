@@ -20,7 +20,8 @@ end_when false = None
 
 -- as it stands with so many records and channels, ended or not
 abbrev pub found_now : ℕ → ℕ → Bool → Found
-found_now count channels ended = record { taken = 0; count = count; held = 0; schemas = 0; channels = channels; end = end_when ended }
+found_now count channels ended =
+    record { taken = 0; count = count; held = 0; schemas = 0; channels = channels; end = end_when ended }
 
 -- the same, if it was looked at
 abbrev pub found_when : Bool → ℕ → ℕ → Bool → Option Found
@@ -28,4 +29,5 @@ found_when true count channels ended = Some (found_now count channels ended)
 found_when false count channels ended = None
 
 abbrev pub tape_pass : List Rec → List ChannelDef → List CallRefused → Option Found → PassState
-tape_pass records channels reasons found = record { own = with_places 0 records; named = numbered_from 1 channels; fulls = []; lacks = []; reasons = reasons; found = found; limit = 1 }
+tape_pass records channels reasons found = record
+    { own = with_places 0 records; named = numbered_from 1 channels; fulls = []; lacks = []; reasons = reasons; found = found; limit = 1 }

@@ -22,7 +22,8 @@ use std::alloc::Global;
 
 // A copy of a schema.
 fn copied(alloc: Global, schema: &Schema<'_>) -> Result<Option<SchemaDef>, Memory>
-    ensures { IfOk result (λ s. s ≡ Some (definition_of schema.now.name.now schema.now.encoding.now schema.now.payload.now)) }
+    ensures { IfOk result (λ s. s
+        ≡ Some (definition_of schema.now.name.now schema.now.encoding.now schema.now.payload.now)) }
 {
     let Ok(name) = Text::copied(alloc, schema.name) else {
         return Err(Memory);
@@ -49,7 +50,8 @@ fn schema_of(
     kept: KeptSchema,
 ) -> Result<Option<SchemaDef>, Memory>
     requires { SchemaFits kept.schema }
-    ensures shows { IfOk result (λ s. (records : List Top) → TablesOf records tables.now → KeptStands records kept → SchemaShown records id s) }
+    ensures shows { IfOk result (λ s. (records : List Top) → TablesOf records tables.now → KeptStands records kept
+        → SchemaShown records id s) }
     ensures same { id ≡ kept.id → IfOk result (λ s. s ≡ kept.schema) }
     ensures fits { IfOk result SchemaFits }
 {
@@ -74,7 +76,8 @@ fn schema_of(
 
 /// The channel of that id with its schema, its metadata in order. The channel of a message is always there.
 pub fn definition(alloc: Global, tables: &Tables, source: u16) -> Result<ChannelDef, Memory>
-    ensures describes { IfOk result (λ d. (records : List Top) → TablesOf records tables.now → DeclaresContent records source d) }
+    ensures describes { IfOk result (λ d. (records : List Top) → TablesOf records tables.now
+        → DeclaresContent records source d) }
     ensures fits { IfOk result DefFits }
 {
     match definition_over(alloc, tables, source, no_schema()) {
@@ -130,8 +133,10 @@ pub(crate) fn definition_over(
     kept: KeptSchema,
 ) -> Result<Described, Memory>
     requires { SchemaFits kept.schema }
-    ensures describes { IfOk result (λ d. (records : List Top) → TablesOf records tables.now → KeptStands records kept → DeclaresContent records source d.channel) }
-    ensures shows { IfOk result (λ d. (records : List Top) → TablesOf records tables.now → KeptStands records kept → SchemaShown records d.schema_id d.channel.schema) }
+    ensures describes { IfOk result (λ d. (records : List Top) → TablesOf records tables.now → KeptStands records kept
+        → DeclaresContent records source d.channel) }
+    ensures shows { IfOk result (λ d. (records : List Top) → TablesOf records tables.now → KeptStands records kept
+        → SchemaShown records d.schema_id d.channel.schema) }
     ensures known { IfOk result (λ d. d.known ≡ true → (kept.known ≡ true) × (d.channel.schema ≡ kept.schema)) }
     ensures fits { IfOk result (λ d. DefFits d.channel) }
 {
@@ -172,7 +177,8 @@ pub(crate) fn definition_over(
 // How many bytes a Schema has.
 fn schema_bytes(schema: &Schema<'_>) -> u64
     requires { SchemaFits (Some (definition_of schema.now.name.now schema.now.encoding.now schema.now.payload.now)) }
-    ensures size { result ≡ schema_size (Some (definition_of schema.now.name.now schema.now.encoding.now schema.now.payload.now)) }
+    ensures size { result
+        ≡ schema_size (Some (definition_of schema.now.name.now schema.now.encoding.now schema.now.payload.now)) }
     ensures small { result ≤ 12884901911 }
 {
     let texts = schema.name.len() + schema.encoding.len();
@@ -181,7 +187,8 @@ fn schema_bytes(schema: &Schema<'_>) -> u64
 
 // How many bytes the Schema of that id has, and none for 0. A channel's schema is always there.
 fn schema_len(tables: &Tables, id: u16) -> Option<u64>
-    ensures size { IfSome result (λ len. (records : List Top) → TablesOf records tables.now → IsSchemaLength records id len) }
+    ensures size { IfSome result (λ len. (records : List Top) → TablesOf records tables.now
+        → IsSchemaLength records id len) }
     ensures small { IfSome result (λ len. len ≤ 12884901911) }
 {
     if id == 0 {
@@ -211,7 +218,8 @@ fn channel_bytes(channel: &Channel<'_>) -> u64
 /// How many bytes the records of the channel of that id have, where that is more than those of a declaration may have.
 /// Nothing is copied for that.
 pub(crate) fn excess(tables: &Tables, source: u16) -> Option<u64>
-    ensures size { IfSome result (λ len. (records : List Top) → TablesOf records tables.now → IsLength records source len) }
+    ensures size { IfSome result (λ len. (records : List Top) → TablesOf records tables.now
+        → IsLength records source len) }
     ensures over { IfSome result (λ len. declaration_limit < len) }
 {
     let Some(content) = tables.channels.find(source) else {

@@ -31,7 +31,9 @@ fn over_end(over: Over) -> FeedEnd
 impl Lane {
     // The report of the lane, which came to this end.
     fn report(self, end: FeedEnd) -> FeedReport
-        ensures { result ≡ record { accepted = self.accepted; declared = self.declared; refused = self.refused; passed = self.passed; end = end } }
+        ensures { result
+            ≡ record
+            { accepted = self.accepted; declared = self.declared; refused = self.refused; passed = self.passed; end = end } }
     {
         let Lane {
             ids: _,
@@ -79,7 +81,8 @@ pub fn publish_feed<S: Source, P: Pass>(
 ) -> FeedReport
     requires { (limit : ℕ) × P.since pass.old pass.old (no_calls limit) }
     ensures reports { (limit : ℕ) → P.since pass.old pass.old (no_calls limit)
-        → (shown : PassState) × P.since pass.old pass.new shown × (shown.limit ≡ limit) × Reports (S.state source.old) (S.state source.new) shown result }
+        → (shown : PassState) × P.since pass.old pass.new shown × (shown.limit ≡ limit)
+        × Reports (S.state source.old) (S.state source.new) shown result }
     ensures stays { S.stays source.old source.new }
     ensures kept { ListsMessages result listed }
 {

@@ -123,7 +123,8 @@ impl Ids {
     pub(crate) fn keep_wide(&mut self, source: u16, len: u64)
         ensures given { self.new.given ≡ self.old.given }
         ensures kept { self.new.kept ≡ self.old.kept }
-        ensures wide { (other n : ℕ) → At self.new.wide other n → declaration_limit < n → ((other ≡ source) × (n ≡ len)) ⊎ At self.old.wide other n }
+        ensures wide { (other n : ℕ) → At self.new.wide other n → declaration_limit < n
+            → ((other ≡ source) × (n ≡ len)) ⊎ At self.old.wide other n }
     {
         if self.wide.len() <= source as usize {
             match self.wide.resize(CHANNEL_IDS, 0) {

@@ -148,8 +148,8 @@ impl Lane {
     // Lists the message at hand as refused. That the intake has ended ends the lane.
     fn refuse(&mut self, cause: CallRefused) -> Result<(), Over>
         requires { length self.old.refused.items + 1 ≤ self.old.refused.capacity }
-        ensures taken { (records : List Top) (handled : ℕ) (pass : PassState) → RefusalIsDue self.old records handled pass cause
-            → MessageTaken self.new records handled pass result }
+        ensures taken { (records : List Top) (handled : ℕ) (pass : PassState)
+            → RefusalIsDue self.old records handled pass cause → MessageTaken self.new records handled pass result }
         ensures ids { self.new.ids ≡ self.old.ids }
         ensures passed { self.new.passed ≡ self.old.passed }
         ensures kept { KeepsAs self.old self.new }
@@ -167,10 +167,11 @@ impl Lane {
     fn publish<P: Pass>(&mut self, id: u16, m: &Message<'_>, pass: &mut P) -> Result<(), Over>
         requires accepted { length self.old.accepted.items + 1 ≤ self.old.accepted.capacity }
         requires refused { length self.old.refused.items + 1 ≤ self.old.refused.capacity }
-        ensures taken { (begun : P) (before : PassState) → P.since begun pass.old before → ThenShows (P.since begun pass.new) before (λ after.
-            (records : List Top) (handled source : ℕ) (t : Top) → ListsStand records handled (handled + 1) self.old.ids (lists_of self.old) before
-            → DeclaredWithId records self.old.declared.items source id → At (messages records) handled t → IsMessage t source (fields_of m.now)
-            → MessageTaken self.new records handled after result) }
+        ensures taken { (begun : P) (before : PassState) → P.since begun pass.old before
+            → ThenShows (P.since begun pass.new) before (λ after. (records : List Top) (handled source : ℕ) (t : Top)
+            → ListsStand records handled (handled + 1) self.old.ids (lists_of self.old) before
+            → DeclaredWithId records self.old.declared.items source id → At (messages records) handled t
+            → IsMessage t source (fields_of m.now) → MessageTaken self.new records handled after result) }
         ensures knows { IsKnown (P.knows pass.old) self.old.ids.kept → IsKnown (P.knows pass.new) self.new.ids.kept }
         ensures passed { self.new.passed ≡ self.old.passed }
         ensures kept { KeepsAs self.old self.new }
@@ -195,11 +196,13 @@ impl Lane {
     // How many bytes the records of the channel have, where they are too many. They are measured once, where there is memory to
     // keep that.
     fn excess_of(&mut self, tables: &Tables, source: u16) -> Option<u64>
-        ensures stands { (records : List Top) (declared : List DeclaredAt) → IdsStand records declared self.old.ids → TablesOf records tables.now → IdsStand records declared self.new.ids }
+        ensures stands { (records : List Top) (declared : List DeclaredAt) → IdsStand records declared self.old.ids
+            → TablesOf records tables.now → IdsStand records declared self.new.ids }
         ensures given { self.new.ids.given ≡ self.old.ids.given }
         ensures kept { self.new.ids.kept ≡ self.old.ids.kept }
         ensures rest { self.new ≡ record self.old { ids = self.new.ids } }
-        ensures size { IfSome result (λ len. (records : List Top) (declared : List DeclaredAt) → IdsStand records declared self.old.ids → TablesOf records tables.now → IsLength records source len) }
+        ensures size { IfSome result (λ len. (records : List Top) (declared : List DeclaredAt)
+            → IdsStand records declared self.old.ids → TablesOf records tables.now → IsLength records source len) }
         ensures over { IfSome result (λ len. declaration_limit < len) }
     {
         match self.ids.wide(source) {
@@ -226,9 +229,10 @@ impl Lane {
         requires room { vec_len self.old.declared + 1 ≤ vec_capacity self.old.declared }
         requires knows { IsKnown (P.knows pass.old) self.old.ids.kept }
         ensures knows { IsKnown (P.knows pass.new) self.new.ids.kept }
-        ensures found { (begun : P) (before : PassState) → P.since begun pass.old before → ThenShows (P.since begun pass.new) before (λ after.
-            (records : List Top) (handled : ℕ) → LaneStands self.old records handled before → AreKnown records tables.now
-            → IsOn records handled source → At self.old.ids.given source 0 → ChannelFound self.new records handled source after result) }
+        ensures found { (begun : P) (before : PassState) → P.since begun pass.old before
+            → ThenShows (P.since begun pass.new) before (λ after. (records : List Top) (handled : ℕ)
+            → LaneStands self.old records handled before → AreKnown records tables.now → IsOn records handled source
+            → At self.old.ids.given source 0 → ChannelFound self.new records handled source after result) }
         ensures passed { self.new.passed ≡ self.old.passed }
         ensures accepted { self.new.accepted ≡ self.old.accepted }
         ensures refused { self.new.refused ≡ self.old.refused }
@@ -263,9 +267,11 @@ impl Lane {
         requires fits { DefFits channel.now }
         requires known { known ≡ true → P.knows pass.old channel.now.schema }
         ensures knows { KnownBehind known result → P.knows pass.new channel.now.schema }
-        ensures found { (begun : P) (before : PassState) → P.since begun pass.old before → ThenShows (P.since begun pass.new) before (λ after.
-            (records : List Top) (handled : ℕ) → LaneStands self.old records handled before → DeclaresContent records source channel.now
-            → IsOn records handled source → At self.old.ids.given source 0 → ChannelFound self.new records handled source after result) }
+        ensures found { (begun : P) (before : PassState) → P.since begun pass.old before
+            → ThenShows (P.since begun pass.new) before (λ after. (records : List Top) (handled : ℕ)
+            → LaneStands self.old records handled before → DeclaresContent records source channel.now
+            → IsOn records handled source → At self.old.ids.given source 0
+            → ChannelFound self.new records handled source after result) }
         ensures passed { self.new.passed ≡ self.old.passed }
         ensures accepted { self.new.accepted ≡ self.old.accepted }
         ensures refused { self.new.refused ≡ self.old.refused }
@@ -297,9 +303,10 @@ impl Lane {
         requires room { vec_len self.old.declared + 1 ≤ vec_capacity self.old.declared }
         requires knows { IsKnown (P.knows pass.old) self.old.ids.kept }
         ensures knows { IsKnown (P.knows pass.new) self.new.ids.kept }
-        ensures found { (begun : P) (before : PassState) → P.since begun pass.old before → ThenShows (P.since begun pass.new) before (λ after.
-            (records : List Top) (handled : ℕ) → LaneStands self.old records handled before → AreKnown records tables.now
-            → IsOn records handled source → ChannelFound self.new records handled source after result) }
+        ensures found { (begun : P) (before : PassState) → P.since begun pass.old before
+            → ThenShows (P.since begun pass.new) before (λ after. (records : List Top) (handled : ℕ)
+            → LaneStands self.old records handled before → AreKnown records tables.now → IsOn records handled source
+            → ChannelFound self.new records handled source after result) }
         ensures passed { self.new.passed ≡ self.old.passed }
         ensures accepted { self.new.accepted ≡ self.old.accepted }
         ensures refused { self.new.refused ≡ self.old.refused }
@@ -321,8 +328,9 @@ impl Lane {
     ) -> Result<(), Over>
         requires { IsKnown (P.knows pass.old) self.old.ids.kept }
         ensures knows { IsKnown (P.knows pass.new) self.new.ids.kept }
-        ensures taken { (begun : P) (before : PassState) → P.since begun pass.old before → ThenShows (P.since begun pass.new) before (λ after.
-            (records : List Top) (handled : ℕ) → LaneStands self.old records handled before → AreKnown records tables.now
+        ensures taken { (begun : P) (before : PassState) → P.since begun pass.old before
+            → ThenShows (P.since begun pass.new) before (λ after. (records : List Top) (handled : ℕ)
+            → LaneStands self.old records handled before → AreKnown records tables.now
             → AtHand records handled content.now → MessageTaken self.new records handled after result) }
         ensures passed { self.new.passed ≡ self.old.passed }
         ensures kept { KeepsAs self.old self.new }

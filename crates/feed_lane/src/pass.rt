@@ -42,5 +42,6 @@ pub trait Pass {
         ensures knows { (schema : Option SchemaDef) → knows self.old schema → knows self.new schema };
 
     /// What is refused for its size alone needs no call: the pass shows as well that it was refused so.
-    ghost refuses_size: { (begun now : Self) (before : PassState) (len : ℕ) → declaration_limit < len → since begun now before → since begun now (with_reason before (TooLarge len)) };
+    ghost refuses_size: { (begun now : Self) (before : PassState) (len : ℕ) → declaration_limit < len
+        → since begun now before → since begun now (with_reason before (TooLarge len)) };
 }

@@ -32,7 +32,8 @@ impl Model for Refusals {
 
     ghost view = { λ r. r.list };
 
-    ghost invariant = { λ r. (r.over ≡ list_any (λ x. is_over x.cause) r.list.items) × (r.lacked ≡ list_any (λ x. is_memory x.cause) r.list.items) };
+    ghost invariant = { λ r. (r.over ≡ list_any (λ x. is_over x.cause) r.list.items)
+        × (r.lacked ≡ list_any (λ x. is_memory x.cause) r.list.items) };
 }
 
 // Whether that is a limit of what is recorded.

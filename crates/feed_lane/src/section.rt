@@ -24,9 +24,11 @@ impl Lane {
     ) -> Result<(), Over>
         requires { IsKnown (P.knows pass.old) self.old.ids.kept }
         ensures knows { IsKnown (P.knows pass.new) self.new.ids.kept }
-        ensures taken { (begun : P) (before : PassState) → P.since begun pass.old before → ThenShows (P.since begun pass.new) before (λ after.
-            (records more : List Top) (handled : ℕ) → LaneStands self.old records handled before → AreKnown records tables.now
-            → MessagesWait records handled (top op content.now ∷ more) → RecordHandled self.new records handled more after result) }
+        ensures taken { (begun : P) (before : PassState) → P.since begun pass.old before
+            → ThenShows (P.since begun pass.new) before (λ after. (records more : List Top) (handled : ℕ)
+            → LaneStands self.old records handled before → AreKnown records tables.now
+            → MessagesWait records handled (top op content.now ∷ more)
+            → RecordHandled self.new records handled more after result) }
         ensures passed { Counted self.old.passed self.new.passed (passed_among (top op content.now ∷ [])) result }
         ensures kept { KeepsAs self.old self.new }
     {

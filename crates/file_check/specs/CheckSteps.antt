@@ -33,7 +33,8 @@ checked_front store end = record { left = front_left store.bytes 0 end; faults =
 
 -- where the bytes up to the end have the head of a record at that offset, a length stands in it
 abbrev pub HeadStands : Option (List ℕ) → ℕ → ℕ → Type 0
-HeadStands told end offset = (file : List ℕ) → told ≡ Some file → offset + 9 ≤ end → end ≤ length file → HasLengthAt (take end file) offset
+HeadStands told end offset =
+    (file : List ℕ) → told ≡ Some file → offset + 9 ≤ end → end ≤ length file → HasLengthAt (take end file) offset
 
 -- what is told of a reading that halted there
 abbrev pub TellsFlaw : Option (List ℕ) → ℕ → ℕ → Rule → FailedRule → Type 0
@@ -69,7 +70,8 @@ SectionCause before now (Err refusals.Memory) = now ≡ before
 
 -- of the bytes up to the end each was asked for once at most, and none behind a section that was read
 abbrev pub SectionAsks : StoreState → ℕ → ℕ → Result (Result Section FailedRule) ReadingRefused → Type 0
-SectionAsks old end asked (Ok (Ok section)) = (file : List ℕ) → old.bytes ≡ Some file → end ≤ length file → (section.behind ≤ end) × (asked ≤ old.asked + section.behind)
+SectionAsks old end asked (Ok (Ok section)) = (file : List ℕ) → old.bytes ≡ Some file → end ≤ length file
+    → (section.behind ≤ end) × (asked ≤ old.asked + section.behind)
 SectionAsks old end asked (Ok (Err failed)) = asked ≤ old.asked + end
 SectionAsks old end asked (Err why) = asked ≤ old.asked + end
 
@@ -81,8 +83,9 @@ pub record EndsAtMagic (file : List ℕ) (end : ℕ) : Type 0 where
 
 -- what is told, by a store of these bytes, of a data section that was refused
 abbrev pub TellsSectionRefused : Option (List ℕ) → ℕ → ReadingRefused → Result Verdict ReadingRefused → Type 0
-TellsSectionRefused told end why result = (old : StoreState) (now : SourceState) → old.bytes ≡ told → ReadsSection (checked_front old end) now (Err why)
-    → (file : List ℕ) → told ≡ Some file → EndsAtMagic file end → Checked file result
+TellsSectionRefused told end why result = (old : StoreState) (now : SourceState) → old.bytes ≡ told
+    → ReadsSection (checked_front old end) now (Err why) → (file : List ℕ) → told ≡ Some file → EndsAtMagic file end
+    → Checked file result
 
 -- and its cause: where the reading had failed, the count of the store is told
 abbrev pub RefusedCause : ℕ → ℕ → ReadingRefused → Result Verdict ReadingRefused → Type 0
@@ -100,8 +103,9 @@ pub record IsUnended (file : List ℕ) (len : ℕ) : Type 0 where
 
 -- what is told of it where its data section was refused
 abbrev pub TellsCutSection : Option (List ℕ) → ℕ → ReadingRefused → Result Verdict ReadingRefused → Type 0
-TellsCutSection told len why result = (old : StoreState) (now : SourceState) → old.bytes ≡ told → ReadsSection (checked_front old len) now (Err why)
-    → (file : List ℕ) → told ≡ Some file → IsUnended file len → Checked file result
+TellsCutSection told len why result = (old : StoreState) (now : SourceState) → old.bytes ≡ told
+    → ReadsSection (checked_front old len) now (Err why) → (file : List ℕ) → told ≡ Some file → IsUnended file len
+    → Checked file result
 
 abbrev pub TellsUnended : Option (List ℕ) → ℕ → Result Verdict ReadingRefused → Type 0
 TellsUnended told len result = (file : List ℕ) → told ≡ Some file → IsUnended file len → Checked file result
@@ -120,7 +124,8 @@ pub record IsSectionRead (file : List ℕ) (end : ℕ) (section : Section) : Typ
 
 -- what is told, by a store of these bytes, of a file whose data section was kept so
 abbrev pub TellsJudged : Option (List ℕ) → ℕ → Section → Result Verdict ReadingRefused → Type 0
-TellsJudged told end section result = (file : List ℕ) → told ≡ Some file → EndsAtMagic file end → IsSectionRead file end section → Checked file result
+TellsJudged told end section result =
+    (file : List ℕ) → told ≡ Some file → EndsAtMagic file end → IsSectionRead file end section → Checked file result
 
 -- of a file whose last magic stands at that end
 abbrev pub TellsFile : Option (List ℕ) → ℕ → Result Verdict ReadingRefused → Type 0
@@ -144,8 +149,9 @@ JudgesBehind tops rest (Err why) = IsRefusedBehind (spelled_file tops rest) why
 
 -- a cut file is told so by a store of these bytes, of that length, whose data section was refused
 abbrev pub TellsCutRefusal : Option (List ℕ) → ℕ → ReadingRefused → Result Verdict ReadingRefused → Type 0
-TellsCutRefusal told len why result = (old : StoreState) (now : SourceState) → old.bytes ≡ told → ReadsSection (checked_front old len) now (Err why)
-    → (file : List ℕ) → told ≡ Some file → length file ≡ len → NamesCut file result
+TellsCutRefusal told len why result = (old : StoreState) (now : SourceState) → old.bytes ≡ told
+    → ReadsSection (checked_front old len) now (Err why) → (file : List ℕ) → told ≡ Some file → length file ≡ len
+    → NamesCut file result
 
 -- a cut file is told so by such a store, whatever became of its data section
 abbrev pub TellsCutStore : Option (List ℕ) → ℕ → Result Verdict ReadingRefused → Type 0

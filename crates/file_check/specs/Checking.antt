@@ -19,12 +19,14 @@ CountsSection tops c = CountsAre tops c.messages c.channels c.schemas c.chunks c
 -- what a verdict says of a file
 abbrev pub IsSo : List ℕ → Verdict → Type 0
 IsSo file (verdicts.Indexed counts) = (tops : List Top) × FullyIndexed file tops × CountsSection tops counts
-IsSo file (verdicts.Plain counts) = (tops : List Top) × Valid file tops × (IsFullyIndexed file → ⊥) × CountsSection tops counts
+IsSo file (verdicts.Plain counts) =
+    (tops : List Top) × Valid file tops × (IsFullyIndexed file → ⊥) × CountsSection tops counts
 IsSo file (verdicts.Flawed rule offset) = Flaw file rule offset
 
 -- a reading of the records in front of the last magic halts so
 abbrev pub HaltsBefore : List ℕ → Halt → Type 0
-HaltsBefore file halt = (inner : List ℕ) × (tops : List Top) × (file ≡ inner ++ magic) × Halts reading_limits inner tops halt
+HaltsBefore file halt =
+    (inner : List ℕ) × (tops : List Top) × (file ≡ inner ++ magic) × Halts reading_limits inner tops halt
 
 -- a record in front of the last magic passes a limit of reading there, or one behind the data section that on its content
 abbrev pub MeetsReadingLimit : List ℕ → ℕ → Type 0

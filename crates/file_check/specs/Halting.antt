@@ -10,7 +10,8 @@ failed rule offset = record { rule = rule; offset = offset }
 
 -- Where the first record breaks a rule on ids or on chunks it is no Header; else the rule fails at the record that breaks it.
 abbrev pub failed_at : ℕ → Rule → FailedRule
-failed_at offset rule = if (offset == 8) && (same_rule rule rules.V7 || same_rule rule rules.V8) then failed rules.V3 8 else failed rule offset
+failed_at offset rule = if (offset == 8) && (same_rule rule rules.V7 || same_rule rule rules.V8) then failed rules.V3 8
+    else failed rule offset
 
 -- the last magic isn't there
 abbrev pub lacks_magic : ℕ → FailedRule

@@ -20,7 +20,8 @@ pub record IsPastLimits (tops : List Top) (offset : ℕ) : Type 0 where
 
 -- in a file of whole records a limit is met only at such a record
 abbrev pub LimitsAreReal : Type 0
-LimitsAreReal = (file : List ℕ) (tops : List Top) (offset : ℕ) → IsWhole file tops → MeetsReadingLimit file offset → IsPastLimits tops offset
+LimitsAreReal = (file : List ℕ) (tops : List Top) (offset : ℕ) → IsWhole file tops → MeetsReadingLimit file offset
+    → IsPastLimits tops offset
 
 -- neither a content of the file nor the file itself is longer than what is read
 pub record IsShort (file : List ℕ) : Type 0 where
@@ -29,13 +30,16 @@ pub record IsShort (file : List ℕ) : Type 0 where
 
 -- a short file of whole records meets no limit
 abbrev pub ShortFilesMeetNoLimit : Type 0
-ShortFilesMeetNoLimit = (file : List ℕ) (tops : List Top) (offset : ℕ) → IsWhole file tops → IsShort file → MeetsReadingLimit file offset → ⊥
+ShortFilesMeetNoLimit = (file : List ℕ) (tops : List Top) (offset : ℕ) → IsWhole file tops → IsShort file
+    → MeetsReadingLimit file offset → ⊥
 
 -- nor does a short one that is written
 abbrev pub WrittenFilesMeetNoLimit : Type 0
-WrittenFilesMeetNoLimit = (options : FileOptions) (extras : List Top) (history : List Rec) (offset : ℕ) → CanBeWritten options extras history
-    → IsShort (file_of options extras history) → MeetsReadingLimit (file_of options extras history) offset → ⊥
+WrittenFilesMeetNoLimit = (options : FileOptions) (extras : List Top) (history : List Rec) (offset : ℕ)
+    → CanBeWritten options extras history → IsShort (file_of options extras history)
+    → MeetsReadingLimit (file_of options extras history) offset → ⊥
 
 -- no reading of a valid file halts for a compression
 abbrev pub CompressionsExcludeValidity : Type 0
-CompressionsExcludeValidity = (file name : List ℕ) (offset : ℕ) → HaltsBefore file (compressed offset name) → IsValid file → ⊥
+CompressionsExcludeValidity =
+    (file name : List ℕ) (offset : ℕ) → HaltsBefore file (compressed offset name) → IsValid file → ⊥

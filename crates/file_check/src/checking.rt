@@ -92,7 +92,8 @@ fn read_rest<T: Store>(
 ) -> Result<Vec<u8>, ReadingRefused>
     requires { end ≤ (T.state store.old).known }
     ensures size { IfOk result (λ part. at + length part.items ≡ end) }
-    ensures gives { IfOk result (λ part. (file : List ℕ) → (T.state store.old).bytes ≡ Some file → part.items ≡ take (end - at) (drop at file)) }
+    ensures gives { IfOk result (λ part. (file : List ℕ) → (T.state store.old).bytes ≡ Some file
+        → part.items ≡ take (end - at) (drop at file)) }
     ensures unchecked { IfErr result (λ why. (file : List ℕ) → IsUnchecked file why) }
     ensures cause { CheckCause (T.state store.old).faults (T.state store.new).faults result }
     ensures asks { (T.state store.new).asked ≤ (T.state store.old).asked + (end - at) }

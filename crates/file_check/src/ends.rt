@@ -22,7 +22,8 @@ fn are_begun(bytes: &[u8]) -> bool
 /// Whether the first eight bytes of a store of that length are the magic.
 pub(crate) fn begins_with_magic<T: Store>(store: &mut T, len: u64) -> Result<bool, ReadingRefused>
     requires { len ≤ (T.state store.old).known }
-    ensures tells { IfOk result (λ begins. (file : List ℕ) → (T.state store.old).bytes ≡ Some file → length file ≡ len → IsTrue begins ↔ V1 file) }
+    ensures tells { IfOk result (λ begins. (file : List ℕ) → (T.state store.old).bytes ≡ Some file → length file ≡ len
+        → IsTrue begins ↔ V1 file) }
     ensures cause { CheckCause (T.state store.old).faults (T.state store.new).faults result }
     ensures fault { IfErr result IsFault }
     ensures asks { (T.state store.new).asked ≤ (T.state store.old).asked + 8 }
@@ -53,7 +54,8 @@ fn are_ended(bytes: &[u8]) -> bool
 pub(crate) fn ends_with_magic<T: Store>(store: &mut T, len: u64) -> Result<bool, ReadingRefused>
     requires known { len ≤ (T.state store.old).known }
     requires long { 8 ≤ len }
-    ensures tells { IfOk result (λ ends. (file : List ℕ) → (T.state store.old).bytes ≡ Some file → length file ≡ len → IsTrue ends ↔ EndsWithMagic file) }
+    ensures tells { IfOk result (λ ends. (file : List ℕ) → (T.state store.old).bytes ≡ Some file → length file ≡ len
+        → IsTrue ends ↔ EndsWithMagic file) }
     ensures cause { CheckCause (T.state store.old).faults (T.state store.new).faults result }
     ensures fault { IfErr result IsFault }
     ensures asks { (T.state store.new).asked ≤ (T.state store.old).asked + 8 }

@@ -57,7 +57,8 @@ impl Gathering {
         content: &[u8],
     ) -> Result<Option<u64>, Memory>
         requires { (place.top ≡ self.old.at → ⊥) → StandBefore self.old.tops place.top }
-        ensures { (given ahead : List Placed) (tops : List Top) → GatheredTo given self.old → Good reading_limits tops → V6 (top op content.now) → walked tops ≡ (given ++ placed_at place op content.now ∷ []) ++ ahead
+        ensures { (given ahead : List Placed) (tops : List Top) → GatheredTo given self.old → Good reading_limits tops
+            → V6 (top op content.now) → walked tops ≡ (given ++ placed_at place op content.now ∷ []) ++ ahead
             → RecordGathered (given ++ placed_at place op content.now ∷ []) tops self.new result }
     {
         match self.counts.take(op, content) {
@@ -73,7 +74,8 @@ impl Gathering {
 
     /// What Statistics count of the section.
     pub(crate) fn tally(&self, alloc: Global) -> Result<Tally, Memory>
-        ensures { IfOk result (λ tally. (tops section : List Top) → GatheredOf tops self.now → IsSection tops section → Good reading_limits tops → TallyOf tops section tally) }
+        ensures { IfOk result (λ tally. (tops section : List Top) → GatheredOf tops self.now → IsSection tops section
+            → Good reading_limits tops → TallyOf tops section tally) }
     {
         let counts = match self.counts.by_channel.list(alloc) {
             Ok(counts) => counts,
@@ -103,7 +105,8 @@ impl Gathering {
 
     /// What is kept of the whole section, where the Data End was taken and this is known there.
     pub(crate) fn finish(self, end: DataEnd) -> Section
-        ensures { (tops : List Top) → GatheredOf tops self → Good reading_limits tops → HasDataEnd tops → KnownAtDataEnd tops end → SectionOf tops result }
+        ensures { (tops : List Top) → GatheredOf tops self → Good reading_limits tops → HasDataEnd tops
+            → KnownAtDataEnd tops end → SectionOf tops result }
     {
         let DataEnd {
             tables,

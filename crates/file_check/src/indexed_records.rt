@@ -49,7 +49,10 @@ impl IndexedRecords {
         messages: bool,
     ) -> Result<(), Memory>
         requires { Each (λ s. s.offset < offset) self.old.chunks.spots }
-        ensures { OnOk result ((tops : List Top) → IndexedOf tops self.old → Fits reading_limits tops (top chunk_opcode content.now) → offset ≡ offset_behind tops → (messages ≡ true) ↔ HasMessage (inner_tops (top chunk_opcode content.now)) → IndexedOf (tops ++ top chunk_opcode content.now ∷ []) self.new) }
+        ensures { OnOk result ((tops : List Top) → IndexedOf tops self.old
+            → Fits reading_limits tops (top chunk_opcode content.now) → offset ≡ offset_behind tops
+            → (messages ≡ true) ↔ HasMessage (inner_tops (top chunk_opcode content.now))
+            → IndexedOf (tops ++ top chunk_opcode content.now ∷ []) self.new) }
     {
         let chunk = match Chunk::parse(content) {
             Ok(chunk) => chunk,
@@ -65,7 +68,9 @@ impl IndexedRecords {
     }
 
     fn take_index(&mut self, offset: u64, content: &[u8]) -> Result<(), Memory>
-        ensures { OnOk result ((tops : List Top) → IndexedOf tops self.old → Fits reading_limits tops (top message_index_opcode content.now) → EndsWithChunk tops → offset ≡ offset_behind tops → IndexedOf (tops ++ top message_index_opcode content.now ∷ []) self.new) }
+        ensures { OnOk result ((tops : List Top) → IndexedOf tops self.old
+            → Fits reading_limits tops (top message_index_opcode content.now) → EndsWithChunk tops
+            → offset ≡ offset_behind tops → IndexedOf (tops ++ top message_index_opcode content.now ∷ []) self.new) }
     {
         let index = match MessageIndex::parse(content) {
             Ok(index) => index,
@@ -82,7 +87,9 @@ impl IndexedRecords {
 
     fn take_attachment(&mut self, alloc: Global, offset: u64, content: &[u8]) -> Result<(), Memory>
         requires { Each (λ s. s.offset < offset) self.old.attachments.spots }
-        ensures { OnOk result ((tops : List Top) → IndexedOf tops self.old → Fits reading_limits tops (top attachment_opcode content.now) → offset ≡ offset_behind tops → IndexedOf (tops ++ top attachment_opcode content.now ∷ []) self.new) }
+        ensures { OnOk result ((tops : List Top) → IndexedOf tops self.old
+            → Fits reading_limits tops (top attachment_opcode content.now) → offset ≡ offset_behind tops
+            → IndexedOf (tops ++ top attachment_opcode content.now ∷ []) self.new) }
     {
         let attachment = match Attachment::parse(content) {
             Ok(attachment) => attachment,
@@ -99,7 +106,9 @@ impl IndexedRecords {
 
     fn take_metadata(&mut self, alloc: Global, offset: u64, content: &[u8]) -> Result<(), Memory>
         requires { Each (λ s. s.offset < offset) self.old.metadata.spots }
-        ensures { OnOk result ((tops : List Top) → IndexedOf tops self.old → Fits reading_limits tops (top metadata_opcode content.now) → offset ≡ offset_behind tops → IndexedOf (tops ++ top metadata_opcode content.now ∷ []) self.new) }
+        ensures { OnOk result ((tops : List Top) → IndexedOf tops self.old
+            → Fits reading_limits tops (top metadata_opcode content.now) → offset ≡ offset_behind tops
+            → IndexedOf (tops ++ top metadata_opcode content.now ∷ []) self.new) }
     {
         let metadata = match Metadata::parse(content) {
             Ok(metadata) => metadata,
@@ -127,8 +136,11 @@ impl IndexedRecords {
         requires chunks { Each (λ s. s.offset < offset) self.old.chunks.spots }
         requires attachments { Each (λ s. s.offset < offset) self.old.attachments.spots }
         requires metadata { Each (λ s. s.offset < offset) self.old.metadata.spots }
-        ensures { OnOk result ((tops : List Top) → IndexedOf tops self.old → Fits reading_limits tops (top op content.now) → (op ≡ message_index_opcode → EndsWithChunk tops) → offset ≡ offset_behind tops
-            → (op ≡ chunk_opcode → (messages ≡ true) ↔ HasMessage (inner_tops (top op content.now))) → IndexedOf (tops ++ top op content.now ∷ []) self.new) }
+        ensures { OnOk result ((tops : List Top) → IndexedOf tops self.old
+            → Fits reading_limits tops (top op content.now) → (op ≡ message_index_opcode → EndsWithChunk tops)
+            → offset ≡ offset_behind tops
+            → (op ≡ chunk_opcode → (messages ≡ true) ↔ HasMessage (inner_tops (top op content.now)))
+            → IndexedOf (tops ++ top op content.now ∷ []) self.new) }
     {
         match op {
             CHUNK => return self.take_chunk(alloc, offset, content, messages),

@@ -42,8 +42,10 @@ impl LastChunk {
 
     // Whether the chunk lacks a Message Index, now that no more can follow.
     fn lacks_index(&self) -> bool
-        ensures lacks { result ≡ true → (tops more : List Top) (t : Top) → LastOf tops self.now → (t.op ≡ message_index_opcode → ⊥) → IndexFails (tops ++ t ∷ more) self.now.offset }
-        ensures keeps { result ≡ false → (tops : List Top) (t : Top) → LastOf tops self.now → (t.op ≡ message_index_opcode → ⊥) → Keeps V9 tops → Keeps V9 (tops ++ t ∷ []) }
+        ensures lacks { result ≡ true → (tops more : List Top) (t : Top) → LastOf tops self.now
+            → (t.op ≡ message_index_opcode → ⊥) → IndexFails (tops ++ t ∷ more) self.now.offset }
+        ensures keeps { result ≡ false → (tops : List Top) (t : Top) → LastOf tops self.now
+            → (t.op ≡ message_index_opcode → ⊥) → Keeps V9 tops → Keeps V9 (tops ++ t ∷ []) }
     {
         if !self.is_open {
             return false;
@@ -53,7 +55,8 @@ impl LastChunk {
 
     // Keeps the chunk at that offset in place of the one before.
     fn begin(&mut self, alloc: Global, offset: u64, records: &[u8]) -> Result<(), Memory>
-        ensures { OnOk result ((tops : List Top) (t : Top) (f : ChunkFields) → IsChunk t f → f.records ≡ records.now → offset ≡ offset_behind tops → LastOf (tops ++ t ∷ []) self.new) }
+        ensures { OnOk result ((tops : List Top) (t : Top) (f : ChunkFields) → IsChunk t f → f.records ≡ records.now
+            → offset ≡ offset_behind tops → LastOf (tops ++ t ∷ []) self.new) }
     {
         match self.messages.refill(records) {
             Ok(()) => {}
@@ -72,7 +75,8 @@ impl LastChunk {
         offset: u64,
         content: &[u8],
     ) -> Result<Option<u64>, Memory>
-        ensures { (tops : List Top) → LastOf tops self.old → Keeps V9 tops → V6 (top message_index_opcode content.now) → offset ≡ offset_behind tops → LastTaken tops (top message_index_opcode content.now) self.new result }
+        ensures { (tops : List Top) → LastOf tops self.old → Keeps V9 tops → V6 (top message_index_opcode content.now)
+            → offset ≡ offset_behind tops → LastTaken tops (top message_index_opcode content.now) self.new result }
     {
         if !self.is_open {
             return Ok(Some(offset));
@@ -94,7 +98,8 @@ impl LastChunk {
 
     /// Whether the chunk holds a Message, where it is the last record and its own records keep the rules on contents.
     pub(crate) fn holds_messages(&self) -> bool
-        ensures { (tops : List Top) (t : Top) → LastOf (tops ++ t ∷ []) self.now → t.op ≡ chunk_opcode → Each V6 (inner_tops t) → (result ≡ true) ↔ HasMessage (inner_tops t) }
+        ensures { (tops : List Top) (t : Top) → LastOf (tops ++ t ∷ []) self.now → t.op ≡ chunk_opcode
+            → Each V6 (inner_tops t) → (result ≡ true) ↔ HasMessage (inner_tops t) }
     {
         if self.messages.is_empty() {
             return false;
@@ -111,7 +116,8 @@ impl LastChunk {
         offset: u64,
         content: &[u8],
     ) -> Result<Option<u64>, Memory>
-        ensures { (tops : List Top) → LastOf tops self.old → Keeps V9 tops → V6 (top op content.now) → offset ≡ offset_behind tops → LastTaken tops (top op content.now) self.new result }
+        ensures { (tops : List Top) → LastOf tops self.old → Keeps V9 tops → V6 (top op content.now)
+            → offset ≡ offset_behind tops → LastTaken tops (top op content.now) self.new result }
     {
         if op == MESSAGE_INDEX {
             return self.take_index(alloc, offset, content);

@@ -32,7 +32,8 @@ fn section_of(
     tables: Tables,
     behind: u64,
 ) -> Result<Section, Memory>
-    ensures { IfOk result (λ section. (tops : List Top) → IsTakenToEnd tops gathering tables behind → SectionOf tops section) }
+    ensures { IfOk result (λ section. (tops : List Top) → IsTakenToEnd tops gathering tables behind
+        → SectionOf tops section) }
 {
     let tally = match gathering.tally(alloc) {
         Ok(tally) => tally,

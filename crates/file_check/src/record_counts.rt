@@ -56,7 +56,8 @@ impl RecordCounts {
     }
 
     fn take_message(&mut self, content: &[u8]) -> Result<(), Memory>
-        ensures { OnOk result ((records : List Top) → CountsOf records self.old → V6 (top message_opcode content.now) → length records + 1 < 2 ^ 64 → CountsOf (records ++ top message_opcode content.now ∷ []) self.new) }
+        ensures { OnOk result ((records : List Top) → CountsOf records self.old → V6 (top message_opcode content.now)
+            → length records + 1 < 2 ^ 64 → CountsOf (records ++ top message_opcode content.now ∷ []) self.new) }
     {
         let message = match Message::parse(content) {
             Ok(message) => message,
@@ -71,7 +72,8 @@ impl RecordCounts {
     }
 
     fn take_schema(&mut self, content: &[u8]) -> Result<(), Memory>
-        ensures { OnOk result ((records : List Top) → CountsOf records self.old → V6 (top schema_opcode content.now) → CountsOf (records ++ top schema_opcode content.now ∷ []) self.new) }
+        ensures { OnOk result ((records : List Top) → CountsOf records self.old → V6 (top schema_opcode content.now)
+            → CountsOf (records ++ top schema_opcode content.now ∷ []) self.new) }
     {
         match Schema::parse(content) {
             Ok(schema) => return self.schemas.add_once(schema.id),
@@ -80,7 +82,8 @@ impl RecordCounts {
     }
 
     fn take_channel(&mut self, content: &[u8]) -> Result<(), Memory>
-        ensures { OnOk result ((records : List Top) → CountsOf records self.old → V6 (top channel_opcode content.now) → CountsOf (records ++ top channel_opcode content.now ∷ []) self.new) }
+        ensures { OnOk result ((records : List Top) → CountsOf records self.old → V6 (top channel_opcode content.now)
+            → CountsOf (records ++ top channel_opcode content.now ∷ []) self.new) }
     {
         match Channel::parse(content) {
             Ok(channel) => return self.channels.add_once(channel.id),
@@ -91,7 +94,9 @@ impl RecordCounts {
     /// Takes the next record, of the top level or of a chunk: others than Schemas, Channels and Messages aren't counted. After a
     /// want of memory the counts are of no use.
     pub(crate) fn take(&mut self, op: u8, content: &[u8]) -> Result<(), Memory>
-        ensures { OnOk result ((records : List Top) → CountsOf records self.old → V6 (top op content.now) → length records + 1 < 2 ^ 64 → CountsOf (records ++ filter is_flat_kind (top op content.now ∷ [])) self.new) }
+        ensures { OnOk result ((records : List Top) → CountsOf records self.old → V6 (top op content.now)
+            → length records + 1 < 2 ^ 64
+            → CountsOf (records ++ filter is_flat_kind (top op content.now ∷ [])) self.new) }
     {
         match op {
             SCHEMA => return self.take_schema(content),

@@ -43,7 +43,8 @@ impl TopRecords {
         requires chunks { Each (λ s. s.offset < offset) self.old.indexed.chunks.spots }
         requires attachments { Each (λ s. s.offset < offset) self.old.indexed.attachments.spots }
         requires metadata { Each (λ s. s.offset < offset) self.old.indexed.metadata.spots }
-        ensures { (tops : List Top) → TopsOf tops self.old → Fits reading_limits tops (top op content.now) → offset ≡ offset_behind tops → TopTaken tops (top op content.now) self.new result }
+        ensures { (tops : List Top) → TopsOf tops self.old → Fits reading_limits tops (top op content.now)
+            → offset ≡ offset_behind tops → TopTaken tops (top op content.now) self.new result }
     {
         match self.last.take(alloc, op, offset, content) {
             Ok(None) => {}

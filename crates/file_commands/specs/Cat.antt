@@ -47,7 +47,8 @@ IsUnprinted before now (refusals.Fault faults) = (tops : List Top) × FaultStand
 IsUnprinted before now (refusals.Grammar n rule) = (tops : List Top) × HaltsSo before now tops (breaks n rule)
 IsUnprinted before now (refusals.Compressed n name) = (tops : List Top) × HaltsSo before now tops (names n name)
 IsUnprinted before now (refusals.Limit n) = (tops : List Top) × HaltsSo before now tops (beyond n)
-IsUnprinted before now refusals.Memory = ((tops : List Top) × MemoryStands before now tops) ⊎ ((tops : List Top) × (end : ℕ) × HaltsSo before now tops (at_end end))
+IsUnprinted before now refusals.Memory = ((tops : List Top) × MemoryStands before now tops)
+    ⊎ ((tops : List Top) × (end : ℕ) × HaltsSo before now tops (at_end end))
 
 -- what the reading of a source came to
 abbrev pub ComesTo : Selection → SourceState → SourceState → Result (List ℕ) ReadingRefused → Type 0
@@ -65,5 +66,6 @@ pub record Cats (asked : Selection) (file : List ℕ) (old new : Scene) (status 
   -- the file is read as a source; standard output takes the lines of the messages, and standard error the troubles
   pub reads : ReadsFile (IsSourceRead (ComesTo asked) file) kinds.Source file (cat_ending file) old new status
   -- where the world tells, the bytes under the name decide the status, unless a count rises or memory lacks
-  pub decided : (told : Told) (bytes : List ℕ) (tops : List Top) (halt : Halt) → old.world.told ≡ Some told → told.names file ≡ Some bytes → Halts reading_limits bytes tops halt
+  pub decided : (told : Told) (bytes : List ℕ) (tops : List Top) (halt : Halt) → old.world.told ≡ Some told
+      → told.names file ≡ Some bytes → Halts reading_limits bytes tops halt
       → (AnyRose (counts_in old) (counts_in new) → ⊥) → (status ≡ halt_status halt) ⊎ (status ≡ statuses.Memory)

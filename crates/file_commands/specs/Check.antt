@@ -42,13 +42,17 @@ named_number name n = name ++ decimal n
 
 -- ok KIND messages=A channels=B schemas=C chunks=D attachments=E metadata=F
 unfoldable pub counts_line : List ℕ → Numbers → List ℕ
-counts_line kind n = kind ++ (named_number (codes " messages=") n.messages ++ (named_number (codes " channels=") n.channels
-    ++ (named_number (codes " schemas=") n.schemas ++ (named_number (codes " chunks=") n.chunks
+counts_line kind n = kind
+    ++ (named_number (codes " messages=") n.messages
+    ++ (named_number (codes " channels=") n.channels
+    ++ (named_number (codes " schemas=") n.schemas
+    ++ (named_number (codes " chunks=") n.chunks
     ++ (named_number (codes " attachments=") n.attachments ++ (named_number (codes " metadata=") n.metadata ++ codes "\n"))))))
 
 -- flaw Vk at N
 unfoldable pub flaw_line : Rule → ℕ → List ℕ
-flaw_line rule offset = codes "flaw V" ++ (decimal (rule_number rule) ++ (codes " at " ++ (decimal offset ++ codes "\n")))
+flaw_line rule offset =
+    codes "flaw V" ++ (decimal (rule_number rule) ++ (codes " at " ++ (decimal offset ++ codes "\n")))
 
 abbrev pub verdict_line : Verdict → List ℕ
 verdict_line (verdicts.Indexed n) = counts_line (codes "ok indexed") n
@@ -87,7 +91,8 @@ Decides bytes (readings.Unopened outside_refusals.Memory) status = status ≡ st
 Decides bytes (readings.Opened (Ok verdict)) status = IsSo bytes verdict × (status ≡ verdict_status verdict)
 Decides bytes (readings.Opened (Err (refusals.Fault faults))) status = ⊥
 Decides bytes (readings.Opened (Err (refusals.Grammar n rule))) status = ⊥
-Decides bytes (readings.Opened (Err (refusals.Compressed n name))) status = HaltsBefore bytes (names n name) × (status ≡ statuses.Refused)
+Decides bytes (readings.Opened (Err (refusals.Compressed n name))) status =
+    HaltsBefore bytes (names n name) × (status ≡ statuses.Refused)
 Decides bytes (readings.Opened (Err (refusals.Limit n))) status = MeetsReadingLimit bytes n × (status ≡ statuses.Limit)
 Decides bytes (readings.Opened (Err refusals.Memory)) status = status ≡ statuses.Memory
 
@@ -107,4 +112,6 @@ pub record FileChecks (file : List ℕ) (old new : Scene) (status : Status) : Ty
   pub decided : (told : Told) (bytes : List ℕ) → old.world.told ≡ Some told → told.names file ≡ Some bytes
       → (AnyRose (counts_in old) (counts_in new) → ⊥) → Decides bytes reads.reading status
   -- that all was done says that the file keeps all rules, and that all of the line was taken
-  pub whole : status ≡ statuses.Done → (verdict : Verdict) × (reads.reading ≡ readings.Opened (Ok verdict)) × (verdict_status verdict ≡ statuses.Done) × TellsAll old.out new.out (verdict_line verdict)
+  pub whole : status ≡ statuses.Done
+      → (verdict : Verdict) × (reads.reading ≡ readings.Opened (Ok verdict)) × (verdict_status verdict ≡ statuses.Done)
+      × TellsAll old.out new.out (verdict_line verdict)

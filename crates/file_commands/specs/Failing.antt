@@ -21,17 +21,20 @@ use Rattle.file_commands.specs.Indexed.{IndexedComesTo, led_ending}
 use Rattle.file_commands.specs.Info.{FindsInfo, InfoComesTo}
 
 -- a printing that failed has a source that failed
-pub cat_fails : (asked : Selection) (before now : SourceState) (file : List ℕ) (why : ReadingRefused) → ComesTo asked before now (Err why) → before.faults ≡ 0 → refusal_ending file why ≡ failing → now.faults ≡ 0 → ⊥
+pub cat_fails : (asked : Selection) (before now : SourceState) (file : List ℕ) (why : ReadingRefused)
+    → ComesTo asked before now (Err why) → before.faults ≡ 0 → refusal_ending file why ≡ failing → now.faults ≡ 0 → ⊥
 cat_fails asked before now file why comes unused e none =
     let fault = refusal_fails file why e in
     let stands = subst (IsUnprinted before now) fault.1 comes in
     rises_some before.faults now.faults stands.1.rises unused none
 
 -- a check that failed has a store that failed
-pub check_fails : (store : StoreState) (now : StoreUse) (file : List ℕ) (why : ReadingRefused) → HasAnswer store now (Err why) → store.faults ≡ 0 → refusal_ending file why ≡ failing → now.faults ≡ 0 → ⊥
+pub check_fails : (store : StoreState) (now : StoreUse) (file : List ℕ) (why : ReadingRefused)
+    → HasAnswer store now (Err why) → store.faults ≡ 0 → refusal_ending file why ≡ failing → now.faults ≡ 0 → ⊥
 check_fails store now file why answer unused e none =
     let fault = refusal_fails file why e in
-    let cause = subst (λ (w : ReadingRefused). CheckCause {V = Verdict} store.faults now.faults (Err w)) fault.1 answer.cause in
+    let cause =
+    subst (λ (w : ReadingRefused). CheckCause {V = Verdict} store.faults now.faults (Err w)) fault.1 answer.cause in
     rises_some store.faults now.faults cause.0 unused none
 
 -- nothing is read
@@ -44,7 +47,8 @@ led_is file (by_index.Refused (refusals.Limit n)) = refusal_is file (refusals.Li
 led_is file (by_index.Refused refusals.Memory) = tt
 
 -- only a failure of the store ends as one
-led_fault : (file : List ℕ) (why : IndexedRefused) → led_ending file why ≡ failing → (faults : ℕ) × (why ≡ by_index.Refused (refusals.Fault faults))
+led_fault : (file : List ℕ) (why : IndexedRefused) → led_ending file why ≡ failing
+    → (faults : ℕ) × (why ≡ by_index.Refused (refusals.Fault faults))
 led_fault file (by_index.NotIndexed why) e = absurd cc
 led_fault file (by_index.Refused (refusals.Fault faults)) e = (faults, refl)
 led_fault file (by_index.Refused (refusals.Grammar n rule)) e = absurd cc
@@ -52,14 +56,18 @@ led_fault file (by_index.Refused (refusals.Compressed n name)) e = absurd cc
 led_fault file (by_index.Refused (refusals.Limit n)) e = absurd cc
 led_fault file (by_index.Refused refusals.Memory) e = absurd cc
 
-pub led_fails : (asked : Selection) (store : StoreState) (now : StoreUse) (file : List ℕ) (why : IndexedRefused) → IndexedComesTo asked store now (Err why) → store.faults ≡ 0 → led_ending file why ≡ failing → now.faults ≡ 0 → ⊥
+pub led_fails : (asked : Selection) (store : StoreState) (now : StoreUse) (file : List ℕ) (why : IndexedRefused)
+    → IndexedComesTo asked store now (Err why) → store.faults ≡ 0 → led_ending file why ≡ failing → now.faults ≡ 0 → ⊥
 led_fails asked store now file why comes unused e none =
     let fault = led_fault file why e in
-    let cause = subst (λ (w : IndexedRefused). ReplayCause {P = Replayed} store.faults now.faults (Err w)) fault.1 comes.cause in
+    let cause =
+    subst (λ (w : IndexedRefused). ReplayCause {P = Replayed} store.faults now.faults (Err w)) fault.1 comes.cause
+    in
     rises_some store.faults now.faults cause.0 unused none
 
 -- a telling that failed has a store that failed
-pub info_fails : (store : StoreState) (now : StoreUse) (file : List ℕ) (why : IndexedRefused) → InfoComesTo store now (Err why) → store.faults ≡ 0 → indexed_ending file why ≡ failing → now.faults ≡ 0 → ⊥
+pub info_fails : (store : StoreState) (now : StoreUse) (file : List ℕ) (why : IndexedRefused)
+    → InfoComesTo store now (Err why) → store.faults ≡ 0 → indexed_ending file why ≡ failing → now.faults ≡ 0 → ⊥
 info_fails store now file why comes unused e none =
     let fault = indexed_fails file why e in
     let finds = subst (λ (w : IndexedRefused). FindsInfo store now (Err w)) fault.1 comes.finds in

@@ -58,7 +58,8 @@ AreReplayedLines played text = (messages : List Seen) → Shows played messages 
 
 -- what the reading of a store came to
 abbrev pub IndexedComesTo : Selection → StoreState → StoreUse → Result (List ℕ) IndexedRefused → Type 0
-IndexedComesTo asked store now (Ok text) = (played : Replayed) × Replays asked store (now_of store now) (Ok played) × AreReplayedLines played text
+IndexedComesTo asked store now (Ok text) =
+    (played : Replayed) × Replays asked store (now_of store now) (Ok played) × AreReplayedLines played text
 IndexedComesTo asked store now (Err why) = Replays asked store (now_of store now) (Err why)
 
 -- ---- how that ended
@@ -83,7 +84,8 @@ replay_ending file reading = ending_of (λ text. text) (led_ending file) reading
 abbrev pub ShowsLed : Selection → List ℕ → Reading (List ℕ) IndexedRefused → Type 0
 ShowsLed asked bytes (readings.Unopened outside_refusals.Failed) = ⊥
 ShowsLed asked bytes (readings.Unopened outside_refusals.Memory) = Unit {0}
-ShowsLed asked bytes (readings.Opened (Ok text)) = (shown : List Seen) × LedReplay bytes asked.range asked.topic shown × (text ≡ cat_text shown)
+ShowsLed asked bytes (readings.Opened (Ok text)) =
+    (shown : List Seen) × LedReplay bytes asked.range asked.topic shown × (text ≡ cat_text shown)
 ShowsLed asked bytes (readings.Opened (Err why)) = IsReason bytes asked.range why
 
 -- the store failed, a limit is passed or memory lacked
@@ -98,7 +100,8 @@ IsNoFlaw (by_index.Refused refusals.Memory) = Unit {0}
 -- the lines are those of the messages of a scan that are asked for; or it isn't the file's fault that there are none
 abbrev pub ShowsScan : Selection → List Seen → Reading (List ℕ) IndexedRefused → Type 0
 ShowsScan asked messages (readings.Unopened why) = Unit {0}
-ShowsScan asked messages (readings.Opened (Ok text)) = (shown : List Seen) × Replay asked.range asked.topic messages shown × (text ≡ cat_text shown)
+ShowsScan asked messages (readings.Opened (Ok text)) =
+    (shown : List Seen) × Replay asked.range asked.topic messages shown × (text ≡ cat_text shown)
 ShowsScan asked messages (readings.Opened (Err why)) = IsNoFlaw why
 
 -- ---- the command
@@ -111,5 +114,6 @@ pub record IndexedCats (asked : Selection) (file : List ℕ) (old new : Scene) (
   pub decided : (told : Told) (bytes : List ℕ) → old.world.told ≡ Some told → told.names file ≡ Some bytes
       → (AnyRose (counts_in old) (counts_in new) → ⊥) → ShowsLed asked bytes reads.reading
   -- and a fully indexed file that is read to its Data End is printed as its scan is
-  pub scanned : (told : Told) (bytes : List ℕ) (tops : List Top) (end : ℕ) (messages : List Seen) → old.world.told ≡ Some told → told.names file ≡ Some bytes
-      → IsFullyIndexed bytes → Halts reading_limits bytes tops (at_end end) → Scan tops messages → ShowsScan asked messages reads.reading
+  pub scanned : (told : Told) (bytes : List ℕ) (tops : List Top) (end : ℕ) (messages : List Seen)
+      → old.world.told ≡ Some told → told.names file ≡ Some bytes → IsFullyIndexed bytes
+      → Halts reading_limits bytes tops (at_end end) → Scan tops messages → ShowsScan asked messages reads.reading

@@ -44,10 +44,12 @@ LacksStatistics store now (lacks.NoChannel id) = ⊥
 -- there is no summary to be loaded; or memory lacked for that, or for the line of one that was
 abbrev pub IsSummaryUnread : StoreState → StoreUse → ReadingRefused → Type 0
 IsSummaryUnread store now (refusals.Fault faults) = LoadIsRefused store now (by_index.Refused (refusals.Fault faults))
-IsSummaryUnread store now (refusals.Grammar offset rule) = LoadIsRefused store now (by_index.Refused (refusals.Grammar offset rule))
+IsSummaryUnread store now (refusals.Grammar offset rule) =
+    LoadIsRefused store now (by_index.Refused (refusals.Grammar offset rule))
 IsSummaryUnread store now (refusals.Compressed offset name) = ⊥
 IsSummaryUnread store now (refusals.Limit offset) = LoadIsRefused store now (by_index.Refused (refusals.Limit offset))
-IsSummaryUnread store now refusals.Memory = LoadIsRefused store now (by_index.Refused refusals.Memory) ⊎ ((parts : Parts) × HasLoaded store now parts)
+IsSummaryUnread store now refusals.Memory =
+    LoadIsRefused store now (by_index.Refused refusals.Memory) ⊎ ((parts : Parts) × HasLoaded store now parts)
 
 -- what was found of it
 abbrev pub FindsInfo : StoreState → StoreUse → Result (List ℕ) IndexedRefused → Type 0
@@ -97,4 +99,5 @@ pub record Describes (file : List ℕ) (old new : Scene) (status : Status) : Typ
   pub decided : (told : Told) (bytes : List ℕ) → old.world.told ≡ Some told → told.names file ≡ Some bytes
       → (AnyRose (counts_in old) (counts_in new) → ⊥) → DescribesBytes bytes reads.reading
   -- that all was done says that all of the line was taken
-  pub whole : status ≡ statuses.Done → (text : List ℕ) × (reads.reading ≡ readings.Opened (Ok text)) × TellsAll old.out new.out text
+  pub whole : status ≡ statuses.Done
+      → (text : List ℕ) × (reads.reading ≡ readings.Opened (Ok text)) × TellsAll old.out new.out text

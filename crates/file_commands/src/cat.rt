@@ -58,7 +58,8 @@ impl SourceReading for Scanning<'_> {
         replay_lines(self.alloc, source, self.range, self.topic)
     }
 
-    ghost fails = { λ s before now file why comes unused e. cat_fails (selection s.range (asked_topic s.topic)) before now file why comes unused e };
+    ghost fails = { λ s before now file why comes unused e. cat_fails (selection s.range (asked_topic s.topic)) before
+        now file why comes unused e };
 }
 
 /// Prints on `out` the messages of the file under the name that lie in the range and on the topic, if one is given, in

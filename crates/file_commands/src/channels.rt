@@ -38,7 +38,9 @@ fn channel_ids(alloc: Global, loaded: &Loaded) -> Result<Vec<u16>, Memory>
 
 // Writes a Channel with the count of its messages.
 fn put_channel(out: &mut Writer, channel: &Channel<'_>, table: &[u64]) -> Result<(), Memory>
-    ensures { OnOk result ((counts : List (ℕ × ℕ)) → IsCountTable counts table.now → AddsTokens out.old out.new (json_tokens (channel_value counts (channel.now.id, channel_fields channel.now)))) }
+    ensures { OnOk result ((counts : List (ℕ × ℕ)) → IsCountTable counts table.now
+        → AddsTokens out.old out.new (json_tokens (channel_value counts
+        (channel.now.id, channel_fields channel.now)))) }
 {
     open_object(out)?;
     put_count(out, "count", told(table, channel.id))?;
@@ -58,7 +60,8 @@ fn put_places(
     table: &[u64],
 ) -> Result<(), Memory>
     requires { Each (λ p. p < length loaded.now.channels) places.now }
-    ensures { OnOk result ((shown : List (ℕ × ChannelFields)) × AllZip (ShownAt IsChannel loaded.now.channels) places.now shown
+    ensures { OnOk result ((shown : List (ℕ × ChannelFields))
+        × AllZip (ShownAt IsChannel loaded.now.channels) places.now shown
         × ((counts : List (ℕ × ℕ)) → IsCountTable counts table.now → AddsTokens out.old out.new (json_tokens (channels_value counts shown)))) }
 {
     open_array(out)?;

@@ -110,7 +110,8 @@ impl StoreReading for Following<'_> {
         }
     }
 
-    ghost fails = { λ s before now file why comes unused e. led_fails (selection s.range (asked_topic s.topic)) before now file why comes unused e };
+    ghost fails = { λ s before now file why comes unused e. led_fails (selection s.range (asked_topic s.topic)) before
+        now file why comes unused e };
 }
 
 /// Prints on `out` the messages to which the indexes of the file under the name lead, that lie in the range and on the

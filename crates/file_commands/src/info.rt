@@ -24,7 +24,8 @@ fn put_info(
     loaded: &Loaded,
     statistics: &Statistics<'_>,
 ) -> Result<(), Memory>
-    ensures { OnOk result ((i : Info) × ShowsParts loaded.now (statistics_fields statistics.now) i × AddsTokens out.old out.new (json_tokens (info_value i))) }
+    ensures { OnOk result ((i : Info) × ShowsParts loaded.now (statistics_fields statistics.now) i
+        × AddsTokens out.old out.new (json_tokens (info_value i))) }
 {
     let header = loaded.header();
     open_object(out)?;

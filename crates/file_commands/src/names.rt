@@ -54,7 +54,8 @@ fn put_all(out: &mut Writer, names: &BTreeSet<&str>) -> Result<(), Memory>
 
 /// Writes the compressions that the Chunk Indexes name, each once, in the ascending order of their bytes.
 pub(crate) fn put_names(alloc: Global, out: &mut Writer, loaded: &Loaded) -> Result<(), Memory>
-    ensures { OnOk result ((names : List (List ℕ)) × AreNames loaded.now.chunk_indexes names × AddsTokens out.old out.new (json_tokens (names_value names))) }
+    ensures { OnOk result ((names : List (List ℕ)) × AreNames loaded.now.chunk_indexes names
+        × AddsTokens out.old out.new (json_tokens (names_value names))) }
 {
     let names = names_of(alloc, loaded)?;
     put_all(out, &names)?;

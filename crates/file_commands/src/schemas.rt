@@ -33,7 +33,8 @@ fn schema_ids(alloc: Global, loaded: &Loaded) -> Result<Vec<u16>, Memory>
 }
 
 fn put_schema(out: &mut Writer, schema: &Schema<'_>) -> Result<(), Memory>
-    ensures { OnOk result (AddsTokens out.old out.new (json_tokens (schema_value (schema.now.id, schema_fields schema.now)))) }
+    ensures { OnOk result (AddsTokens out.old out.new (json_tokens (schema_value
+        (schema.now.id, schema_fields schema.now)))) }
 {
     open_object(out)?;
     put_text(out, "encoding", schema.encoding)?;
@@ -46,7 +47,8 @@ fn put_schema(out: &mut Writer, schema: &Schema<'_>) -> Result<(), Memory>
 // Writes the Schemas at those places as an array.
 fn put_places(out: &mut Writer, loaded: &Loaded, places: &[usize]) -> Result<(), Memory>
     requires { Each (λ p. p < length loaded.now.schemas) places.now }
-    ensures { OnOk result ((shown : List (ℕ × SchemaFields)) × AllZip (ShownAt IsSchema loaded.now.schemas) places.now shown
+    ensures { OnOk result ((shown : List (ℕ × SchemaFields))
+        × AllZip (ShownAt IsSchema loaded.now.schemas) places.now shown
         × AddsTokens out.old out.new (json_tokens (schemas_value shown))) }
 {
     open_array(out)?;

@@ -58,10 +58,13 @@ LackIsTold before now feeds out (Some r) back lacked = lacked ≡ (lacks_memory 
 -- all troubles, in their order
 abbrev pub troubles_after : ℕ → List ℕ → Option Report → Option Back → Bool → Bool → Bool → List Trouble
 troubles_after feeds out report back blamed printing lacked =
-    halts_after feeds out back ++ (when blamed (fault out) ++ (when (limit_passed report) (output_limit out) ++ (when printing output_fault ++ when lacked no_memory)))
+    halts_after feeds out back
+    ++ (when blamed (fault out)
+    ++ (when (limit_passed report) (output_limit out) ++ (when printing output_fault ++ when lacked no_memory)))
 
 -- What `gen` does.
-pub record Generates (options : RecordOptions) (numbers : Numbers) (out : List ℕ) (old new : Scene) (report : Option Report) (status : Status) : Type 0 where
+pub record Generates (options : RecordOptions) (numbers : Numbers) (out : List ℕ) (old new : Scene)
+    (report : Option Report) (status : Status) : Type 0 where
   -- the generated feeds are recorded into the output, which is kept
   pub middle : WorldState
   pub kept : Bool

@@ -38,14 +38,17 @@ pub record AreInRange (numbers : Numbers) : Type 0 where
 -- A lossless generation in which all was done, in a world that tells: standard output took the line of the sums of all messages
 -- that the numbers say. So what was read back has their number, their length of data and their sum.
 abbrev pub GeneratedSumsAreTold : Type 0
-GeneratedSumsAreTold = (options : RecordOptions) (numbers : Numbers) (out : List ℕ) (old new : Scene) (report : Option Report) (status : Status) (told : Told) → OptionsAllowed options → IsUtf8 options.file.profile → AreInRange numbers
-    → options.lossless ≡ true → Generates options numbers out old new report status → status ≡ statuses.Done → old.world.told ≡ Some told
+GeneratedSumsAreTold = (options : RecordOptions) (numbers : Numbers) (out : List ℕ) (old new : Scene)
+    (report : Option Report) (status : Status) (told : Told) → OptionsAllowed options → IsUtf8 options.file.profile
+    → AreInRange numbers → options.lossless ≡ true → Generates options numbers out old new report status
+    → status ≡ statuses.Done → old.world.told ≡ Some told
     → TellsAll old.out new.out (sums_line numbers.feeds (sums_of (all_made numbers)))
 
 -- ---- reading back
 
 -- a reading back that failed has a source that failed
-pub back_fails : (before now : SourceState) (file : List ℕ) (why : ReadingRefused) → SumsComeTo before now (Err why) → before.faults ≡ 0 → refusal_ending file why ≡ failing → now.faults ≡ 0 → ⊥
+pub back_fails : (before now : SourceState) (file : List ℕ) (why : ReadingRefused) → SumsComeTo before now (Err why)
+    → before.faults ≡ 0 → refusal_ending file why ≡ failing → now.faults ≡ 0 → ⊥
 back_fails before now file why comes unused e none =
     let fault = refusal_fails file why e in
     let stands = subst (λ (w : ReadingRefused). (tops : List Top) × RefusalStands w before now tops) fault.1 comes in

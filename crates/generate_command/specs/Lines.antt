@@ -8,5 +8,6 @@ number_text name n = name ++ decimal n
 
 -- gen feeds=F messages=M data=B sum=S
 unfoldable pub sums_line : ℕ → Sums → List ℕ
-sums_line feeds sums = number_text (codes "gen feeds=") feeds ++ (number_text (codes " messages=") sums.messages ++ (number_text (codes " data=") sums.bytes
-    ++ (number_text (codes " sum=") sums.total ++ codes "\n")))
+sums_line feeds sums = number_text (codes "gen feeds=") feeds
+    ++ (number_text (codes " messages=") sums.messages
+    ++ (number_text (codes " data=") sums.bytes ++ (number_text (codes " sum=") sums.total ++ codes "\n")))

@@ -54,7 +54,9 @@ fn is_sound(written: &Written) -> bool
 
 // Whether a count of the world rose.
 fn world_rose(before: &Counts, now: &Counts) -> bool
-    ensures { IsTrue result ↔ Rose before.now.world now.now.world ⊎ (Rose before.now.inputs now.now.inputs ⊎ Rose before.now.outputs now.now.outputs) }
+    ensures { IsTrue result
+        ↔ Rose before.now.world now.now.world
+        ⊎ (Rose before.now.inputs now.now.inputs ⊎ Rose before.now.outputs now.now.outputs) }
 {
     rose(before.world, now.world)
         || rose(before.inputs, now.inputs)
@@ -115,7 +117,8 @@ fn read_written<W: World>(
     requires world_fits { (W.state world.old).faults < 2 ^ 64 }
     requires inputs_fit { (W.state world.old).input_faults < 2 ^ 64 }
     requires outputs_fit { (W.state world.old).output_faults < 2 ^ 64 }
-    ensures { ReadsBack (stands_whole written.now.report written.now.kept) out.now (W.state world.old) (W.state world.new) result }
+    ensures { ReadsBack (stands_whole written.now.report written.now.kept) out.now (W.state world.old)
+        (W.state world.new) result }
 {
     if is_sound(written) {
         return Some(read_source_name(what, out, world));
@@ -125,9 +128,12 @@ fn read_written<W: World>(
 
 // Prints the line of what was read back, if something was.
 fn print_back<O: Sink>(what: &Summing, out: &mut O, back: &mut Option<Back>)
-    ensures takes { (file : List ℕ) → Takes (O.state out.old) (O.state out.new) (text_after what.now.feeds file back.old) }
-    ensures halts { (file : List ℕ) → halts_after what.now.feeds file back.new ≡ halts_after what.now.feeds file back.old }
-    ensures lacks { (file : List ℕ) → is_lack_after what.now.feeds file back.new ≡ is_lack_after what.now.feeds file back.old }
+    ensures takes { (file : List ℕ)
+        → Takes (O.state out.old) (O.state out.new) (text_after what.now.feeds file back.old) }
+    ensures halts { (file : List ℕ)
+        → halts_after what.now.feeds file back.new ≡ halts_after what.now.feeds file back.old }
+    ensures lacks { (file : List ℕ)
+        → is_lack_after what.now.feeds file back.new ≡ is_lack_after what.now.feeds file back.old }
 {
     match back {
         Some(back) => {
@@ -149,7 +155,10 @@ fn answer<'a, E: Sink>(
     printing: bool,
     lacked: bool,
 ) -> Status
-    ensures { Complains (complained halt.entry ++ (when blamed (fault out.now) ++ (when limited (output_limit out.now) ++ (when printing output_fault ++ when lacked no_memory)))) (E.state err.old) (E.state err.new) result }
+    ensures { Complains
+        (complained halt.entry
+        ++ (when blamed (fault out.now) ++ (when limited (output_limit out.now) ++ (when printing output_fault ++ when lacked no_memory))))
+        (E.state err.old) (E.state err.new) result }
 {
     let complaints = [
         halt,

@@ -37,7 +37,8 @@ fn add_feed(
     numbers: Numbers,
     feed: u64,
 ) -> Result<(), Memory>
-    ensures { OnOk result (map (λ f. ⟦<GeneratedFeed as Source>⟧.state f) feeds.new.items ≡ map (λ f. ⟦<GeneratedFeed as Source>⟧.state f) feeds.old.items ++ generated_source numbers feed ∷ []) }
+    ensures { OnOk result (map (λ f. ⟦<GeneratedFeed as Source>⟧.state f) feeds.new.items
+        ≡ map (λ f. ⟦<GeneratedFeed as Source>⟧.state f) feeds.old.items ++ generated_source numbers feed ∷ []) }
 {
     let made = match GeneratedFeed::new(alloc, numbers.seed, feed, numbers.messages) {
         Ok(made) => made,
@@ -88,7 +89,8 @@ fn write_feeds<R: Threads + Wait + Sync, W: World>(
     requires world_fits { (W.state world.old).faults < 2 ^ 64 }
     requires inputs_fit { (W.state world.old).input_faults < 2 ^ 64 }
     requires outputs_fit { (W.state world.old).output_faults < 2 ^ 64 }
-    ensures written { NameWritten options.now (map (λ f. ⟦<GeneratedFeed as Source>⟧.state f) feeds.items) out.now (W.state world.old) (W.state world.new) result }
+    ensures written { NameWritten options.now (map (λ f. ⟦<GeneratedFeed as Source>⟧.state f) feeds.items) out.now
+        (W.state world.old) (W.state world.new) result }
     ensures listed { (r : _) → result.report ≡ Some r → Each (λ f. ListsMessages f listed) r.feeds.items }
 {
     let live = match world.live(out) {
@@ -135,7 +137,8 @@ pub fn write_generated<R: Threads + Wait + Sync, W: World>(
     requires world_fits { (W.state world.old).faults < 2 ^ 64 }
     requires inputs_fit { (W.state world.old).input_faults < 2 ^ 64 }
     requires outputs_fit { (W.state world.old).output_faults < 2 ^ 64 }
-    ensures written { NameWritten options.now (sources_of numbers) out.now (W.state world.old) (W.state world.new) result }
+    ensures written { NameWritten options.now (sources_of numbers) out.now (W.state world.old) (W.state world.new)
+        result }
     ensures listed { (r : _) → result.report ≡ Some r → Each (λ f. ListsMessages f listed) r.feeds.items }
 {
     match make_feeds(alloc, numbers) {

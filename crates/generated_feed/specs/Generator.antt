@@ -27,7 +27,8 @@ generated_message index number = record {
 -- so many messages from that index on, behind that state
 abbrev pub messages_from : ℕ → ℕ → ℕ → List MessageFields
 messages_from zero index x = []
-messages_from (suc n) index x = generated_message index (upper_bits (next_state x)) ∷ messages_from n (index + 1) (next_state x)
+messages_from (suc n) index x =
+    generated_message index (upper_bits (next_state x)) ∷ messages_from n (index + 1) (next_state x)
 
 -- the messages of a feed
 abbrev pub generated : ℕ → ℕ → ℕ → List MessageFields

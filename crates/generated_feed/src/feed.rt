@@ -60,7 +60,8 @@ fn put_front(alloc: Global, out: &mut Vec<u8>, feed: u64) -> Result<(), Memory>
 impl GeneratedFeed {
     /// The feed of that number, of so many messages. Memory may lack for the one record that it holds at a time.
     pub fn new(alloc: Global, seed: u64, feed: u64, messages: u32) -> Result<GeneratedFeed, Memory>
-        ensures { IfOk result (λ it. ⟦<GeneratedFeed as Source>⟧.state it ≡ record { left = Some (feed_bytes seed feed messages); faults = 0 }) }
+        ensures { IfOk result (λ it. ⟦<GeneratedFeed as Source>⟧.state it
+            ≡ record { left = Some (feed_bytes seed feed messages); faults = 0 }) }
     {
         let mut waiting = match Vec::with_capacity(alloc, RECORD_ROOM) {
             Ok(waiting) => waiting,
@@ -82,8 +83,10 @@ impl GeneratedFeed {
 
     // Makes the next record, where all that were made are read. There is room for it.
     fn refill(&mut self)
-        ensures left { left_to_read self.new.waiting.items self.new.from (unmade self.new.ended (self.new.messages - self.new.made) self.new.made self.new.state)
-            ≡ left_to_read self.old.waiting.items self.old.from (unmade self.old.ended (self.old.messages - self.old.made) self.old.made self.old.state) }
+        ensures left { left_to_read self.new.waiting.items self.new.from (unmade self.new.ended
+            (self.new.messages - self.new.made) self.new.made self.new.state)
+            ≡ left_to_read self.old.waiting.items self.old.from (unmade self.old.ended
+            (self.old.messages - self.old.made) self.old.made self.old.state) }
         ensures some { drop self.new.from self.new.waiting.items ≡ [] → self.new.ended ≡ true }
         ensures messages { self.new.messages ≡ self.old.messages }
     {
@@ -125,7 +128,8 @@ impl GeneratedFeed {
 }
 
 impl Source for GeneratedFeed {
-    ghost state = { λ f. record { left = Some (left_to_read f.waiting.items f.from (unmade f.ended (f.messages - f.made) f.made f.state)); faults = 0 } };
+    ghost state = { λ f. record
+        { left = Some (left_to_read f.waiting.items f.from (unmade f.ended (f.messages - f.made) f.made f.state)); faults = 0 } };
 
     /// It has as many messages in all.
     ghost stays = { λ f g. g.messages ≡ f.messages };

@@ -51,7 +51,8 @@ pub(crate) fn draw(state: u64) -> u64
 
 /// Appends the record of the message of that index and number.
 pub(crate) fn put_message(out: &mut Vec<u8>, index: u32, number: u64) -> Result<(), Memory>
-    ensures ok { OnOk result (out.new.items ≡ out.old.items ++ framed message_opcode (message_text 1 (generated_message index number))) }
+    ensures ok { OnOk result (out.new.items
+        ≡ out.old.items ++ framed message_opcode (message_text 1 (generated_message index number))) }
     ensures full { OnErr result (LacksRoom out.old RECORD_ROOM) }
     ensures capacity { vec_capacity out.old ≤ vec_capacity out.new }
 {

@@ -104,7 +104,8 @@ place_given (Some (Known id)) = Some (id - 1)
 place_given (Some (New id)) = Some (id - 1)
 
 -- a key is kept where the id is new: the schema stands where its id says, and the parts stand
-abbrev pub KeptKey : List (List ℕ) → List (List (List ℕ × List ℕ)) → ChannelDef → Option Given → Given → Option ChannelKey → Type 0
+abbrev pub KeptKey : List (List ℕ) → List (List (List ℕ × List ℕ)) → ChannelDef → Option Given → Given
+    → Option ChannelKey → Type 0
 KeptKey texts maps d schema (Known id) kept = kept ≡ None
 KeptKey texts maps d schema (New id) None = ⊥
 KeptKey texts maps d schema (New id) (Some k) = (k.schema ≡ place_given schema) × StandAt texts maps d k.parts

@@ -8,7 +8,8 @@ abbrev pub Grows : {X : Type 0} → List X → List X → Type 0
 Grows {X} xs ys = (more : List X) × (ys ≡ xs ++ more)
 
 -- the parts of a channel stand at these places among the texts and the maps
-pub record StandAt (texts : List (List ℕ)) (maps : List (List (List ℕ × List ℕ))) (d : ChannelDef) (p : Places) : Type 0 where
+pub record StandAt (texts : List (List ℕ)) (maps : List (List (List ℕ × List ℕ))) (d : ChannelDef) (p : Places)
+    : Type 0 where
   pub topic : slice_get texts p.topic ≡ Some d.topic
   pub encoding : slice_get texts p.message_encoding ≡ Some d.message_encoding
   pub metadata : slice_get maps p.metadata ≡ Some d.metadata

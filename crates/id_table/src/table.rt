@@ -205,8 +205,11 @@ fn place_of_channel(
 ) -> Option<usize>
     requires stand { AllStand (stocked schemas.now.keys parts.now.texts.keys parts.now.maps.keys) channels.now.keys }
     requires key { FoundKey (stocked schemas.now.keys parts.now.texts.keys parts.now.maps.keys) _d.now key }
-    ensures found { FoundAt (map (content_at (stocked schemas.now.keys parts.now.texts.keys parts.now.maps.keys)) channels.now.keys) _d.now result }
-    ensures once { EachOnce (map (content_at (stocked schemas.now.keys parts.now.texts.keys parts.now.maps.keys)) channels.now.keys) }
+    ensures found { FoundAt
+        (map (content_at (stocked schemas.now.keys parts.now.texts.keys parts.now.maps.keys)) channels.now.keys) _d.now
+        result }
+    ensures once { EachOnce (map (content_at (stocked schemas.now.keys parts.now.texts.keys parts.now.maps.keys))
+        channels.now.keys) }
 {
     let _schemas = count_of_schemas(schemas);
     parts_differ(parts);
@@ -233,7 +236,8 @@ fn count_of_channels(
 ) -> usize
     requires { AllStand (stocked schemas.now.keys parts.now.texts.keys parts.now.maps.keys) channels.now.keys }
     ensures len { result ≡ length channels.now.keys }
-    ensures once { EachOnce (map (content_at (stocked schemas.now.keys parts.now.texts.keys parts.now.maps.keys)) channels.now.keys) }
+    ensures once { EachOnce (map (content_at (stocked schemas.now.keys parts.now.texts.keys parts.now.maps.keys))
+        channels.now.keys) }
 {
     let _schemas = count_of_schemas(schemas);
     parts_differ(parts);
@@ -287,7 +291,9 @@ fn given_like(
 ) -> Option<Given>
     requires few { length schemas.now.keys ≤ id_limit }
     requires stand { AllStand (stocked schemas.now.keys parts.now.texts.keys parts.now.maps.keys) channels.now.keys }
-    requires shares { SharesSchema (ids schemas.now.keys (map (content_at (stocked schemas.now.keys parts.now.texts.keys parts.now.maps.keys)) channels.now.keys)) _schema.now like }
+    requires shares { SharesSchema
+        (ids schemas.now.keys (map (content_at (stocked schemas.now.keys parts.now.texts.keys parts.now.maps.keys)) channels.now.keys))
+        _schema.now like }
     ensures offered { OffersTo schemas.now.keys _schema.now result }
     ensures room { IsFullTo schemas.now.keys _schema.now → ⊥ }
 {
@@ -326,7 +332,9 @@ fn given_to_channel(
     requires few { length channels.now.keys ≤ id_limit }
     requires stand { AllStand (stocked schemas.now.keys parts.now.texts.keys parts.now.maps.keys) channels.now.keys }
     requires key { FoundKey (stocked schemas.now.keys parts.now.texts.keys parts.now.maps.keys) d.now key }
-    ensures { GivesOrFull (map (content_at (stocked schemas.now.keys parts.now.texts.keys parts.now.maps.keys)) channels.now.keys) d.now result }
+    ensures { GivesOrFull
+        (map (content_at (stocked schemas.now.keys parts.now.texts.keys parts.now.maps.keys)) channels.now.keys) d.now
+        result }
 {
     given(
         place_of_channel(schemas, parts, channels, d, key),
@@ -343,7 +351,9 @@ fn lacks_by_parts(
 ) -> bool
     requires { AllStand (stocked schemas.now.keys parts.now.texts.keys parts.now.maps.keys) channels.now.keys }
     ensures schemas { result ≡ true → length schemas.now.keys < id_limit }
-    ensures channels { result ≡ true → IsFull (map (content_at (stocked schemas.now.keys parts.now.texts.keys parts.now.maps.keys)) channels.now.keys) d.now }
+    ensures channels { result ≡ true
+        → IsFull
+        (map (content_at (stocked schemas.now.keys parts.now.texts.keys parts.now.maps.keys)) channels.now.keys) d.now }
 {
     if schemas.len() >= MAX_IDS || channels.len() < MAX_IDS {
         return false;
@@ -395,7 +405,8 @@ fn keep_channel(
     ensures same { set.new.keys ≡ set.old.keys }
     ensures texts { Grows parts.old.texts.keys parts.new.texts.keys }
     ensures maps { Grows parts.old.maps.keys parts.new.maps.keys }
-    ensures kept { IfOk result (λ kept. KeptKey parts.new.texts.keys parts.new.maps.keys channel.now schema given kept) }
+    ensures kept { IfOk result (λ kept. KeptKey parts.new.texts.keys parts.new.maps.keys channel.now schema given
+        kept) }
     ensures room { IfOk result (λ kept. IfSome kept (λ _. 0 < spare set.new)) }
     ensures needed { OnErr result (IsNew given) }
 {

@@ -17,5 +17,7 @@ pub record IsChunkOpen (before : List Top) (messages : List MessageHead) (channe
   pub kind : chunk.op ≡ chunk_opcode
   pub indexes : Each (λ u. u.op ≡ message_index_opcode) earlier
   pub holds : HoldsMessages (inner_tops chunk) messages
-  pub shown : Each (λ u. (channel : ℕ) × (entries : List (ℕ × ℕ)) × IsMessageIndex u channel entries × Has channels channel) earlier
-  pub named : (channel : ℕ) → Has channels channel → (u : Top) × (entries : List (ℕ × ℕ)) × Has earlier u × IsMessageIndex u channel entries
+  pub shown : Each
+      (λ u. (channel : ℕ) × (entries : List (ℕ × ℕ)) × IsMessageIndex u channel entries × Has channels channel) earlier
+  pub named : (channel : ℕ) → Has channels channel
+      → (u : Top) × (entries : List (ℕ × ℕ)) × Has earlier u × IsMessageIndex u channel entries

@@ -31,10 +31,12 @@ abbrev pub NamesAllNotes : List (ℕ × ℕ) → List IndexNote → Type 0
 NamesAllNotes map notes = Each (IsNamedOrEmpty map) notes
 
 abbrev pub NamesNoted : ChunkNote → ChunkIndexFields → Type 0
-NamesNoted note f = (f.indexes ≡ []) ⊎ ((f.indexes_size ≡ note.indexes_length) × AreNoted f.indexes note.indexes.items × NamesAllNotes f.indexes note.indexes.items)
+NamesNoted note f = (f.indexes ≡ [])
+    ⊎ ((f.indexes_size ≡ note.indexes_length) × AreNoted f.indexes note.indexes.items × NamesAllNotes f.indexes note.indexes.items)
 
 abbrev pub IndexMatchesNote : ChunkNote → ChunkIndexFields → Type 0
-IndexMatchesNote note f = (f.size ≡ note.length) × (f.start ≡ note.start) × (f.end ≡ note.end) × (f.compression ≡ []) × (f.compressed ≡ note.size) × (f.uncompressed ≡ note.size)
+IndexMatchesNote note f = (f.size ≡ note.length) × (f.start ≡ note.start) × (f.end ≡ note.end) × (f.compression ≡ [])
+    × (f.compressed ≡ note.size) × (f.uncompressed ≡ note.size)
 
 abbrev pub IsOfChunk : ChunkNote → ChunkIndexFields → Type 0
 IsOfChunk note f = IndexMatchesNote note f × NamesNoted note f
@@ -54,7 +56,8 @@ pub record NotesIndex (tops : List Top) (k p : ℕ) (t : Top) (note : IndexNote)
 
 pub record NotesIndexes (tops : List Top) (k : ℕ) (notes : List IndexNote) : Type 0 where
   pub paired : length notes ≡ length (indexes_behind tops k)
-  pub noted : (p : ℕ) (note : IndexNote) (t : Top) → At notes p note → At (indexes_behind tops k) p t → NotesIndex tops k p t note
+  pub noted : (p : ℕ) (note : IndexNote) (t : Top) → At notes p note → At (indexes_behind tops k) p t
+      → NotesIndex tops k p t note
 
 -- this was noted of the chunk at that place, which names no compression
 pub record NotesChunk (tops : List Top) (k : ℕ) (t : Top) (note : ChunkNote) : Type 0 where

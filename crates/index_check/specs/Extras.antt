@@ -12,7 +12,8 @@ use Rattle.index_check.specs.Spots.{SpotsOf, NotesOf, NamedBy}
 
 -- an index has what was noted
 abbrev pub IsOfAttachment : AttachmentNote → AttachmentIndexFields → Type 0
-IsOfAttachment note f = (f.size ≡ note.length) × (f.log_time ≡ note.log_time) × (f.create_time ≡ note.create_time) × (f.payload_size ≡ note.payload_length) × (note.name ≡ f.name) × (note.media_type ≡ f.media_type)
+IsOfAttachment note f = (f.size ≡ note.length) × (f.log_time ≡ note.log_time) × (f.create_time ≡ note.create_time)
+    × (f.payload_size ≡ note.payload_length) × (note.name ≡ f.name) × (note.media_type ≡ f.media_type)
 
 abbrev pub IsOfMetadata : MetadataNote → MetadataIndexFields → Type 0
 IsOfMetadata note f = (f.size ≡ note.length) × (note.name ≡ f.name)

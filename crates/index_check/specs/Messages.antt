@@ -23,7 +23,8 @@ MessagesRise messages = AllPairs ByChannelNotBehind messages
 -- these are the Messages among the records, each once
 pub record HoldsMessages (records : List Top) (messages : List MessageHead) : Type 0 where
   pub are : (heard : MessageHead) → Has messages heard → IsEntryOf records heard.channel (entry_of heard)
-  pub all : (channel : ℕ) (entry : ℕ × ℕ) → IsEntryOf records channel entry → Has messages (message_at_entry channel entry)
+  pub all : (channel : ℕ) (entry : ℕ × ℕ) → IsEntryOf records channel entry
+      → Has messages (message_at_entry channel entry)
   pub once : AllPairs (λ a b. a.offset ≢ b.offset) messages
 
 -- the channel of each is one of these

@@ -15,7 +15,8 @@ abbrev pub IsOnlySpot : List Spot → ℕ → ℕ → Type 0
 IsOnlySpot spots offset place = (k : ℕ) (s : Spot) → At spots k s → s.offset ≡ offset → k ≡ place
 
 abbrev pub FindsSpot : List Spot → ℕ → Option ℕ → Type 0
-FindsSpot spots offset (Some place) = (s : Spot) × At spots place s × (s.offset ≡ offset) × IsOnlySpot spots offset place
+FindsSpot spots offset (Some place) =
+    (s : Spot) × At spots place s × (s.offset ≡ offset) × IsOnlySpot spots offset place
 FindsSpot spots offset None = (k : ℕ) (s : Spot) → At spots k s → s.offset ≡ offset → ⊥
 
 abbrev pub spot : ℕ → Bool → Spot
@@ -23,14 +24,18 @@ spot offset named = record { offset = offset; named = named }
 
 abbrev pub NamesSpot : List Spot → List Spot → ℕ → Naming → Type 0
 NamesSpot old new offset namings.Absent = ((k : ℕ) (s : Spot) → At old k s → s.offset ≡ offset → ⊥) × (new ≡ old)
-NamesSpot old new offset namings.Again = ((place : ℕ) × At old place (spot offset true) × IsOnlySpot old offset place) × (new ≡ old)
-NamesSpot old new offset (namings.First place) = At old place (spot offset false) × IsOnlySpot old offset place × (new ≡ slice_set old place (spot offset true))
+NamesSpot old new offset namings.Again =
+    ((place : ℕ) × At old place (spot offset true) × IsOnlySpot old offset place) × (new ≡ old)
+NamesSpot old new offset (namings.First place) =
+    At old place (spot offset false) × IsOnlySpot old offset place × (new ≡ slice_set old place (spot offset true))
 
 -- these are the places of all records of that kind
 pub record SpotsOf (Stands : Top → Type 0) (tops : List Top) (spots : List Spot) : Type 0 where
-  pub shown : (k : ℕ) (s : Spot) → At spots k s → (n : ℕ) × (t : Top) × At tops n t × Stands t × (s.offset ≡ offset_of tops n)
+  pub shown : (k : ℕ) (s : Spot) → At spots k s
+      → (n : ℕ) × (t : Top) × At tops n t × Stands t × (s.offset ≡ offset_of tops n)
   pub rises : Ascends spots
-  pub covers : (n : ℕ) (t : Top) → At tops n t → Stands t → (k : ℕ) × (s : Spot) × At spots k s × (s.offset ≡ offset_of tops n)
+  pub covers : (n : ℕ) (t : Top) → At tops n t → Stands t
+      → (k : ℕ) × (s : Spot) × At spots k s × (s.offset ≡ offset_of tops n)
 
 -- an index in front of that place names the offset
 abbrev pub NamedBefore : (Top → ℕ → Type 0) → List Top → ℕ → ℕ → Type 0
@@ -41,9 +46,11 @@ pub record NamedBy (Names : Top → ℕ → Type 0) (tops : List Top) (n : ℕ) 
   pub named : (k : ℕ) (s : Spot) → At spots k s → (s.named ≡ true) ↔ NamedBefore Names tops n s.offset
 
 -- each record at its place has its note
-pub record NotesOf {N : Type 0} (Notes : ℕ → Top → N → Type 0) (tops : List Top) (spots : List Spot) (notes : List N) : Type 0 where
+pub record NotesOf {N : Type 0} (Notes : ℕ → Top → N → Type 0) (tops : List Top) (spots : List Spot) (notes : List N)
+    : Type 0 where
   pub paired : length notes ≡ length spots
-  pub noted : (k n : ℕ) (s : Spot) (note : N) (t : Top) → At spots k s → At notes k note → At tops n t → s.offset ≡ offset_of tops n → Notes n t note
+  pub noted : (k n : ℕ) (s : Spot) (note : N) (t : Top) → At spots k s → At notes k note → At tops n t
+      → s.offset ≡ offset_of tops n → Notes n t note
 
 -- the record with the first name has a note that fits
 abbrev pub FitsNamed : {N : Type 0} → (N → Type 0) → List N → Naming → Type 0

@@ -14,7 +14,8 @@ IsStart places start = (start ≡ places.behind) ⊎ ((start ≡ 0) × (places.f
 
 -- the first Summary Offset of the summary
 abbrev pub IsFirstOffset : List Top → ℕ → Top → Type 0
-IsFirstOffset tops k t = At tops k t × InSummary tops k × (t.op ≡ summary_offset_opcode) × Each (λ u. u.op ≢ summary_offset_opcode) (behind_end (take k tops))
+IsFirstOffset tops k t = At tops k t × InSummary tops k × (t.op ≡ summary_offset_opcode)
+    × Each (λ u. u.op ≢ summary_offset_opcode) (behind_end (take k tops))
 
 abbrev pub FirstStands : List Top → Option ℕ → Type 0
 FirstStands tops (Some offset) = (k : ℕ) × (t : Top) × IsFirstOffset tops k t × (offset ≡ offset_of tops k)

@@ -32,8 +32,9 @@ CountsTallied map counts = (map ≡ []) ⊎ (AreCounts map counts × AreKeys map
 -- ---- the other numbers
 
 abbrev pub HasTallied : Tally → StatisticsFields → Type 0
-HasTallied t f = (f.messages ≡ t.messages) × (f.attachments ≡ t.attachments) × (f.metadata ≡ t.metadata) × (f.chunks ≡ t.chunks)
-    × (t.schemas.in_section ≤ f.schemas) × (f.schemas ≤ t.schemas.in_file) × (t.channels.in_section ≤ f.channels) × (f.channels ≤ t.channels.in_file)
+HasTallied t f = (f.messages ≡ t.messages) × (f.attachments ≡ t.attachments) × (f.metadata ≡ t.metadata)
+    × (f.chunks ≡ t.chunks) × (t.schemas.in_section ≤ f.schemas) × (f.schemas ≤ t.schemas.in_file)
+    × (t.channels.in_section ≤ f.channels) × (f.channels ≤ t.channels.in_file)
 
 -- ---- what was counted
 
@@ -48,7 +49,8 @@ pub record IdsAre (P : List Top → ℕ → Type 0) (section tops : List Top) (c
 
 -- each channel of these has its number, and no other channel has one
 pub record ChannelsCounted (channels : List ℕ) (counts : List (ℕ × ℕ)) : Type 0 where
-  pub right : (channel count : ℕ) → Has counts (channel, count) → Has channels channel × (count ≡ on_channel channels channel)
+  pub right : (channel count : ℕ) → Has counts (channel, count)
+      → Has channels channel × (count ≡ on_channel channels channel)
   pub all : (channel : ℕ) → Has channels channel → HasChannelCount counts channel
 
 -- this was counted of the data section

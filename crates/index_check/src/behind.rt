@@ -21,7 +21,9 @@ pub fn is_index_right(
     channels: &Ids,
     index: &MessageIndex<'_>,
 ) -> Result<bool, Memory>
-    ensures { IfOk result (λ right. (before : List Top) (content : List ℕ) → IsChunkOpen before messages.now channels.now → ShowsMessageIndex content index.now.channel_id index.now.entries
+    ensures { IfOk result (λ right. (before : List Top) (content : List ℕ)
+        → IsChunkOpen before messages.now channels.now
+        → ShowsMessageIndex content index.now.channel_id index.now.entries
         → IsTrue right ↔ BelongsTo before (top message_index_opcode content)) }
 {
     if channels.has(index.channel_id) {
@@ -33,7 +35,8 @@ pub fn is_index_right(
 /// Whether a chunk with these Messages has the Message Indexes that it needs, where those behind it are those of these
 /// channels, and a record of another kind follows: there is none, or each channel with a Message in the chunk has one.
 pub fn has_indexes(messages: &ChunkMessages, channels: &Ids) -> bool
-    ensures { (before after : List Top) (t : Top) (o : IsChunkOpen before messages.now channels.now) → (t.op ≡ message_index_opcode → ⊥)
+    ensures { (before after : List Top) (t : Top) (o : IsChunkOpen before messages.now channels.now)
+        → (t.op ≡ message_index_opcode → ⊥)
         → IsTrue result ↔ IsIndexed (before ++ t ∷ after) (length o.others) o.chunk }
 {
     if channels.is_empty() {

@@ -228,7 +228,8 @@ fn make_place(places: &mut Vec<usize>, indexes: usize) -> Result<(), Memory> {
 impl ChunkNote {
     // Adds a Message Index behind the others.
     fn add(&mut self, offset: u64, length: u64, index: &MessageIndex<'_>) -> Result<(), Memory>
-        ensures { OnOk result (AddsIndex self.old self.new (record { channel = index.now.channel_id; offset = offset; entries = size index.now.entries }) length) }
+        ensures { OnOk result (AddsIndex self.old self.new
+            (record { channel = index.now.channel_id; offset = offset; entries = size index.now.entries }) length) }
     {
         match self.indexes.push(IndexNote {
             channel: index.channel_id,
@@ -267,8 +268,12 @@ impl Chunks {
         messages: bool,
     ) -> Result<(), Memory>
         requires { Each (λ s. s.offset < offset) self.old.spots }
-        ensures kept { OnOk result ((tops : List Top) (content : List ℕ) → ChunksOf tops self.old → offset ≡ offset_behind tops → length ≡ size (top_bytes (top chunk_opcode content)) → ShowsChunk content (chunk_fields chunk.now)
-            → chunk.now.compression.now ≡ [] → chunk.now.uncompressed_size ≡ size chunk.now.records.now → (messages ≡ true) ↔ HasMessage (inner_tops (top chunk_opcode content)) → ChunksOf (tops ++ top chunk_opcode content ∷ []) self.new) }
+        ensures kept { OnOk result ((tops : List Top) (content : List ℕ) → ChunksOf tops self.old
+            → offset ≡ offset_behind tops → length ≡ size (top_bytes (top chunk_opcode content))
+            → ShowsChunk content (chunk_fields chunk.now) → chunk.now.compression.now ≡ []
+            → chunk.now.uncompressed_size ≡ size chunk.now.records.now
+            → (messages ≡ true) ↔ HasMessage (inner_tops (top chunk_opcode content))
+            → ChunksOf (tops ++ top chunk_opcode content ∷ []) self.new) }
         ensures unnamed { OnOk result (self.new.spots ≡ self.old.spots ++ spot offset false ∷ []) }
     {
         match self.spots.add(offset) {
@@ -297,8 +302,11 @@ impl Chunks {
         length: u64,
         index: &MessageIndex<'_>,
     ) -> Result<(), Memory>
-        ensures kept { OnOk result ((tops : List Top) (content : List ℕ) → ChunksOf tops self.old → EndsWithChunk tops → offset ≡ offset_behind tops → offset + length < 2 ^ 64 → length ≡ size (top_bytes (top message_index_opcode content))
-            → ShowsMessageIndex content index.now.channel_id index.now.entries → ChunksOf (tops ++ top message_index_opcode content ∷ []) self.new) }
+        ensures kept { OnOk result ((tops : List Top) (content : List ℕ) → ChunksOf tops self.old → EndsWithChunk tops
+            → offset ≡ offset_behind tops → offset + length < 2 ^ 64
+            → length ≡ size (top_bytes (top message_index_opcode content))
+            → ShowsMessageIndex content index.now.channel_id index.now.entries
+            → ChunksOf (tops ++ top message_index_opcode content ∷ []) self.new) }
         ensures spots { self.new.spots ≡ self.old.spots }
     {
         let count = self.notes.len();
@@ -319,9 +327,11 @@ impl Chunks {
     /// and sizes; and whether its map is empty, or names the Message Indexes behind the chunk: none else, all that have
     /// entries, and their length together. It counts as an index of that chunk from then on.
     pub fn take_index(&mut self, index: &ChunkIndex<'_>) -> bool
-        ensures right { (tops : List Top) (n : ℕ) → ChunksOf tops self.old → ChunksNamed tops n self.old → IsTrue result ↔ ChunkIndexIsRight tops n (chunk_index_fields index.now) }
+        ensures right { (tops : List Top) (n : ℕ) → ChunksOf tops self.old → ChunksNamed tops n self.old
+            → IsTrue result ↔ ChunkIndexIsRight tops n (chunk_index_fields index.now) }
         ensures kept { (tops : List Top) → ChunksOf tops self.old → ChunksOf tops self.new }
-        ensures named { (tops : List Top) (n : ℕ) (t : Top) → ChunksNamed tops n self.old → At tops n t → IsChunkIndex t (chunk_index_fields index.now) → ChunksNamed tops (suc n) self.new }
+        ensures named { (tops : List Top) (n : ℕ) (t : Top) → ChunksNamed tops n self.old → At tops n t
+            → IsChunkIndex t (chunk_index_fields index.now) → ChunksNamed tops (suc n) self.new }
     {
         let naming = self.spots.name(index.chunk_start_offset);
         fits_chunk(naming, &self.notes, index, &mut self.places)
@@ -329,7 +339,8 @@ impl Chunks {
 
     /// Whether the chunk at that offset holds a Message.
     pub fn holds_messages(&self, offset: u64) -> bool
-        ensures { (tops : List Top) (n : ℕ) (t : Top) → ChunksOf tops self.now → At tops n t → t.op ≡ chunk_opcode → offset ≡ offset_of tops n → IsTrue result ↔ HasMessage (inner_tops t) }
+        ensures { (tops : List Top) (n : ℕ) (t : Top) → ChunksOf tops self.now → At tops n t → t.op ≡ chunk_opcode
+            → offset ≡ offset_of tops n → IsTrue result ↔ HasMessage (inner_tops t) }
     {
         match self.spots.place_of(offset) {
             None => return false,

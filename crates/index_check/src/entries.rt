@@ -69,7 +69,8 @@ pub(crate) fn are_entries(
     channel: u16,
     entries: &EntriesRef<'_>,
 ) -> Result<bool, Memory>
-    ensures { IfOk result (λ right. (records : List Top) → HoldsMessages records messages.now → IsTrue right ↔ AreEntries records channel entries.now) }
+    ensures { IfOk result (λ right. (records : List Top) → HoldsMessages records messages.now
+        → IsTrue right ↔ AreEntries records channel entries.now) }
 {
     let run = messages.on_channel(channel);
     if are_listed(run, entries) {

@@ -71,7 +71,8 @@ fn is_of_metadata(note: &MetadataNote, index: &MetadataIndex<'_>) -> bool
 
 // Whether an Attachment that was named first is that of the index.
 fn fits_attachment(naming: Naming, notes: &[AttachmentNote], index: &AttachmentIndex<'_>) -> bool
-    ensures { IsTrue result ↔ FitsNamed (λ note. IsOfAttachment note (attachment_index_fields index.now)) notes.now naming }
+    ensures { IsTrue result
+        ↔ FitsNamed (λ note. IsOfAttachment note (attachment_index_fields index.now)) notes.now naming }
 {
     match naming {
         Naming::First { place } => match notes.get(place) {
@@ -118,7 +119,9 @@ impl Attachments {
         attachment: &Attachment<'_>,
     ) -> Result<(), Memory>
         requires { Each (λ s. s.offset < offset) self.old.spots }
-        ensures kept { OnOk result ((tops : List Top) (content : List ℕ) → AttachmentsOf tops self.old → offset ≡ offset_behind tops → length ≡ size (top_bytes (top attachment_opcode content)) → ShowsAttachment content (attachment_fields attachment.now)
+        ensures kept { OnOk result ((tops : List Top) (content : List ℕ) → AttachmentsOf tops self.old
+            → offset ≡ offset_behind tops → length ≡ size (top_bytes (top attachment_opcode content))
+            → ShowsAttachment content (attachment_fields attachment.now)
             → AttachmentsOf (tops ++ top attachment_opcode content ∷ []) self.new) }
         ensures unnamed { OnOk result (self.new.spots ≡ self.old.spots ++ spot offset false ∷ []) }
     {
@@ -148,9 +151,11 @@ impl Attachments {
     /// Whether an Attachment Index, behind others, has the offset of an Attachment that none of them has, and repeats its
     /// length and its fields. It counts as an index of that Attachment from then on.
     pub fn take_index(&mut self, index: &AttachmentIndex<'_>) -> bool
-        ensures right { (tops : List Top) (n : ℕ) → AttachmentsOf tops self.old → AttachmentsNamed tops n self.old → IsTrue result ↔ AttachmentIndexIsRight tops n (attachment_index_fields index.now) }
+        ensures right { (tops : List Top) (n : ℕ) → AttachmentsOf tops self.old → AttachmentsNamed tops n self.old
+            → IsTrue result ↔ AttachmentIndexIsRight tops n (attachment_index_fields index.now) }
         ensures kept { (tops : List Top) → AttachmentsOf tops self.old → AttachmentsOf tops self.new }
-        ensures named { (tops : List Top) (n : ℕ) (t : Top) → AttachmentsNamed tops n self.old → At tops n t → IsAttachmentIndex t (attachment_index_fields index.now) → AttachmentsNamed tops (suc n) self.new }
+        ensures named { (tops : List Top) (n : ℕ) (t : Top) → AttachmentsNamed tops n self.old → At tops n t
+            → IsAttachmentIndex t (attachment_index_fields index.now) → AttachmentsNamed tops (suc n) self.new }
     {
         let naming = self.spots.name(index.offset);
         fits_attachment(naming, &self.notes, index)
@@ -178,7 +183,9 @@ impl MetadataList {
         metadata: &Metadata<'_>,
     ) -> Result<(), Memory>
         requires { Each (λ s. s.offset < offset) self.old.spots }
-        ensures kept { OnOk result ((tops : List Top) (content : List ℕ) → MetadataOf tops self.old → offset ≡ offset_behind tops → length ≡ size (top_bytes (top metadata_opcode content)) → ShowsMetadata content (record { name = metadata.now.name.now; metadata = metadata.now.metadata })
+        ensures kept { OnOk result ((tops : List Top) (content : List ℕ) → MetadataOf tops self.old
+            → offset ≡ offset_behind tops → length ≡ size (top_bytes (top metadata_opcode content))
+            → ShowsMetadata content (record { name = metadata.now.name.now; metadata = metadata.now.metadata })
             → MetadataOf (tops ++ top metadata_opcode content ∷ []) self.new) }
         ensures unnamed { OnOk result (self.new.spots ≡ self.old.spots ++ spot offset false ∷ []) }
     {
@@ -198,9 +205,12 @@ impl MetadataList {
     /// Whether a Metadata Index, behind others, has the offset of a Metadata record that none of them has, and repeats its
     /// length and its name. It counts as an index of that record from then on.
     pub fn take_index(&mut self, index: &MetadataIndex<'_>) -> bool
-        ensures right { (tops : List Top) (n : ℕ) → MetadataOf tops self.old → MetadataNamed tops n self.old → IsTrue result ↔ MetadataIndexIsRight tops n index.now.offset index.now.length index.now.name.now }
+        ensures right { (tops : List Top) (n : ℕ) → MetadataOf tops self.old → MetadataNamed tops n self.old
+            → IsTrue result ↔ MetadataIndexIsRight tops n index.now.offset index.now.length index.now.name.now }
         ensures kept { (tops : List Top) → MetadataOf tops self.old → MetadataOf tops self.new }
-        ensures named { (tops : List Top) (n : ℕ) (t : Top) → MetadataNamed tops n self.old → At tops n t → IsMetadataIndex t index.now.offset index.now.length index.now.name.now → MetadataNamed tops (suc n) self.new }
+        ensures named { (tops : List Top) (n : ℕ) (t : Top) → MetadataNamed tops n self.old → At tops n t
+            → IsMetadataIndex t index.now.offset index.now.length index.now.name.now
+            → MetadataNamed tops (suc n) self.new }
     {
         let naming = self.spots.name(index.offset);
         fits_metadata(naming, &self.notes, index)

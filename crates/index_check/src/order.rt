@@ -39,7 +39,8 @@ impl Order {
     /// Whether a known record of that opcode may stand behind these: the last of them has its opcode or none has, there is
     /// one Statistics, and behind Summary Offsets stand such alone.
     pub fn is_in_place(&self, op: u8) -> bool
-        ensures { (before : List Top) (t : Top) → OrderOf before self.now → t.op ≡ op → IsTrue result ↔ IsInPlace before t }
+        ensures { (before : List Top) (t : Top) → OrderOf before self.now → t.op ≡ op
+            → IsTrue result ↔ IsInPlace before t }
     {
         if !self.keeps_offsets_last(op) {
             return false;
@@ -58,7 +59,8 @@ impl Order {
 
     /// Adds a record of that opcode behind the others.
     pub fn add(&mut self, op: u8) -> Result<(), Memory>
-        ensures { OnOk result ((before : List Top) (t : Top) → OrderOf before self.old → t.op ≡ op → OrderOf (before ++ t ∷ []) self.new) }
+        ensures { OnOk result ((before : List Top) (t : Top) → OrderOf before self.old → t.op ≡ op
+            → OrderOf (before ++ t ∷ []) self.new) }
     {
         match self.ops.add_once(op as u16) {
             Ok(()) => {}

@@ -11,7 +11,8 @@ use rec_data::Footer;
 /// Whether the CRC in a Footer is that of the bytes from the summary's start through the first 25 bytes of the Footer, where
 /// it names a summary and a CRC.
 pub fn is_crc_right(covered: &[u8], footer: &Footer) -> bool
-    ensures { (file : List ℕ) (tops : List Top) (n : ℕ) (t : Top) → is_last tops n → IsFooter t footer.now.summary_start footer.now.summary_offset_start footer.now.summary_crc
+    ensures { (file : List ℕ) (tops : List Top) (n : ℕ) (t : Top) → is_last tops n
+        → IsFooter t footer.now.summary_start footer.now.summary_offset_start footer.now.summary_crc
         → covered.now ≡ part footer.now.summary_start (offset_of tops n + 25) file → IsTrue result ↔ V16 file tops n t }
 {
     if footer.summary_start == 0 {

@@ -38,7 +38,8 @@ impl SummaryPlaces {
 
     /// Whether a Footer names the start of the summary and its first Summary Offset.
     pub fn are_named(&self, footer: &Footer) -> bool
-        ensures { (tops : List Top) (n : ℕ) → PlacesOf tops n self.now → IsTrue result ↔ NamesSummary tops n footer.now.summary_start footer.now.summary_offset_start }
+        ensures { (tops : List Top) (n : ℕ) → PlacesOf tops n self.now
+            → IsTrue result ↔ NamesSummary tops n footer.now.summary_start footer.now.summary_offset_start }
     {
         if !self.is_start(footer.summary_start) {
             return false;

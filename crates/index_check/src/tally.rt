@@ -166,7 +166,8 @@ impl Tally {
 
     /// Whether Statistics count the data section right.
     pub fn is_right(&self, statistics: &Statistics<'_>) -> bool
-        ensures { (tops section : List Top) → TallyOf tops section self.now → IsTrue result ↔ StatisticsAreRight tops (statistics_fields statistics.now) }
+        ensures { (tops section : List Top) → TallyOf tops section self.now
+            → IsTrue result ↔ StatisticsAreRight tops (statistics_fields statistics.now) }
     {
         if !self.has_numbers(statistics) {
             return false;

@@ -25,7 +25,8 @@ pub record AreLeads (tops : List Top) (offsets : List ℕ) (leads : List Lead) :
 
 -- no two that lead to one chunk stand at different offsets
 abbrev pub HaveOne : List Top → List ℕ → Type 0
-HaveOne tops offsets = (j k : ℕ) (one other : Lead) → Leads tops offsets j one → Leads tops offsets k other → one.chunk ≡ other.chunk → one.at ≡ other.at
+HaveOne tops offsets = (j k : ℕ) (one other : Lead) → Leads tops offsets j one → Leads tops offsets k other
+    → one.chunk ≡ other.chunk → one.at ≡ other.at
 
 -- two lead to one chunk, and the later one stands at that offset
 pub record HaveTwo (tops : List Top) (offsets : List ℕ) (offset : ℕ) : Type 0 where

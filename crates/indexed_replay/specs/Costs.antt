@@ -34,8 +34,11 @@ LacksList file at = (t : Top) → IsThere file at t → t.op ≡ message_index_o
 -- What its reading asks for: all of it and the messages in the range; or all of what stands there as a Message Index, which
 -- isn't one of that channel; or the head of what else stands there.
 pub data ListCost (file : List ℕ) (range : Range) (spot : Spot) : ℕ → Type 0 where
-  own_list : (list : Top) (entries : List (ℕ × ℕ)) → IsThere file spot.list list → IsMessageIndex list spot.channel entries → ListCost file range spot (length (top_bytes list) + entries_cost file range spot.chunk entries)
-  other_list : (list : Top) → IsThere file spot.list list → list.op ≡ message_index_opcode → LacksIndex file spot.channel spot.list → ListCost file range spot (length (top_bytes list))
+  own_list : (list : Top) (entries : List (ℕ × ℕ)) → IsThere file spot.list list
+      → IsMessageIndex list spot.channel entries
+      → ListCost file range spot (length (top_bytes list) + entries_cost file range spot.chunk entries)
+  other_list : (list : Top) → IsThere file spot.list list → list.op ≡ message_index_opcode
+      → LacksIndex file spot.channel spot.list → ListCost file range spot (length (top_bytes list))
   no_list : LacksList file spot.list → ListCost file range spot head_length
 
 -- ---- what is asked for of it
@@ -68,24 +71,33 @@ spot_of chunk named = record { chunk = chunk; list = named.1; channel = named.0 
 -- such a one, at which a replay ends.
 pub data NamesCost (file : List ℕ) (range : Range) (chunk : ℕ) : List (ℕ × ℕ) → ℕ → Bool → Type 0 where
   no_name : NamesCost file range chunk [] 0 false
-  next_name : (named : ℕ × ℕ) (others : List (ℕ × ℕ)) (cost rest : ℕ) (ends : Bool) → ListCost file range (spot_of chunk named) cost → NamesCost file range chunk others rest ends → NamesCost file range chunk (named ∷ others) (cost + rest) ends
-  last_name : (named : ℕ × ℕ) (others : List (ℕ × ℕ)) (cost : ℕ) → ListCost file range (spot_of chunk named) cost → LacksIndex file named.0 named.1 → NamesCost file range chunk (named ∷ others) cost true
+  next_name : (named : ℕ × ℕ) (others : List (ℕ × ℕ)) (cost rest : ℕ) (ends : Bool)
+      → ListCost file range (spot_of chunk named) cost → NamesCost file range chunk others rest ends
+      → NamesCost file range chunk (named ∷ others) (cost + rest) ends
+  last_name : (named : ℕ × ℕ) (others : List (ℕ × ℕ)) (cost : ℕ) → ListCost file range (spot_of chunk named) cost
+      → LacksIndex file named.0 named.1 → NamesCost file range chunk (named ∷ others) cost true
 
 -- What a Chunk Index costs, and whether a replay ends there. An empty map costs nothing. Of a chunk without a compression it is
 -- what stands in front of its records, and what its Message Indexes cost; of one that names a compression its front with that
 -- name besides; and of what is no chunk as much as such a front has.
 pub data ChunkCost (file : List ℕ) (range : Range) (f : ChunkIndexFields) : ℕ → Bool → Type 0 where
   empty_map : f.indexes ≡ [] → ChunkCost file range f 0 false
-  plain_chunk : (end cost : ℕ) (ends : Bool) → ChunkEndsAt file f.offset end → NamesCost file range f.offset f.indexes cost ends → ChunkCost file range f (plain_length + cost) ends
-  compressed_chunk : (size : ℕ) → f.indexes ≢ [] → IsPackedAs file f.offset size → ChunkCost file range f (plain_length + (front_length + size)) true
-  lacking_chunk : f.indexes ≢ [] → ((end : ℕ) → ChunkEndsAt file f.offset end → ⊥) → ((size : ℕ) → IsPackedAs file f.offset size → ⊥) → ChunkCost file range f plain_length true
+  plain_chunk : (end cost : ℕ) (ends : Bool) → ChunkEndsAt file f.offset end
+      → NamesCost file range f.offset f.indexes cost ends → ChunkCost file range f (plain_length + cost) ends
+  compressed_chunk : (size : ℕ) → f.indexes ≢ [] → IsPackedAs file f.offset size
+      → ChunkCost file range f (plain_length + (front_length + size)) true
+  lacking_chunk : f.indexes ≢ [] → ((end : ℕ) → ChunkEndsAt file f.offset end → ⊥)
+      → ((size : ℕ) → IsPackedAs file f.offset size → ⊥) → ChunkCost file range f plain_length true
 
 -- At most so much of the chunk of that Chunk Index, where it meets the range; and a replay doesn't end there.
 abbrev pub CostsUpTo : List ℕ → Range → Top → ℕ → Type 0
-CostsUpTo file range t cost = (f : ChunkIndexFields) → IsChunkIndex t f → Meets range f → (n : ℕ) × ChunkCost file range f n false × (n ≤ cost)
+CostsUpTo file range t cost =
+    (f : ChunkIndexFields) → IsChunkIndex t f → Meets range f → (n : ℕ) × ChunkCost file range f n false × (n ≤ cost)
 
 -- what the Chunk Indexes cost one after the other, up to the first that meets the range and at which a replay ends
 pub data IndexesCost (file : List ℕ) (range : Range) : List Top → ℕ → Type 0 where
   no_index : IndexesCost file range [] 0
-  next_index : (t : Top) (others : List Top) (cost rest : ℕ) → CostsUpTo file range t cost → IndexesCost file range others rest → IndexesCost file range (t ∷ others) (cost + rest)
-  last_index : (t : Top) (others : List Top) (f : ChunkIndexFields) (cost : ℕ) → IsChunkIndex t f → Meets range f → ChunkCost file range f cost true → IndexesCost file range (t ∷ others) cost
+  next_index : (t : Top) (others : List Top) (cost rest : ℕ) → CostsUpTo file range t cost
+      → IndexesCost file range others rest → IndexesCost file range (t ∷ others) (cost + rest)
+  last_index : (t : Top) (others : List Top) (f : ChunkIndexFields) (cost : ℕ) → IsChunkIndex t f → Meets range f
+      → ChunkCost file range f cost true → IndexesCost file range (t ∷ others) cost

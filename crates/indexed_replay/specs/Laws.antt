@@ -28,7 +28,9 @@ pub record IsInOrder (file : List ℕ) (tops : List Top) : Type 0 where
 
 -- a rule for which the summary of such a file isn't loaded fails in the file
 abbrev pub LoadsTellFlaws : Type 0
-LoadsTellFlaws = (file : List ℕ) (tops : List Top) → IsInOrder file tops → length file < 2 ^ 64 → (rule : Rule) (offset : ℕ) → IsLoadRefused file (by_index.Refused (refusals.Grammar offset rule)) → Flaw file rule offset
+LoadsTellFlaws = (file : List ℕ) (tops : List Top) → IsInOrder file tops → length file < 2 ^ 64
+    → (rule : Rule) (offset : ℕ) → IsLoadRefused file (by_index.Refused (refusals.Grammar offset rule))
+    → Flaw file rule offset
 
 -- Besides no rule fails anywhere: the file is valid, but perhaps for chunks that name a compression.
 pub record IsFlawless (file : List ℕ) (tops : List Top) : Type 0 where
@@ -49,8 +51,9 @@ IsOutside (by_index.Refused refusals.Memory) = Unit {0}
 
 -- a file in which no rule fails and whose Footer names a summary isn't refused for what stands in it
 abbrev pub FlawlessFilesAreLoaded : Type 0
-FlawlessFilesAreLoaded = (file : List ℕ) (tops : List Top) (footer : Footer) → IsFlawless file tops → length file < 2 ^ 64 → EndsIn file footer → footer.summary_start ≢ 0
-    → (why : IndexedRefused) → IsLoadRefused file why → IsOutside why
+FlawlessFilesAreLoaded = (file : List ℕ) (tops : List Top) (footer : Footer) → IsFlawless file tops
+    → length file < 2 ^ 64 → EndsIn file footer → footer.summary_start ≢ 0 → (why : IndexedRefused)
+    → IsLoadRefused file why → IsOutside why
 
 -- Besides each content can be read (V6), each chunk is right (V8), and none names a compression; and where a Chunk Index leads
 -- to, a record of the file stands.
@@ -59,12 +62,17 @@ pub record IsReadable (file : List ℕ) (tops : List Top) : Type 0 where
   pub layouts : Each V6 tops
   pub chunks : Each V8 tops
   pub plain : Each IsPlain tops
-  pub lead : (n : ℕ) (t : Top) (f : ChunkIndexFields) → At tops n t → IsChunkIndex t f → (c : Top) × StandsAt tops f.offset c
+  pub lead : (n : ℕ) (t : Top) (f : ChunkIndexFields) → At tops n t → IsChunkIndex t f
+      → (c : Top) × StandsAt tops f.offset c
 
 -- a rule for which such a file isn't replayed by its index fails in the file, unless it has no summary
 abbrev pub ReplaysTellFlaws : Type 0
-ReplaysTellFlaws = (file : List ℕ) (tops : List Top) (range : Range) → IsReadable file tops → (HasNoSummary file → ⊥) → length file < 2 ^ 64 → (rule : Rule) (offset : ℕ) → IsReason file range (by_index.Refused (refusals.Grammar offset rule)) → Flaw file rule offset
+ReplaysTellFlaws = (file : List ℕ) (tops : List Top) (range : Range) → IsReadable file tops → (HasNoSummary file → ⊥)
+    → length file < 2 ^ 64 → (rule : Rule) (offset : ℕ)
+    → IsReason file range (by_index.Refused (refusals.Grammar offset rule)) → Flaw file rule offset
 
 -- the messages of a fully indexed file that is read to its Data End are never too much
 abbrev pub FullFilesHaveRoom : Type 0
-FullFilesHaveRoom = (file : List ℕ) (tops : List Top) (end : ℕ) (messages : List Seen) (range : Range) (offset : ℕ) → IsFullyIndexed file → Halts reading_limits file tops (at_end end) → Scan tops messages → IsTooMuch file range offset → ⊥
+FullFilesHaveRoom = (file : List ℕ) (tops : List Top) (end : ℕ) (messages : List Seen) (range : Range) (offset : ℕ)
+    → IsFullyIndexed file → Halts reading_limits file tops (at_end end) → Scan tops messages
+    → IsTooMuch file range offset → ⊥

@@ -48,8 +48,10 @@ pub record KnowsSummaryChannels (file : List ℕ) (channels : List Declared) : T
   pub summary : List Top
   pub has : HasSummary file start summary
   pub declare : DeclareChannels channels
-  pub first : (k : ℕ) (d : Declared) (f : ChannelFields) → At channels k d → IsChannel (top channel_opcode d.content) d.id f → FirstTopic summary d.id f.topic
-  pub covers : (t : Top) (id : ℕ) (f : ChannelFields) → Has summary t → IsChannel t id f → (k : ℕ) × (d : Declared) × At channels k d × (d.id ≡ id)
+  pub first : (k : ℕ) (d : Declared) (f : ChannelFields) → At channels k d
+      → IsChannel (top channel_opcode d.content) d.id f → FirstTopic summary d.id f.topic
+  pub covers : (t : Top) (id : ℕ) (f : ChannelFields) → Has summary t → IsChannel t id f
+      → (k : ℕ) × (d : Declared) × At channels k d × (d.id ≡ id)
 
 -- ---- entries
 
@@ -59,28 +61,40 @@ HasTimely range entries = (entry : ℕ × ℕ) × Has entries entry × InRange r
 -- ---- a Message Index of some content
 
 -- one of its entries leads to the message, whose channel is wanted
-pub record IsShownBy (file : List ℕ) (request : Request) (spot : Spot) (entries : List (ℕ × ℕ)) (s : Shown) : Type 0 where
+pub record IsShownBy (file : List ℕ) (request : Request) (spot : Spot) (entries : List (ℕ × ℕ)) (s : Shown)
+    : Type 0 where
   pub listed : IsLedInRange file request.range spot entries s
   pub wanted : IsWantedChannel request.tables.now.channels s.channel (asked_topic request.topic)
 
 -- why its messages aren't shown: that of an entry in the range can't be read, or there is one and no Channel; or there is too much
 -- data beside these
-pub data ContentRefused (file : List ℕ) (request : Request) (spot : Spot) (entries : List (ℕ × ℕ)) (old : List Shown) : IndexedRefused → Type 0 where
-  at_entry : (why : ReadingRefused) → EntriesRefused file request.range spot entries why → ContentRefused file request spot entries old (by_index.Refused why)
-  no_channel : HasTimely request.range entries → Undeclared request.tables.now.channels spot.channel → ContentRefused file request spot entries old (by_index.NotIndexed (lacks.NoChannel spot.channel))
-  too_much : (why : IndexedRefused) → OverfullAt (IsShownBy file request spot entries) (IsShownBy file request spot entries) spot.list file old why → ContentRefused file request spot entries old why
+pub data ContentRefused (file : List ℕ) (request : Request) (spot : Spot) (entries : List (ℕ × ℕ)) (old : List Shown)
+    : IndexedRefused → Type 0 where
+  at_entry : (why : ReadingRefused) → EntriesRefused file request.range spot entries why
+      → ContentRefused file request spot entries old (by_index.Refused why)
+  no_channel : HasTimely request.range entries → Undeclared request.tables.now.channels spot.channel
+      → ContentRefused file request spot entries old (by_index.NotIndexed (lacks.NoChannel spot.channel))
+  too_much : (why : IndexedRefused)
+      → OverfullAt (IsShownBy file request spot entries) (IsShownBy file request spot entries) spot.list file old why
+      → ContentRefused file request spot entries old why
 
-abbrev pub ContentShown : List ℕ → Request → Spot → List (ℕ × ℕ) → (List Shown × List Shown) → Result Bool IndexedRefused → Type 0
-ContentShown file request spot entries shown (Ok true) = AddsEachOnce (IsShownBy file request spot entries) shown.0 shown.1
+abbrev pub ContentShown : List ℕ → Request → Spot → List (ℕ × ℕ) → (List Shown × List Shown)
+    → Result Bool IndexedRefused → Type 0
+ContentShown file request spot entries shown (Ok true) =
+    AddsEachOnce (IsShownBy file request spot entries) shown.0 shown.1
 ContentShown file request spot entries shown (Ok false) = LacksListed file request.range spot entries
 ContentShown file request spot entries shown (Err why) = ContentRefused file request spot entries shown.0 why
 
-abbrev pub ShowsContent : Option (List ℕ) → Request → Spot → List ℕ → (List Shown × List Shown) → Result Bool IndexedRefused → Type 0
-ShowsContent told request spot content shown result = (file : List ℕ) (entries : List (ℕ × ℕ)) → told ≡ Some file → length file ≡ request.len → DeclareChannels request.tables.now.channels → ShowsMessageIndex content spot.channel entries
-    → ContentShown file request spot entries shown result
+abbrev pub ShowsContent : Option (List ℕ) → Request → Spot → List ℕ → (List Shown × List Shown)
+    → Result Bool IndexedRefused → Type 0
+ShowsContent told request spot content shown result = (file : List ℕ) (entries : List (ℕ × ℕ)) → told ≡ Some file
+    → length file ≡ request.len → DeclareChannels request.tables.now.channels
+    → ShowsMessageIndex content spot.channel entries → ContentShown file request spot entries shown result
 
 abbrev pub AsksContent : Request → Spot → List ℕ → StoreState → StoreState → Type 0
-AsksContent request spot content old new = (file : List ℕ) (entries : List (ℕ × ℕ)) → old.bytes ≡ Some file → length file ≡ request.len → ShowsMessageIndex content spot.channel entries → new.asked ≤ old.asked + entries_cost file request.range spot.chunk entries
+AsksContent request spot content old new = (file : List ℕ) (entries : List (ℕ × ℕ)) → old.bytes ≡ Some file
+    → length file ≡ request.len → ShowsMessageIndex content spot.channel entries
+    → new.asked ≤ old.asked + entries_cost file request.range spot.chunk entries
 
 -- ---- a Message Index
 
@@ -96,22 +110,29 @@ pub record IsLedOnChannel (file : List ℕ) (request : Request) (spot : Spot) (s
 
 -- why its messages aren't shown, where a Chunk Index that is reached at that offset names it
 abbrev pub ListRefused : List ℕ → Request → ℕ → Spot → IndexedRefused → Type 0
-ListRefused file request at spot why = (f : ChunkIndexFields) → f.offset ≡ spot.chunk → NamesOffset file request.range at f spot.channel spot.list → IsReason file request.range why
+ListRefused file request at spot why = (f : ChunkIndexFields) → f.offset ≡ spot.chunk
+    → NamesOffset file request.range at f spot.channel spot.list → IsReason file request.range why
 
 -- one of its entries leads to no message, where a Chunk Index that is reached at that offset names it
 abbrev pub ListAstray : List ℕ → Request → ℕ → Spot → Type 0
-ListAstray file request at spot = (f : ChunkIndexFields) → f.offset ≡ spot.chunk → NamesOffset file request.range at f spot.channel spot.list → LeadsNowhere file request.range at f spot.channel spot.list
+ListAstray file request at spot = (f : ChunkIndexFields) → f.offset ≡ spot.chunk
+    → NamesOffset file request.range at f spot.channel spot.list
+    → LeadsNowhere file request.range at f spot.channel spot.list
 
 abbrev pub ListShown : List ℕ → Request → ℕ → Spot → (List Shown × List Shown) → Result Bool IndexedRefused → Type 0
 ListShown file request at spot shown (Ok true) = AddsEachOnce (IsLedBy file request spot) shown.0 shown.1
 ListShown file request at spot shown (Ok false) = ListAstray file request at spot
-ListShown file request at spot shown (Err why) = ListRefused file request at spot why ⊎ OverfullAt (IsLedOnChannel file request spot) (IsLedOnChannel file request spot) spot.list file shown.0 why
+ListShown file request at spot shown (Err why) = ListRefused file request at spot why
+    ⊎ OverfullAt (IsLedOnChannel file request spot) (IsLedOnChannel file request spot) spot.list file shown.0 why
 
-abbrev pub ShowsList : Option (List ℕ) → Request → ℕ → Spot → (List Shown × List Shown) → Result Bool IndexedRefused → Type 0
-ShowsList told request at spot shown result = (file : List ℕ) → told ≡ Some file → length file ≡ request.len → KnowsSummaryChannels file request.tables.now.channels → ListShown file request at spot shown result
+abbrev pub ShowsList : Option (List ℕ) → Request → ℕ → Spot → (List Shown × List Shown) → Result Bool IndexedRefused
+    → Type 0
+ShowsList told request at spot shown result = (file : List ℕ) → told ≡ Some file → length file ≡ request.len
+    → KnowsSummaryChannels file request.tables.now.channels → ListShown file request at spot shown result
 
 abbrev pub AsksList : Request → Spot → StoreState → StoreState → Type 0
-AsksList request spot old new = (file : List ℕ) (cost : ℕ) → old.bytes ≡ Some file → length file ≡ request.len → ListCost file request.range spot cost → new.asked ≤ old.asked + cost
+AsksList request spot old new = (file : List ℕ) (cost : ℕ) → old.bytes ≡ Some file → length file ≡ request.len
+    → ListCost file request.range spot cost → new.asked ≤ old.asked + cost
 
 -- it is there, unless its messages aren't shown
 abbrev pub IsListFound : List ℕ → Spot → Result Bool IndexedRefused → Type 0

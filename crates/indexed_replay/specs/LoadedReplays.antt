@@ -34,7 +34,9 @@ CountsJudged parts (Err (lacks.NoChannel id)) = ⊥
 
 -- a file of these parts is played
 abbrev pub PlaysLoaded : Option (List ℕ) → Parts → Range → Option (List ℕ) → Result Replayed IndexedRefused → Type 0
-PlaysLoaded told parts range topic result = (file : List ℕ) → told ≡ Some file → IsLoaded file parts → FileIsLed file range topic result
+PlaysLoaded told parts range topic result =
+    (file : List ℕ) → told ≡ Some file → IsLoaded file parts → FileIsLed file range topic result
 
 abbrev pub AsksLoaded : Parts → Range → StoreState → StoreState → Type 0
-AsksLoaded parts range old new = (file : List ℕ) (cost : ℕ) → old.bytes ≡ Some file → IsLoaded file parts → IndexesCost file range parts.chunk_indexes cost → AskedBeside file range old.asked new.asked cost
+AsksLoaded parts range old new = (file : List ℕ) (cost : ℕ) → old.bytes ≡ Some file → IsLoaded file parts
+    → IndexesCost file range parts.chunk_indexes cost → AskedBeside file range old.asked new.asked cost

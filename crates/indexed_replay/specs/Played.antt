@@ -29,15 +29,20 @@ pub record PartsAgree (parts : Parts) : Type 0 where
 -- range, up to the first at which a replay ends, no more is asked for than these, the magic and the Footer with the last magic,
 -- and what is asked for beside.
 abbrev pub AsksIndexed : Range → StoreState → StoreState → Type 0
-AsksIndexed range old new = (file : List ℕ) (start : ℕ) (summary : List Top) (header : Top) (cost : ℕ) → old.bytes ≡ Some file → HasSummary file start summary → IsThere file 8 header → IndexesCost file range (of_kind chunk_index_opcode summary) cost
+AsksIndexed range old new = (file : List ℕ) (start : ℕ) (summary : List Top) (header : Top) (cost : ℕ)
+    → old.bytes ≡ Some file → HasSummary file start summary → IsThere file 8 header
+    → IndexesCost file range (of_kind chunk_index_opcode summary) cost
     → AskedBeside file range old.asked new.asked (8 + length (top_bytes header) + 37 + length (spelled summary) + cost)
 
 -- Of a file whose summary can't be loaded, or doesn't state as many chunks as it has Chunk Indexes, no more is asked for than
 -- by loading.
 abbrev pub AsksUnloaded : StoreState → StoreState → Type 0
-AsksUnloaded old new = (file : List ℕ) → old.bytes ≡ Some file → ((p : Parts) → IsLoaded file p → PartsAgree p → ⊥) → AskedFor file old.asked new.asked
+AsksUnloaded old new = (file : List ℕ) → old.bytes ≡ Some file → ((p : Parts) → IsLoaded file p → PartsAgree p → ⊥)
+    → AskedFor file old.asked new.asked
 
 -- Of a fully indexed file that is read to its Data End no more is asked for than these, and of each chunk whose times meet
 -- the range its first 49 bytes, its Message Indexes and its messages in the range.
 abbrev pub AsksBound : Range → StoreState → StoreState → Type 0
-AsksBound range old new = (file : List ℕ) (tops : List Top) (end bound : ℕ) → old.bytes ≡ Some file → IsFullyIndexed file → Halts reading_limits file tops (at_end end) → AskedBound file range bound → new.asked ≤ old.asked + bound
+AsksBound range old new = (file : List ℕ) (tops : List Top) (end bound : ℕ) → old.bytes ≡ Some file
+    → IsFullyIndexed file → Halts reading_limits file tops (at_end end) → AskedBound file range bound
+    → new.asked ≤ old.asked + bound

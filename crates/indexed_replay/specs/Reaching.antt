@@ -37,12 +37,14 @@ pub record IsReached (file : List ℕ) (range : Range) (at : ℕ) (f : ChunkInde
   pub meets : Meets range f
 
 -- its map has this offset for that channel
-pub record NamesOffset (file : List ℕ) (range : Range) (at : ℕ) (f : ChunkIndexFields) (channel offset : ℕ) : Type 0 where
+pub record NamesOffset (file : List ℕ) (range : Range) (at : ℕ) (f : ChunkIndexFields) (channel offset : ℕ)
+    : Type 0 where
   pub reached : IsReached file range at f
   pub named : Has {X = ℕ × ℕ} f.indexes (channel, offset)
 
 -- there stands a Message Index of that channel, with this log time and offset, and the log time lies in the range
-pub record LeadsTo (file : List ℕ) (range : Range) (at : ℕ) (f : ChunkIndexFields) (channel offset : ℕ) (entry : ℕ × ℕ) : Type 0 where
+pub record LeadsTo (file : List ℕ) (range : Range) (at : ℕ) (f : ChunkIndexFields) (channel offset : ℕ) (entry : ℕ × ℕ)
+    : Type 0 where
   pub names : NamesOffset file range at f channel offset
   pub list : Top
   pub entries : List (ℕ × ℕ)
@@ -82,7 +84,8 @@ pub record IsElsewhere (file : List ℕ) (f : ChunkIndexFields) (offset : ℕ) :
 
 -- no Message Index of that channel stands at that offset
 abbrev pub LacksIndex : List ℕ → ℕ → ℕ → Type 0
-LacksIndex file channel offset = (t : Top) (entries : List (ℕ × ℕ)) → IsThere file offset t → IsMessageIndex t channel entries → ⊥
+LacksIndex file channel offset =
+    (t : Top) (entries : List (ℕ × ℕ)) → IsThere file offset t → IsMessageIndex t channel entries → ⊥
 
 -- Message Indexes alone stand from the first offset up to the other
 pub record IndexesStand (file : List ℕ) (from to : ℕ) : Type 0 where
@@ -107,10 +110,12 @@ pub record IsApart (file : List ℕ) (f : ChunkIndexFields) (offset : ℕ) : Typ
 
 -- no message of that channel and of the entry's log time stands at the entry's offset behind the first 49 bytes of a chunk
 abbrev pub LacksMessage : List ℕ → ℕ → ℕ → ℕ × ℕ → Type 0
-LacksMessage file chunk channel entry = (t : Top) (m : MessageFields) → IsThere file (chunk + 49 + entry.1) t → IsMessage t channel m → m.log_time ≡ entry.0 → ⊥
+LacksMessage file chunk channel entry = (t : Top) (m : MessageFields) → IsThere file (chunk + 49 + entry.1) t
+    → IsMessage t channel m → m.log_time ≡ entry.0 → ⊥
 
 -- there stands a Message Index of that channel, with an entry in the range that leads to no such message
-pub record LeadsNowhere (file : List ℕ) (range : Range) (at : ℕ) (f : ChunkIndexFields) (channel offset : ℕ) : Type 0 where
+pub record LeadsNowhere (file : List ℕ) (range : Range) (at : ℕ) (f : ChunkIndexFields) (channel offset : ℕ)
+    : Type 0 where
   pub entry : ℕ × ℕ
   pub leads : LeadsTo file range at f channel offset entry
   pub lacks : LacksMessage file f.offset channel entry
@@ -123,11 +128,16 @@ pub record LeadsNowhere (file : List ℕ) (range : Range) (at : ℕ) (f : ChunkI
 pub data BreaksByIndex (file : List ℕ) (range : Range) : Rule → ℕ → Type 0 where
   at_loading : (rule : Rule) (offset : ℕ) → FailsLoading file rule offset → BreaksByIndex file range rule offset
   second_index : (first at : ℕ) → first < at → AreOfOne file first at → BreaksByIndex file range rules.V12 at
-  no_chunk : (at : ℕ) (f : ChunkIndexFields) → IsReached file range at f → LacksChunk file f.offset → BreaksByIndex file range rules.V12 at
-  no_index : (at : ℕ) (f : ChunkIndexFields) (channel offset : ℕ) → NamesOffset file range at f channel offset → LacksIndex file channel offset → BreaksByIndex file range rules.V12 at
-  index_elsewhere : (at : ℕ) (f : ChunkIndexFields) (channel offset : ℕ) → NamesOffset file range at f channel offset → IsElsewhere file f offset → BreaksByIndex file range rules.V12 at
-  index_apart : (at : ℕ) (f : ChunkIndexFields) (channel offset : ℕ) → NamesOffset file range at f channel offset → IsApart file f offset → BreaksByIndex file range rules.V12 at
-  no_message : (at : ℕ) (f : ChunkIndexFields) (channel offset : ℕ) → LeadsNowhere file range at f channel offset → IsOwn file f offset → BreaksByIndex file range rules.V9 offset
+  no_chunk : (at : ℕ) (f : ChunkIndexFields) → IsReached file range at f → LacksChunk file f.offset
+      → BreaksByIndex file range rules.V12 at
+  no_index : (at : ℕ) (f : ChunkIndexFields) (channel offset : ℕ) → NamesOffset file range at f channel offset
+      → LacksIndex file channel offset → BreaksByIndex file range rules.V12 at
+  index_elsewhere : (at : ℕ) (f : ChunkIndexFields) (channel offset : ℕ) → NamesOffset file range at f channel offset
+      → IsElsewhere file f offset → BreaksByIndex file range rules.V12 at
+  index_apart : (at : ℕ) (f : ChunkIndexFields) (channel offset : ℕ) → NamesOffset file range at f channel offset
+      → IsApart file f offset → BreaksByIndex file range rules.V12 at
+  no_message : (at : ℕ) (f : ChunkIndexFields) (channel offset : ℕ) → LeadsNowhere file range at f channel offset
+      → IsOwn file f offset → BreaksByIndex file range rules.V9 offset
 
 -- the chunk of a Chunk Index that is reached stands at that offset, and names that compression
 pub record ReachesPacked (file : List ℕ) (range : Range) (offset : ℕ) (name : List ℕ) : Type 0 where
@@ -169,10 +179,16 @@ pub record IsTooMuch (file : List ℕ) (range : Range) (offset : ℕ) : Type 0 w
 -- Message Index there is more data than in the file.
 pub data LeadsPastLimit (file : List ℕ) (range : Range) : ℕ → Type 0 where
   while_loading : (offset : ℕ) → Passes file offset → LeadsPastLimit file range offset
-  at_chunk : (at : ℕ) (f : ChunkIndexFields) (offset : ℕ) → IsReached file range at f → f.offset ≡ offset → IsTooLong file offset → LeadsPastLimit file range offset
-  at_index : (at : ℕ) (f : ChunkIndexFields) (channel offset : ℕ) → NamesOffset file range at f channel offset → IsTooLong file offset → LeadsPastLimit file range offset
-  behind_chunk : (at : ℕ) (f : ChunkIndexFields) (channel list end offset : ℕ) → NamesOffset file range at f channel list → ChunkEndsAt file f.offset end → IndexesStand file end offset → offset < list → IsTooLong file offset → LeadsPastLimit file range offset
-  at_message : (at : ℕ) (f : ChunkIndexFields) (channel list offset : ℕ) (entry : ℕ × ℕ) → LeadsTo file range at f channel list entry → offset ≡ f.offset + 49 + entry.1 → IsTooLong file offset → LeadsPastLimit file range offset
+  at_chunk : (at : ℕ) (f : ChunkIndexFields) (offset : ℕ) → IsReached file range at f → f.offset ≡ offset
+      → IsTooLong file offset → LeadsPastLimit file range offset
+  at_index : (at : ℕ) (f : ChunkIndexFields) (channel offset : ℕ) → NamesOffset file range at f channel offset
+      → IsTooLong file offset → LeadsPastLimit file range offset
+  behind_chunk : (at : ℕ) (f : ChunkIndexFields) (channel list end offset : ℕ)
+      → NamesOffset file range at f channel list → ChunkEndsAt file f.offset end → IndexesStand file end offset
+      → offset < list → IsTooLong file offset → LeadsPastLimit file range offset
+  at_message : (at : ℕ) (f : ChunkIndexFields) (channel list offset : ℕ) (entry : ℕ × ℕ)
+      → LeadsTo file range at f channel list entry → offset ≡ f.offset + 49 + entry.1 → IsTooLong file offset
+      → LeadsPastLimit file range offset
   too_much_data : (offset : ℕ) → IsTooMuch file range offset → LeadsPastLimit file range offset
 
 -- ---- what is asked for
@@ -185,7 +201,9 @@ head_length = 9
 -- Message Indexes directly behind the chunk and of one record more.
 pub data Beside (file : List ℕ) (range : Range) : ℕ → Type 0 where
   nothing : Beside file range 0
-  heads : (at : ℕ) (f : ChunkIndexFields) (channel offset end place : ℕ) → LeadsNowhere file range at f channel offset → ChunkEndsAt file f.offset end → (walked : IndexesStand file end place) → Beside file range (head_length * length walked.indexes + head_length)
+  heads : (at : ℕ) (f : ChunkIndexFields) (channel offset end place : ℕ) → LeadsNowhere file range at f channel offset
+      → ChunkEndsAt file f.offset end → (walked : IndexesStand file end place)
+      → Beside file range (head_length * length walked.indexes + head_length)
 
 -- from the one count on no more is asked for up to the other than the cost, and what is asked for beside
 abbrev pub AskedBeside : List ℕ → Range → ℕ → ℕ → ℕ → Type 0
@@ -229,7 +247,8 @@ pub record LacksChannel (file : List ℕ) (range : Range) (id : ℕ) : Type 0 wh
 
 abbrev pub IsNotIndexed : List ℕ → Range → NotIndexed → Type 0
 IsNotIndexed file range lacks.NoSummary = HasNoSummary file
-IsNotIndexed file range lacks.NoStatistics = (start : ℕ) × (summary : List Top) × SummaryStartsAt file start × HasSummary file start summary × Each (λ t. t.op ≢ statistics_opcode) summary
+IsNotIndexed file range lacks.NoStatistics = (start : ℕ) × (summary : List Top) × SummaryStartsAt file start
+    × HasSummary file start summary × Each (λ t. t.op ≢ statistics_opcode) summary
 IsNotIndexed file range (lacks.ChunkCount stated found) = CountsDiffer file stated found
 IsNotIndexed file range (lacks.NoMessageIndex chunk) = NamesNone file range chunk
 IsNotIndexed file range (lacks.NoChannel id) = LacksChannel file range id

@@ -88,7 +88,8 @@ TellsNoSummary told result = (file : List ℕ) → told ≡ Some file → HasNoS
 -- ---- fully indexed files
 
 abbrev pub IsScanReplayed : Range → Option (List ℕ) → List Seen → Result Replayed IndexedRefused → Type 0
-IsScanReplayed range topic messages (Ok played) = (shown : List Seen) × Replay range topic messages shown × Shows played shown
+IsScanReplayed range topic messages (Ok played) =
+    (shown : List Seen) × Replay range topic messages shown × Shows played shown
 IsScanReplayed range topic messages (Err (by_index.NotIndexed why)) = ⊥
 IsScanReplayed range topic messages (Err (by_index.Refused (refusals.Fault faults))) = Unit {0}
 IsScanReplayed range topic messages (Err (by_index.Refused (refusals.Grammar offset rule))) = ⊥
@@ -99,7 +100,8 @@ IsScanReplayed range topic messages (Err (by_index.Refused refusals.Memory)) = U
 -- Of a fully indexed file that is read to its Data End the replay of its scan is played, unless the store failed, a limit
 -- is passed or memory lacked.
 abbrev pub PlaysScan : Option (List ℕ) → Range → Option (List ℕ) → Result Replayed IndexedRefused → Type 0
-PlaysScan told range topic result = (file : List ℕ) (tops : List Top) (end : ℕ) (messages : List Seen) → told ≡ Some file → IsFullyIndexed file → Halts reading_limits file tops (at_end end) → Scan tops messages
+PlaysScan told range topic result = (file : List ℕ) (tops : List Top) (end : ℕ) (messages : List Seen)
+    → told ≡ Some file → IsFullyIndexed file → Halts reading_limits file tops (at_end end) → Scan tops messages
     → IsScanReplayed range topic messages result
 
 -- ---- faults

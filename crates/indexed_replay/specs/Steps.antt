@@ -54,7 +54,8 @@ RecordLiesWithin len at size (Err why) = Unit {0}
 
 -- where the store tells a file of that length
 abbrev pub TellsRecordFront : Option (List ℕ) → ℕ → ℕ → List ℕ → Result Front Failed → Type 0
-TellsRecordFront told len at out result = (file : List ℕ) → told ≡ Some file → length file ≡ len → FrontIs file at out result
+TellsRecordFront told len at out result =
+    (file : List ℕ) → told ≡ Some file → length file ≡ len → FrontIs file at out result
 
 -- ---- a message
 
@@ -86,20 +87,27 @@ EntryRefused file chunk entry refusals.Memory = Unit {0}
 
 -- the message of an entry is added; or none stands there; or why it can't be read, or isn't, since the data is too much
 abbrev pub MessageIs : List ℕ → Spot → ℕ × ℕ → (List Shown × List Shown) → Result Bool ReadingRefused → Type 0
-MessageIs file spot entry shown (Ok true) = AddsEachOnce (IsLedByEntry file spot.chunk spot.channel entry) shown.0 shown.1
+MessageIs file spot entry shown (Ok true) =
+    AddsEachOnce (IsLedByEntry file spot.chunk spot.channel entry) shown.0 shown.1
 MessageIs file spot entry shown (Ok false) = LacksMessage file spot.chunk spot.channel entry
-MessageIs file spot entry shown (Err why) = EntryRefused file spot.chunk entry why ⊎ OverfullAt (IsLedByEntry file spot.chunk spot.channel entry) (IsLedByEntry file spot.chunk spot.channel entry) spot.list file shown.0 (by_index.Refused why)
+MessageIs file spot entry shown (Err why) = EntryRefused file spot.chunk entry why
+    ⊎ OverfullAt (IsLedByEntry file spot.chunk spot.channel entry) (IsLedByEntry file spot.chunk spot.channel entry)
+    spot.list file shown.0 (by_index.Refused why)
 
-abbrev pub TellsMessage : Option (List ℕ) → ℕ → Spot → ℕ × ℕ → (List Shown × List Shown) → Result Bool ReadingRefused → Type 0
-TellsMessage told len spot entry shown result = (file : List ℕ) → told ≡ Some file → length file ≡ len → MessageIs file spot entry shown result
+abbrev pub TellsMessage : Option (List ℕ) → ℕ → Spot → ℕ × ℕ → (List Shown × List Shown) → Result Bool ReadingRefused
+    → Type 0
+TellsMessage told len spot entry shown result =
+    (file : List ℕ) → told ≡ Some file → length file ≡ len → MessageIs file spot entry shown result
 
 abbrev pub AsksMessage : ℕ → ℕ → StoreState → StoreState → Type 0
-AsksMessage len at old new = (file : List ℕ) → old.bytes ≡ Some file → length file ≡ len → new.asked ≤ old.asked + message_cost file at
+AsksMessage len at old new =
+    (file : List ℕ) → old.bytes ≡ Some file → length file ≡ len → new.asked ≤ old.asked + message_cost file at
 
 -- ---- the entries of a Message Index
 
 -- one of the entries is in the range and leads to the message
-pub record IsLedInRange (file : List ℕ) (range : Range) (spot : Spot) (entries : List (ℕ × ℕ)) (s : Shown) : Type 0 where
+pub record IsLedInRange (file : List ℕ) (range : Range) (spot : Spot) (entries : List (ℕ × ℕ)) (s : Shown)
+    : Type 0 where
   pub entry : Has {X = ℕ × ℕ} entries (s.log_time, s.place.inner)
   pub in_range : InRange range s.log_time
   pub channel_is : s.channel ≡ spot.channel
@@ -107,20 +115,28 @@ pub record IsLedInRange (file : List ℕ) (range : Range) (spot : Spot) (entries
 
 -- one of the entries is in the range and leads to no message
 abbrev pub LacksListed : List ℕ → Range → Spot → List (ℕ × ℕ) → Type 0
-LacksListed file range spot entries = (entry : ℕ × ℕ) × Has entries entry × InRange range entry.0 × LacksMessage file spot.chunk spot.channel entry
+LacksListed file range spot entries =
+    (entry : ℕ × ℕ) × Has entries entry × InRange range entry.0 × LacksMessage file spot.chunk spot.channel entry
 
 -- one of them can't be read, for that reason
 abbrev pub EntriesRefused : List ℕ → Range → Spot → List (ℕ × ℕ) → ReadingRefused → Type 0
-EntriesRefused file range spot entries why = (entry : ℕ × ℕ) × Has entries entry × InRange range entry.0 × EntryRefused file spot.chunk entry why
+EntriesRefused file range spot entries why =
+    (entry : ℕ × ℕ) × Has entries entry × InRange range entry.0 × EntryRefused file spot.chunk entry why
 
 -- the messages of the entries are added; or one of them isn't there; or why one can't be read, or isn't
-abbrev pub EntriesShown : List ℕ → Range → Spot → List (ℕ × ℕ) → (List Shown × List Shown) → Result Bool ReadingRefused → Type 0
-EntriesShown file range spot entries shown (Ok true) = AddsEachOnce (IsLedInRange file range spot entries) shown.0 shown.1
+abbrev pub EntriesShown : List ℕ → Range → Spot → List (ℕ × ℕ) → (List Shown × List Shown) → Result Bool ReadingRefused
+    → Type 0
+EntriesShown file range spot entries shown (Ok true) =
+    AddsEachOnce (IsLedInRange file range spot entries) shown.0 shown.1
 EntriesShown file range spot entries shown (Ok false) = LacksListed file range spot entries
-EntriesShown file range spot entries shown (Err why) = EntriesRefused file range spot entries why ⊎ OverfullAt (IsLedInRange file range spot entries) (IsLedInRange file range spot entries) spot.list file shown.0 (by_index.Refused why)
+EntriesShown file range spot entries shown (Err why) = EntriesRefused file range spot entries why
+    ⊎ OverfullAt (IsLedInRange file range spot entries) (IsLedInRange file range spot entries) spot.list file shown.0
+    (by_index.Refused why)
 
-abbrev pub TellsEntries : Option (List ℕ) → ℕ → Range → Spot → List (ℕ × ℕ) → (List Shown × List Shown) → Result Bool ReadingRefused → Type 0
-TellsEntries told len range spot entries shown result = (file : List ℕ) → told ≡ Some file → length file ≡ len → EntriesShown file range spot entries shown result
+abbrev pub TellsEntries : Option (List ℕ) → ℕ → Range → Spot → List (ℕ × ℕ) → (List Shown × List Shown)
+    → Result Bool ReadingRefused → Type 0
+TellsEntries told len range spot entries shown result =
+    (file : List ℕ) → told ≡ Some file → length file ≡ len → EntriesShown file range spot entries shown result
 
 -- an entry doesn't come behind another, by offset and then by time
 abbrev pub EntryNotBehind : ℕ × ℕ → ℕ × ℕ → Type 0
@@ -136,7 +152,8 @@ pub record AreTimely (range : Range) (entries timely : List (ℕ × ℕ)) : Type
   pub cost : (file : List ℕ) (chunk : ℕ) → entries_cost file range chunk timely ≤ entries_cost file range chunk entries
 
 abbrev pub AsksEntries : ℕ → Range → ℕ → List (ℕ × ℕ) → StoreState → StoreState → Type 0
-AsksEntries len range chunk entries old new = (file : List ℕ) → old.bytes ≡ Some file → length file ≡ len → new.asked ≤ old.asked + entries_cost file range chunk entries
+AsksEntries len range chunk entries old new = (file : List ℕ) → old.bytes ≡ Some file → length file ≡ len
+    → new.asked ≤ old.asked + entries_cost file range chunk entries
 
 -- ---- a Message Index
 
@@ -155,7 +172,8 @@ TellsList told len at result = (file : List ℕ) → told ≡ Some file → leng
 
 -- the content of the Message Index of that channel that stands there, or none does
 abbrev pub IndexIs : {Y : Type 0} → List ℕ → Spot → Result (Option (Vec ℕ Y)) ReadingRefused → Type 0
-IndexIs file spot (Ok (Some content)) = IsThere file spot.list (top message_index_opcode content.items) × ((entries : List (ℕ × ℕ)) × ShowsMessageIndex content.items spot.channel entries)
+IndexIs file spot (Ok (Some content)) = IsThere file spot.list (top message_index_opcode content.items)
+    × ((entries : List (ℕ × ℕ)) × ShowsMessageIndex content.items spot.channel entries)
 IndexIs file spot (Ok None) = LacksIndex file spot.channel spot.list
 IndexIs file spot (Err (refusals.Fault faults)) = Unit {0}
 IndexIs file spot (Err (refusals.Grammar offset rule)) = ⊥
@@ -172,4 +190,5 @@ pub record ListAsked (file : List ℕ) (at before now : ℕ) : Type 0 where
   pub none : LacksList file at → now ≤ before + head_length
 
 abbrev pub AsksListAt : ℕ → ℕ → StoreState → StoreState → Type 0
-AsksListAt len at old new = (file : List ℕ) → old.bytes ≡ Some file → length file ≡ len → ListAsked file at old.asked new.asked
+AsksListAt len at old new =
+    (file : List ℕ) → old.bytes ≡ Some file → length file ≡ len → ListAsked file at old.asked new.asked

@@ -134,11 +134,13 @@ fn show_names<T: Store>(
 ) -> Result<(), IndexedRefused>
     requires known { request.now.len ≤ (T.state store.old).known }
     requires fits { HoldsExactly request.now.len shown.old }
-    ensures told { ShowsNames (T.state store.old).bytes request.now at end (chunk_index_fields index.now) (kept_in shown.old, kept_in shown.new) result }
+    ensures told { ShowsNames (T.state store.old).bytes request.now at end (chunk_index_fields index.now)
+        (kept_in shown.old, kept_in shown.new) result }
     ensures holds { HoldsWithin request.now.len shown.new result }
     ensures cause { ReplayCause (T.state store.old).faults (T.state store.new).faults result }
     ensures stays { StoreStays (T.state store.old) (T.state store.new) }
-    ensures asks { AsksNames request.now at end (chunk_index_fields index.now) (T.state store.old) (T.state store.new) result }
+    ensures asks { AsksNames request.now at end (chunk_index_fields index.now) (T.state store.old) (T.state store.new)
+        result }
 {
     'names: for i in 0..index.message_index_offsets.count() {
         let (channel, list) = index.message_index_offsets.item(i);
@@ -178,11 +180,13 @@ pub(crate) fn show_chunk<T: Store>(
 ) -> Result<(), IndexedRefused>
     requires known { request.now.len ≤ (T.state store.old).known }
     requires fits { HoldsExactly request.now.len shown.old }
-    ensures told { TellsChunkShown (T.state store.old).bytes request.now at (chunk_index_fields index.now) (kept_in shown.old, kept_in shown.new) result }
+    ensures told { TellsChunkShown (T.state store.old).bytes request.now at (chunk_index_fields index.now)
+        (kept_in shown.old, kept_in shown.new) result }
     ensures holds { HoldsWithin request.now.len shown.new result }
     ensures cause { ReplayCause (T.state store.old).faults (T.state store.new).faults result }
     ensures stays { StoreStays (T.state store.old) (T.state store.new) }
-    ensures asks { AsksChunk request.now at (chunk_index_fields index.now) (T.state store.old) (T.state store.new) result }
+    ensures asks { AsksChunk request.now at (chunk_index_fields index.now) (T.state store.old) (T.state store.new)
+        result }
 {
     if index.message_index_offsets.count() == 0 {
         if index.message_start_time == 0 && index.message_end_time == 0 {

@@ -69,7 +69,8 @@ fn show_each<T: Store>(
     requires known { len ≤ (T.state store.old).known }
     requires ascend { EntriesAscend entries.now }
     requires fits { HoldsExactly len shown.old }
-    ensures told { TellsEntries (T.state store.old).bytes len range spot entries.now (kept_in shown.old, kept_in shown.new) result }
+    ensures told { TellsEntries (T.state store.old).bytes len range spot entries.now
+        (kept_in shown.old, kept_in shown.new) result }
     ensures holds { HoldsWithin len shown.new result }
     ensures cause { ReadingCause (T.state store.old).faults (T.state store.new).faults result }
     ensures stays { StoreStays (T.state store.old) (T.state store.new) }
@@ -106,7 +107,8 @@ pub(crate) fn show_entries<T: Store>(
 ) -> Result<bool, ReadingRefused>
     requires known { len ≤ (T.state store.old).known }
     requires fits { HoldsExactly len shown.old }
-    ensures told { TellsEntries (T.state store.old).bytes len range spot entries.now (kept_in shown.old, kept_in shown.new) result }
+    ensures told { TellsEntries (T.state store.old).bytes len range spot entries.now
+        (kept_in shown.old, kept_in shown.new) result }
     ensures holds { HoldsWithin len shown.new result }
     ensures cause { ReadingCause (T.state store.old).faults (T.state store.new).faults result }
     ensures stays { StoreStays (T.state store.old) (T.state store.new) }

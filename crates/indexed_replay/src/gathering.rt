@@ -39,10 +39,12 @@ pub(crate) fn gather<T: Store>(
     requires known { request.now.len ≤ (T.state store.old).known }
     requires fits { HoldsExactly request.now.len shown.old }
     ensures holds { HoldsWithin request.now.len shown.new result }
-    ensures told { Gathers (T.state store.old).bytes request.now loaded.now.chunk_indexes loaded.now.chunk_index_offsets (kept_in shown.old, kept_in shown.new) result }
+    ensures told { Gathers (T.state store.old).bytes request.now loaded.now.chunk_indexes loaded.now.chunk_index_offsets
+        (kept_in shown.old, kept_in shown.new) result }
     ensures cause { ReplayCause (T.state store.old).faults (T.state store.new).faults result }
     ensures stays { StoreStays (T.state store.old) (T.state store.new) }
-    ensures asks { AsksAll request.now loaded.now.chunk_indexes loaded.now.chunk_index_offsets (T.state store.old) (T.state store.new) result }
+    ensures asks { AsksAll request.now loaded.now.chunk_indexes loaded.now.chunk_index_offsets (T.state store.old)
+        (T.state store.new) result }
 {
     'chunks: for i in 0..loaded.chunk_indexes() {
         let index = loaded.chunk_index(i);

@@ -71,7 +71,8 @@ fn read_index<T: Store>(
 ) -> Result<Option<Vec<u8>>, ReadingRefused>
     requires { len ≤ (T.state store.old).known }
     ensures told { TellsIndex (T.state store.old).bytes len spot result }
-    ensures is { IfOk result (λ found. IfSome found (λ content. (entries : List (ℕ × ℕ)) × ShowsMessageIndex content.items spot.channel entries)) }
+    ensures is { IfOk result (λ found. IfSome found (λ content. (entries : List (ℕ × ℕ))
+        × ShowsMessageIndex content.items spot.channel entries)) }
     ensures cause { ReadingCause (T.state store.old).faults (T.state store.new).faults result }
     ensures stays { StoreStays (T.state store.old) (T.state store.new) }
     ensures asks { AsksListAt len spot.list (T.state store.old) (T.state store.new) }
@@ -102,7 +103,8 @@ fn is_index_of(content: &[u8], channel: u16) -> bool
 
 // Whether the summary has a Channel of that id, and the first one has the topic that is asked for, if one is.
 fn is_wanted(tables: &Tables, channel: u16, topic: Option<&Text>) -> bool
-    ensures { DeclareChannels tables.now.channels → IsTrue result ↔ IsWantedChannel tables.now.channels channel (asked_topic topic.entry) }
+    ensures { DeclareChannels tables.now.channels
+        → IsTrue result ↔ IsWantedChannel tables.now.channels channel (asked_topic topic.entry) }
 {
     let content = match tables.channels.find(channel) {
         Some(content) => content,
@@ -138,7 +140,8 @@ fn check_channel(
     entries: &EntriesRef,
     range: Range,
 ) -> Result<(), NotIndexed>
-    ensures { IfErr result (λ why. (why ≡ NotIndexed.NoChannel channel) × HasTimely range entries.now × Undeclared tables.now.channels channel) }
+    ensures { IfErr result (λ why. (why ≡ NotIndexed.NoChannel channel) × HasTimely range entries.now
+        × Undeclared tables.now.channels channel) }
 {
     if tables.channels.find(channel).is_some() {
         return Ok(());
@@ -161,7 +164,8 @@ fn show_content<T: Store>(
     requires known { request.now.len ≤ (T.state store.old).known }
     requires is { (entries : List (ℕ × ℕ)) × ShowsMessageIndex content.now spot.channel entries }
     requires fits { HoldsExactly request.now.len shown.old }
-    ensures told { ShowsContent (T.state store.old).bytes request.now spot content.now (kept_in shown.old, kept_in shown.new) result }
+    ensures told { ShowsContent (T.state store.old).bytes request.now spot content.now
+        (kept_in shown.old, kept_in shown.new) result }
     ensures holds { HoldsWithin request.now.len shown.new result }
     ensures cause { ReplayCause (T.state store.old).faults (T.state store.new).faults result }
     ensures stays { StoreStays (T.state store.old) (T.state store.new) }
@@ -204,7 +208,8 @@ pub(crate) fn show_list<T: Store>(
 ) -> Result<bool, IndexedRefused>
     requires known { request.now.len ≤ (T.state store.old).known }
     requires fits { HoldsExactly request.now.len shown.old }
-    ensures told { ShowsList (T.state store.old).bytes request.now at spot (kept_in shown.old, kept_in shown.new) result }
+    ensures told { ShowsList (T.state store.old).bytes request.now at spot (kept_in shown.old, kept_in shown.new)
+        result }
     ensures holds { HoldsWithin request.now.len shown.new result }
     ensures found { FindsList (T.state store.old).bytes request.now.len spot result }
     ensures cause { ReplayCause (T.state store.old).faults (T.state store.new).faults result }

@@ -12,7 +12,8 @@ added_batch entries end = record { entries = entries; end = end }
 
 -- nothing is added behind an end
 abbrev pub EndsLast : {X : Type 0} → List (Added X) → Type 0
-EndsLast {X} history = (before behind : List (Added X)) (end : End) → history ≡ before ++ behind → end_of before ≡ Some end → behind ≡ []
+EndsLast {X} history =
+    (before behind : List (Added X)) (end : End) → history ≡ before ++ behind → end_of before ≡ Some end → behind ≡ []
 
 -- at each time the entries followed one another
 abbrev pub AlwaysFollow : {X : Type 0} → (X → Option (List ℕ)) → List (Added X) → Type 0

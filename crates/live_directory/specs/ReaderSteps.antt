@@ -38,13 +38,17 @@ visits_in seen (Some r) = seen r
 
 -- A reader that knew this and held these entries tried once: it wasn't let in; or it found what goes on from that, and holds
 -- its entries; or memory lacked for these.
-abbrev pub Visited : {X : Type 0} → Visits X → Visits X → List (Added X) → List (Entry X) → List (Entry X) → Option (Result (List (Added X)) Memory) → Type 0
+abbrev pub Visited : {X : Type 0} → Visits X → Visits X → List (Added X) → List (Entry X) → List (Entry X)
+    → Option (Result (List (Added X)) Memory) → Type 0
 Visited before now known held holds None = (now ≡ before) × (holds ≡ held)
-Visited before now known held holds (Some (Ok found)) = (now ≡ one_visit before found) × IsPrefix known found × (holds ≡ entries_of found)
+Visited before now known held holds (Some (Ok found)) =
+    (now ≡ one_visit before found) × IsPrefix known found × (holds ≡ entries_of found)
 Visited before now known held holds (Some (Err want)) = (now.entered ≡ suc before.entered) × (holds ≡ held)
 
 -- the same of a reader
 abbrev pub Tries : {X : Type 0} → ReaderState X → ReaderState X → Option (Result Unit Memory) → Type 0
 Tries before now None = now ≡ before
-Tries before now (Some (Ok it)) = (now.entered ≡ suc before.entered) × (now.known ≡ now.found) × (now.entries ≡ entries_of now.found) × IsPrefix before.known now.known
-Tries before now (Some (Err want)) = (now.entered ≡ suc before.entered) × (now.known ≡ before.known) × (now.entries ≡ before.entries)
+Tries before now (Some (Ok it)) = (now.entered ≡ suc before.entered) × (now.known ≡ now.found)
+    × (now.entries ≡ entries_of now.found) × IsPrefix before.known now.known
+Tries before now (Some (Err want)) =
+    (now.entered ≡ suc before.entered) × (now.known ≡ before.known) × (now.entries ≡ before.entries)

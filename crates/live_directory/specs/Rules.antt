@@ -13,5 +13,8 @@ abbrev pub named_book : Book → Named
 named_book b = record { tracked = true; key = 0; book = b }
 
 -- the batch was added to all that had been seen; or the history was longer
-abbrev pub AddsBatch : {X : Type 0} → (X → Option (List ℕ)) → Step (Added X) → View (Added X) ℕ → ℕ → View (Added X) ℕ → Type 0
-AddsBatch tells s v found w = MatchBool (found == s.old) ((w.0 ≡ v.0 ++ s.ask ∷ []) × IsHistory tells w.0) ((length w.0 ≡ found) × IsHistory tells w.0)
+abbrev pub AddsBatch : {X : Type 0} → (X → Option (List ℕ)) → Step (Added X) → View (Added X) ℕ → ℕ → View (Added X) ℕ
+    → Type 0
+AddsBatch tells s v found w =
+    MatchBool (found == s.old) ((w.0 ≡ v.0 ++ s.ask ∷ []) × IsHistory tells w.0) ((length w.0 ≡ found)
+    × IsHistory tells w.0)

@@ -18,7 +18,8 @@ abbrev pub empty_directory : {X : Type 0} → DirectoryState X
 empty_directory = record { shown = []; pending = []; short = false }
 
 -- these entries were published behind all others
-pub record Publishes {X : Type 0} (before now : DirectoryState X) (entries : List (Entry X)) (note : List (Added X)) : Type 0 where
+pub record Publishes {X : Type 0} (before now : DirectoryState X) (entries : List (Entry X)) (note : List (Added X))
+    : Type 0 where
   pub shown : now.shown ≡ before.shown ++ added_batch entries None ∷ []
   pub pending : now.pending ≡ []
   pub short : now.short ≡ false

@@ -97,7 +97,8 @@ impl<X: Extent, J: Naming> Model for Note<X, J> {
 
     ghost view = { λ k. k.seen.log };
 
-    ghost invariant = { λ k. (k.count ≡ length k.seen.log) × (k.front ≡ published_front k.seen.log) × (k.seen.book ≡ J.book) × IsHistory X.tells k.seen.log };
+    ghost invariant = { λ k. (k.count ≡ length k.seen.log) × (k.front ≡ published_front k.seen.log)
+        × (k.seen.book ≡ J.book) × IsHistory X.tells k.seen.log };
 }
 
 impl<X: Extent, J: Naming> Note<X, J> {
@@ -173,7 +174,8 @@ impl<X: Extent, J: Naming> Note<X, J> {
     pub(crate) fn add(&mut self, pages: &Pages<X, J>, batch: &Batch<X>) -> bool
         requires unsealed { end_of self.old ≡ None }
         requires follow { EntriesFollow X.tells (entries_of self.old ++ batch.now.entries.items) }
-        ensures { MatchBool result (self.new ≡ self.old ++ added_batch batch.now.entries.items batch.now.end ∷ []) (self.new ≡ self.old) }
+        ensures { MatchBool result (self.new ≡ self.old ++ added_batch batch.now.entries.items batch.now.end ∷ [])
+            (self.new ≡ self.old) }
     {
         let (Some(blocks), true) = (
             self.front.blocks.checked_add(batch.entries.len() as u64),

@@ -52,7 +52,8 @@ where
       unlisted = at_most_batch o.unlisted;
     } };
 
-    ghost invariant = { λ o. o.known ≡ o.writer.desk.shown.value ++ (drop o.writer.behind o.writer.log.items ++ at_most_one o.listed) };
+    ghost invariant = { λ o. o.known
+        ≡ o.writer.desk.shown.value ++ (drop o.writer.behind o.writer.log.items ++ at_most_one o.listed) };
 }
 
 impl<X: Extent, J: Naming> Outbox<X, J> {
@@ -105,7 +106,9 @@ impl<X: Extent, J: Naming> Outbox<X, J> {
         requires unsealed { end_of (outbox_history self.old) ≡ None }
         requires follow { EntriesFollow X.tells (entries_of (outbox_history self.old) ++ batch.entries.items) }
         ensures { MatchResult result
-            (λ _. self.new ≡ record { shown = self.old.shown; behind = self.old.behind ++ added_batch batch.entries.items batch.end ∷ []; listed = []; unlisted = [] })
+            (λ _. self.new
+            ≡ record
+            { shown = self.old.shown; behind = self.old.behind ++ added_batch batch.entries.items batch.end ∷ []; listed = []; unlisted = [] })
             (λ _. Waits self.old self.new (added_batch batch.entries.items batch.end)) }
     {
         if !self.known.add(&self.pages, &batch) {
@@ -125,7 +128,9 @@ impl<X: Extent, J: Naming> Outbox<X, J> {
     /// Hands the batch that waits to the log.
     pub(crate) fn settle(&mut self) -> Result<(), Memory>
         ensures { MatchResult result
-            (λ _. self.new ≡ record { shown = self.old.shown; behind = self.old.behind ++ self.old.listed; listed = []; unlisted = self.old.unlisted })
+            (λ _. self.new
+            ≡ record
+            { shown = self.old.shown; behind = self.old.behind ++ self.old.listed; listed = []; unlisted = self.old.unlisted })
             (λ _. self.new ≡ self.old) }
     {
         let Some(shelved) = self.listed.take() else {
@@ -164,7 +169,9 @@ impl<X: Extent, J: Naming> Outbox<X, J> {
     /// Shows readers all that the log has, at once.
     pub(crate) fn show<R: Wait>(&mut self, rt: &R) -> Result<(), Memory>
         ensures { MatchResult result
-            (λ _. self.new ≡ record { shown = self.old.shown ++ self.old.behind; behind = []; listed = self.old.listed; unlisted = self.old.unlisted })
+            (λ _. self.new
+            ≡ record
+            { shown = self.old.shown ++ self.old.behind; behind = []; listed = self.old.listed; unlisted = self.old.unlisted })
             (λ _. self.new ≡ self.old) }
     {
         match show::<X, J, R>(&mut self.writer, rt) {

@@ -71,8 +71,10 @@ pub(crate) fn shown<X: Extent, J: Naming, R: Wait>(
     rt: &R,
 ) -> (ShelfWriter<X, J>, Result<(), AllocError>)
     ensures { MatchResult result.1
-        (λ _. (result.0.desk.shown.value ≡ writer.desk.shown.value ++ drop writer.behind writer.log.items) × (drop result.0.behind result.0.log.items ≡ []))
-        (λ _. (result.0.desk.shown.value ≡ writer.desk.shown.value) × (drop result.0.behind result.0.log.items ≡ drop writer.behind writer.log.items)) }
+        (λ _. (result.0.desk.shown.value ≡ writer.desk.shown.value ++ drop writer.behind writer.log.items)
+        × (drop result.0.behind result.0.log.items ≡ []))
+        (λ _. (result.0.desk.shown.value ≡ writer.desk.shown.value)
+        × (drop result.0.behind result.0.log.items ≡ drop writer.behind writer.log.items)) }
 {
     writer.publish_as::<Show, R>(rt)
 }
@@ -83,8 +85,10 @@ pub(crate) fn show<X: Extent, J: Naming, R: Wait>(
     rt: &R,
 ) -> Result<(), AllocError>
     ensures { MatchResult result
-        (λ _. (writer.new.desk.shown.value ≡ writer.old.desk.shown.value ++ drop writer.old.behind writer.old.log.items) × (drop writer.new.behind writer.new.log.items ≡ []))
-        (λ _. (writer.new.desk.shown.value ≡ writer.old.desk.shown.value) × (drop writer.new.behind writer.new.log.items ≡ drop writer.old.behind writer.old.log.items)) }
+        (λ _. (writer.new.desk.shown.value ≡ writer.old.desk.shown.value ++ drop writer.old.behind writer.old.log.items)
+        × (drop writer.new.behind writer.new.log.items ≡ []))
+        (λ _. (writer.new.desk.shown.value ≡ writer.old.desk.shown.value)
+        × (drop writer.new.behind writer.new.log.items ≡ drop writer.old.behind writer.old.log.items)) }
 {
     replace_with(writer, rt, |writer, rt| shown::<X, J, R>(writer, rt))
 }

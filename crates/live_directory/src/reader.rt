@@ -57,7 +57,8 @@ where
       found = (visits_in (λ p. Sides.view p.place) r.place).found;
     } };
 
-    ghost invariant = { λ r. IsSome r.place × (r.taken ≤ length r.known) × (r.entries.items ≡ entries_of (take r.taken r.known)) };
+    ghost invariant = { λ r. IsSome r.place × (r.taken ≤ length r.known)
+        × (r.entries.items ≡ entries_of (take r.taken r.known)) };
 }
 
 /// A reader that knows nothing yet.

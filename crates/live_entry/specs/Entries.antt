@@ -35,7 +35,8 @@ abbrev pub seen_before : {X : Type 0} → (X → Option (List ℕ)) → (X → �
 seen_before tells size store = record { tells = tells; size = size; held = store.held }
 
 -- its extent is as long as the block, and tells the block's bytes where the store told what it held, and nothing else
-pub record HasBlockExtent {X : Type 0} (seen : SeenExtents X) (e : Entry X) (offset : ℕ) (records : List Rec) : Type 0 where
+pub record HasBlockExtent {X : Type 0} (seen : SeenExtents X) (e : Entry X) (offset : ℕ) (records : List Rec)
+    : Type 0 where
   pub numbers : IsEntry e offset records
   pub long : seen.size e.extent ≡ length (block_bytes records)
   pub told : TellsPiece (seen.tells e.extent) seen.held (block_bytes records)

@@ -64,10 +64,12 @@ pub record PrintsHistory (history : List Rec) (before now : SinkState) : Type 0 
 -- A recording in which all was done, in a world that tells, and then a printing of its output there, in which no count rises: it
 -- prints the messages of the recording's history, or memory lacked for that.
 abbrev pub RecordingsArePrinted : Type 0
-RecordingsArePrinted = (options : RecordOptions) (out : List ℕ) (feeds : List (List ℕ)) (old new later last : Scene) (r : Report) (answer : Status) (told : Told) → AreAllowed options → IsUtf8 options.file.profile
+RecordingsArePrinted = (options : RecordOptions) (out : List ℕ) (feeds : List (List ℕ)) (old new later last : Scene)
+    (r : Report) (answer : Status) (told : Told) → AreAllowed options → IsUtf8 options.file.profile
     → (it : Records options out feeds old new (Some r) statuses.Done) → old.world.told ≡ Some told
     → later.world ≡ new.world → Cats everything out later last answer → (AnyRose (counts_in later) (counts_in last) → ⊥)
-    → ((answer ≡ statuses.Done) × PrintsHistory (it.reported r refl).recorded.history later.out last.out) ⊎ (answer ≡ statuses.Memory)
+    → ((answer ≡ statuses.Done) × PrintsHistory (it.reported r refl).recorded.history later.out last.out)
+    ⊎ (answer ≡ statuses.Memory)
 
 -- ---- what is recorded keeps all rules
 
@@ -86,9 +88,10 @@ pub record PrintsSound (chunk : Option ℕ) (before now : SinkState) : Type 0 wh
 -- A recording in which all was done, in a world that tells, and then a check of its output there, in which no count rises: it
 -- finds no flaw, no compression and no limit of reading, and prints that; or memory lacked for the check.
 abbrev pub RecordingsAreSound : Type 0
-RecordingsAreSound = (options : RecordOptions) (out : List ℕ) (feeds : List (List ℕ)) (old new later last : Scene) (r : Report) (answer : Status) (told : Told) → AreAllowed options → IsUtf8 options.file.profile
-    → Records options out feeds old new (Some r) statuses.Done → old.world.told ≡ Some told
-    → later.world ≡ new.world → FileChecks out later last answer → (AnyRose (counts_in later) (counts_in last) → ⊥)
+RecordingsAreSound = (options : RecordOptions) (out : List ℕ) (feeds : List (List ℕ)) (old new later last : Scene)
+    (r : Report) (answer : Status) (told : Told) → AreAllowed options → IsUtf8 options.file.profile
+    → Records options out feeds old new (Some r) statuses.Done → old.world.told ≡ Some told → later.world ≡ new.world
+    → FileChecks out later last answer → (AnyRose (counts_in later) (counts_in last) → ⊥)
     → ((answer ≡ statuses.Done) × PrintsSound options.file.chunk later.out last.out) ⊎ (answer ≡ statuses.Memory)
 
 -- ---- what is recovered keeps all rules
@@ -113,7 +116,8 @@ pub record LeavesSound (out : List ℕ) (old new : Scene) (recovery : Recovery) 
 -- A recovery in which all was done, in a world that tells, leaves such a file, whatever its input was.
 abbrev pub RecoveriesAreSound : Type 0
 RecoveriesAreSound = (chunk : ℕ) (input out : List ℕ) (old new : Scene) (told : Told) → IsChunkSize chunk
-    → (it : RecoversFile chunk input out old new statuses.Done) → old.world.told ≡ Some told → LeavesSound out old new it.recovery
+    → (it : RecoversFile chunk input out old new statuses.Done) → old.world.told ≡ Some told
+    → LeavesSound out old new it.recovery
 
 -- ---- what is merged keeps all rules
 
@@ -124,7 +128,8 @@ merged_file chunk profile extras history = file_of (merged_options profile chunk
 -- A merge was made, and its line was printed. These were the files under the inputs' names, and under the output's name stands what
 -- merging makes of them, with its numbers: all messages of all files, each once, in order. That file is valid and fully indexed
 -- where the files have fewer than 2^32 Attachments and Metadata: a summary has no more room for their number.
-pub record LeavesMerged (chunk : ℕ) (inputs : List (List ℕ)) (out : List ℕ) (old new : Scene) (before : Told) (merging : Merging) : Type 0 where
+pub record LeavesMerged (chunk : ℕ) (inputs : List (List ℕ)) (out : List ℕ) (old new : Scene) (before : Told)
+    (merging : Merging) : Type 0 where
   pub merged : Merged
   pub is_made : merging ≡ mergings.Made merged
   pub line : TellsAll old.out new.out (merged_line (length inputs) merged)
@@ -145,7 +150,8 @@ pub record LeavesMerged (chunk : ℕ) (inputs : List (List ℕ)) (out : List ℕ
 -- A merge in which all was done, in a world that tells, leaves such a file, whatever its inputs were.
 abbrev pub MergesAreSound : Type 0
 MergesAreSound = (chunk : ℕ) (inputs : List (List ℕ)) (out : List ℕ) (old new : Scene) (told : Told) → IsChunkSize chunk
-    → (it : MergesFiles chunk inputs out old new statuses.Done) → old.world.told ≡ Some told → LeavesMerged chunk inputs out old new told it.merging
+    → (it : MergesFiles chunk inputs out old new statuses.Done) → old.world.told ≡ Some told
+    → LeavesMerged chunk inputs out old new told it.merging
 
 -- ---- a recording of which a first part is left is recovered
 
@@ -156,14 +162,18 @@ pub record IsFirstPart (options : FileOptions) (history : List Rec) (part : List
 
 -- that file is within the limits of writing
 abbrev pub FitsWritingLimits : FileOptions → List Rec → Type 0
-FitsWritingLimits options history = Holds (length (blocks_in (pieces_of options.chunk history))) (length (file_of options [] history))
+FitsWritingLimits options history =
+    Holds (length (blocks_in (pieces_of options.chunk history))) (length (file_of options [] history))
 
 -- A recording in a world that tells, whatever its end, of which a record was accepted and the output was kept, leaves such a part
 -- under the output's name; and where its writer closed, its file is within the limits.
 abbrev pub RecordingsLeaveFirstParts : Type 0
-RecordingsLeaveFirstParts = (options : RecordOptions) (out : List ℕ) (feeds : List (List ℕ)) (old new : Scene) (r : Report) (answer : Status) (told now : Told) → (it : Records options out feeds old new (Some r) answer)
-    → old.world.told ≡ Some told → new.world.told ≡ Some now → (it.reported r refl).live_kept ≡ true → ((it.reported r refl).recorded.history ≡ [] → ⊥)
-    → ((part : List ℕ) × (now.names out ≡ Some part) × IsFirstPart options.file (it.reported r refl).recorded.history part)
+RecordingsLeaveFirstParts = (options : RecordOptions) (out : List ℕ) (feeds : List (List ℕ)) (old new : Scene)
+    (r : Report) (answer : Status) (told now : Told) → (it : Records options out feeds old new (Some r) answer)
+    → old.world.told ≡ Some told → new.world.told ≡ Some now → (it.reported r refl).live_kept ≡ true
+    → ((it.reported r refl).recorded.history ≡ [] → ⊥)
+    → ((part : List ℕ) × (now.names out ≡ Some part)
+    × IsFirstPart options.file (it.reported r refl).recorded.history part)
     × (r.writer.end ≡ ends.Closed → FitsWritingLimits options.file (it.reported r refl).recorded.history)
 
 -- the records of the first so many pieces of the file of a history
@@ -178,21 +188,25 @@ pub record KeepsFirst (options : FileOptions) (history : List Rec) (part : List 
   pub records : front.first ≡ records_in_pieces options history front.piece_count
 
 -- the options of the new file, and the file
-abbrev pub new_options : {options : FileOptions} {history : List Rec} {part : List ℕ} → ℕ → KeepsFirst options history part → FileOptions
+abbrev pub new_options : {options : FileOptions} {history : List Rec} {part : List ℕ} → ℕ
+    → KeepsFirst options history part → FileOptions
 new_options chunk keeps = recovered_options keeps.front.profile chunk
 
-abbrev pub new_file : {options : FileOptions} {history : List Rec} {part : List ℕ} → ℕ → KeepsFirst options history part → List ℕ
+abbrev pub new_file : {options : FileOptions} {history : List Rec} {part : List ℕ} → ℕ → KeepsFirst options history part
+    → List ℕ
 new_file chunk keeps = file_of (new_options chunk keeps) [] keeps.front.first
 
 -- A check of that name in a world like this one, in which no count rises, finds no flaw, no compression and no limit of
 -- reading, but that the file is fully indexed, and prints that; or memory lacked for the check.
 abbrev pub IsFoundIndexed : ℕ → List ℕ → Scene → Type 0
-IsFoundIndexed chunk name scene = (later last : Scene) (answer : Status) → later.world ≡ scene.world → FileChecks name later last answer → (AnyRose (counts_in later) (counts_in last) → ⊥)
+IsFoundIndexed chunk name scene = (later last : Scene) (answer : Status) → later.world ≡ scene.world
+    → FileChecks name later last answer → (AnyRose (counts_in later) (counts_in last) → ⊥)
     → ((answer ≡ statuses.Done) × PrintsSound (Some chunk) later.out last.out) ⊎ (answer ≡ statuses.Memory)
 
 -- The file of what is kept of a first part stands under the output's name, sound; its numbers were printed, with where and why
 -- the part ends; and a check finds it fully indexed.
-pub record RecoversFirst (options : FileOptions) (history : List Rec) (chunk : ℕ) (part out : List ℕ) (old new : Scene) : Type 0 where
+pub record RecoversFirst (options : FileOptions) (history : List Rec) (chunk : ℕ) (part out : List ℕ) (old new : Scene)
+    : Type 0 where
   pub keeps : KeepsFirst options history part
   pub told : Told
   pub tells : new.world.told ≡ Some told
@@ -217,10 +231,15 @@ PassesWritingLimit options history chunk part = (keeps : KeepsFirst options hist
 -- name of a world that tells. A recovery of that name, in which no count rises, leaves the file of just the records that are
 -- whole there; or that file would pass a limit; or memory lacked.
 abbrev pub RecordingsAreRecovered : Type 0
-RecordingsAreRecovered = (options : RecordOptions) (out : List ℕ) (feeds : List (List ℕ)) (old new : Scene) (r : Report) (answer : Status) → AreAllowed options → IsUtf8 options.file.profile
-    → (it : Records options out feeds old new (Some r) answer) → FitsWritingLimits options.file (it.reported r refl).recorded.history
-    → (part : List ℕ) → IsFirstPart options.file (it.reported r refl).recorded.history part
-    → (chunk : ℕ) (input output : List ℕ) (later last : Scene) (status : Status) (told : Told) → IsChunkSize chunk → later.world.told ≡ Some told → told.names input ≡ Some part
-    → RecoversFile chunk input output later last status → (AnyRose (counts_in later) (counts_in last) → ⊥)
-    → ((status ≡ statuses.Done) × RecoversFirst options.file (it.reported r refl).recorded.history chunk part output later last)
-    ⊎ (((status ≡ statuses.Limit) × PassesWritingLimit options.file (it.reported r refl).recorded.history chunk part) ⊎ (status ≡ statuses.Memory))
+RecordingsAreRecovered = (options : RecordOptions) (out : List ℕ) (feeds : List (List ℕ)) (old new : Scene) (r : Report)
+    (answer : Status) → AreAllowed options → IsUtf8 options.file.profile
+    → (it : Records options out feeds old new (Some r) answer)
+    → FitsWritingLimits options.file (it.reported r refl).recorded.history → (part : List ℕ)
+    → IsFirstPart options.file (it.reported r refl).recorded.history part
+    → (chunk : ℕ) (input output : List ℕ) (later last : Scene) (status : Status) (told : Told) → IsChunkSize chunk
+    → later.world.told ≡ Some told → told.names input ≡ Some part → RecoversFile chunk input output later last status
+    → (AnyRose (counts_in later) (counts_in last) → ⊥)
+    → ((status ≡ statuses.Done)
+    × RecoversFirst options.file (it.reported r refl).recorded.history chunk part output later last)
+    ⊎ (((status ≡ statuses.Limit) × PassesWritingLimit options.file (it.reported r refl).recorded.history chunk part)
+    ⊎ (status ≡ statuses.Memory))

@@ -22,22 +22,32 @@ use Rattle.generate_command.specs.Generating.{Generates}
 
 -- generated feeds are recorded without loss, with no profile and the usual sizes
 abbrev pub generate_options : RecordOptions
-generate_options = record { file = record { profile = []; chunk = Some usual_chunk_size }; limit = usual_limit; lossless = true }
+generate_options =
+    record { file = record { profile = []; chunk = Some usual_chunk_size }; limit = usual_limit; lossless = true }
 
 -- a recording without watchers, or beside so many, which write to the files under their names
 abbrev pub RecordsBeside : ℕ → Requested → Scene → Scene → Option Report → Status → Type 0
-RecordsBeside zero request old new report status = Records request.options request.names.out request.names.feeds old new report status
+RecordsBeside zero request old new report status =
+    Records request.options request.names.out request.names.feeds old new report status
 RecordsBeside (suc n) request old new report status = RecordsWatched request old new report status
 
 -- what a command does; only a recording has a report, of feeds that are read or generated
 abbrev pub Does : Command → Scene → Scene → Option Report → Status → Type 0
-Does (commands.Record out feeds file limit lossless range watchers) old new report status = RecordsBeside watchers (requested (record { file = file; limit = limit; lossless = lossless }) range out (watch_names out watchers) feeds) old new report status
+Does (commands.Record out feeds file limit lossless range watchers) old new report status =
+    RecordsBeside watchers
+    (requested (record { file = file; limit = limit; lossless = lossless }) range out (watch_names out watchers) feeds)
+    old new report status
 Does (commands.OfFile what file) old new report status = RunsOnFile what file old new status × (report ≡ None)
-Does (commands.Cat file false range topic) old new report status = Cats (selection range topic) file old new status × (report ≡ None)
-Does (commands.Cat file true range topic) old new report status = IndexedCats (selection range topic) file old new status × (report ≡ None)
-Does (commands.Recover input out chunk) old new report status = RecoversFile chunk input out old new status × (report ≡ None)
-Does (commands.Merge out inputs chunk) old new report status = MergesFiles chunk inputs out old new status × (report ≡ None)
-Does (commands.Generate seed feeds messages out) old new report status = Generates generate_options (record { seed = seed; feeds = feeds; messages = messages }) out old new report status
+Does (commands.Cat file false range topic) old new report status =
+    Cats (selection range topic) file old new status × (report ≡ None)
+Does (commands.Cat file true range topic) old new report status =
+    IndexedCats (selection range topic) file old new status × (report ≡ None)
+Does (commands.Recover input out chunk) old new report status =
+    RecoversFile chunk input out old new status × (report ≡ None)
+Does (commands.Merge out inputs chunk) old new report status =
+    MergesFiles chunk inputs out old new status × (report ≡ None)
+Does (commands.Generate seed feeds messages out) old new report status =
+    Generates generate_options (record { seed = seed; feeds = feeds; messages = messages }) out old new report status
 
 -- memory lacked for reading the words or for the names of watchers' files, and nothing else was done
 pub record LacksForWords (old new : Scene) (report : Option Report) (status : Status) : Type 0 where
@@ -49,4 +59,5 @@ pub record LacksForWords (old new : Scene) (report : Option Report) (status : St
 
 -- What the program does for a command, and the number that it ends with: that of its status.
 abbrev pub Runs : Command → Scene → Scene → Option Report → ℕ → Type 0
-Runs command old new report number = (status : Status) × (Does command old new report status ⊎ LacksForWords old new report status) × (number ≡ status_number status)
+Runs command old new report number = (status : Status)
+    × (Does command old new report status ⊎ LacksForWords old new report status) × (number ≡ status_number status)

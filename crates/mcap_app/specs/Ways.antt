@@ -29,7 +29,8 @@ way_of (commands.Generate seed feeds messages out) = generates
 
 -- the numbers and texts of a command are in their ranges
 abbrev pub IsAllowed : Command → Type 0
-IsAllowed (commands.Record out feeds file limit lossless range watchers) = AreAllowed (record { file = file; limit = limit; lossless = lossless }) × AreFew feeds × IsWatchable file watchers
+IsAllowed (commands.Record out feeds file limit lossless range watchers) =
+    AreAllowed (record { file = file; limit = limit; lossless = lossless }) × AreFew feeds × IsWatchable file watchers
 IsAllowed (commands.OfFile what file) = Unit {0}
 IsAllowed (commands.Cat file indexed range topic) = Unit {0}
 IsAllowed (commands.Recover input out chunk) = (1 ≤ chunk) × (chunk ≤ chunk_size_limit)

@@ -124,14 +124,12 @@ fn run_record<R: AllocGlobal + Threads + Wait + Sync, W: World, O: Sink, E: Sink
     requires allowed { AreAllowed options.now }
     requires few { AreFew feeds.now }
     requires watchable { IsWatchable options.now.file watching.watchers }
-    ensures runs { RecordsBeside watching.watchers (requested options.now watching.range name.now (names_of_watches name.now watching.watchers) feeds.now)
+    ensures runs { RecordsBeside watching.watchers
+        (requested options.now watching.range name.now (names_of_watches name.now watching.watchers) feeds.now)
         (scene (W.state world.old) (O.state out.old) (E.state err.old))
-        (scene (W.state world.new) (O.state out.new) (E.state err.new))
-        result.report result.status
-        ⊎ LacksForWords
-        (scene (W.state world.old) (O.state out.old) (E.state err.old))
-        (scene (W.state world.new) (O.state out.new) (E.state err.new))
-        result.report result.status }
+        (scene (W.state world.new) (O.state out.new) (E.state err.new)) result.report result.status
+        ⊎ LacksForWords (scene (W.state world.old) (O.state out.old) (E.state err.old))
+        (scene (W.state world.new) (O.state out.new) (E.state err.new)) result.report result.status }
     ensures listed { (r : _) → result.report ≡ Some r → Each (λ f. ListsMessages f listed) r.feeds.items }
 {
     let Watching { range, watchers } = watching;
@@ -336,7 +334,8 @@ pub fn run<R: AllocGlobal + Threads + Wait + Sync, W: World, O: Sink, E: Sink>(
     ensures world { AreBad words.now → world.new ≡ world.old }
     ensures out { AreBad words.now → out.new ≡ out.old }
     ensures report { AreBad words.now → result.report ≡ None }
-    ensures err { AreBad words.now → ((result.number ≡ BAD_WORDS_STATUS) × Takes (E.state err.old) (E.state err.new) (bad_words_line ++ usage_text))
+    ensures err { AreBad words.now
+        → ((result.number ≡ BAD_WORDS_STATUS) × Takes (E.state err.old) (E.state err.new) (bad_words_line ++ usage_text))
         ⊎ ((result.number ≡ status_number statuses.Memory) × Takes (E.state err.old) (E.state err.new) (said (no_memory ∷ []))) }
 
     // The words of a command do what it does, or memory lacks for reading them or for the names of watchers' files.

@@ -10,7 +10,8 @@ from_place place window = shifted_by (8 * place) (register_after 0 (drop place w
 -- what the window leaves to the 2400 bytes that follow it: the register after these, were they 0
 unfoldable pub pending : List ℕ → ℕ
 pending window =
-    bit_xor (bit_xor (from_place 0 window) (from_place 712 window)) (bit_xor (from_place 936 window) (from_place 1240 window))
+    bit_xor (bit_xor (from_place 0 window) (from_place 712 window)) (bit_xor (from_place 936 window)
+    (from_place 1240 window))
 
 -- the window stands for a message that leaves this register
 abbrev pub WindowLeaves : ℕ → List ℕ → Type 0

@@ -16,11 +16,13 @@ pub record BeginsAt (pieces : List (List ℕ)) (at : ℕ) : Type 0 where
 
 -- whichever begins there ends there
 abbrev pub EndsAt : List (List ℕ) → ℕ → ℕ → Type 0
-EndsAt pieces at end = (before : List (List ℕ)) (piece : List ℕ) (behind : List (List ℕ)) → pieces ≡ before ++ piece ∷ behind → at ≡ length (concat before) → end ≡ at + length piece
+EndsAt pieces at end = (before : List (List ℕ)) (piece : List ℕ) (behind : List (List ℕ))
+    → pieces ≡ before ++ piece ∷ behind → at ≡ length (concat before) → end ≡ at + length piece
 
 -- these are its bytes, and it ends there
 abbrev pub IsPieceAt : List (List ℕ) → ℕ → List ℕ → ℕ → Type 0
-IsPieceAt pieces at bytes end = (before : List (List ℕ)) (piece : List ℕ) (behind : List (List ℕ)) → pieces ≡ before ++ piece ∷ behind → at ≡ length (concat before) → (bytes ≡ piece) × (end ≡ at + length piece)
+IsPieceAt pieces at bytes end = (before : List (List ℕ)) (piece : List ℕ) (behind : List (List ℕ))
+    → pieces ≡ before ++ piece ∷ behind → at ≡ length (concat before) → (bytes ≡ piece) × (end ≡ at + length piece)
 
 -- so many first bytes of all are the pieces before one and the bytes that were taken of that
 pub record FallsIn (pieces : List (List ℕ)) (taken : ℕ) (refused : EachRefused) : Type 0 where

@@ -81,7 +81,8 @@ Adds old new bytes = (before : List ℕ) → old ≡ Some before → new ≡ Som
 
 -- where the bytes so far are told, some first bytes of these, at least as many as stated, stand behind them now
 abbrev pub AddsPart : Option (List ℕ) → Option (List ℕ) → ℕ → List ℕ → Type 0
-AddsPart old new least bytes = (before : List ℕ) → old ≡ Some before → (n : ℕ) × (least ≤ n) × (n ≤ length bytes) × (new ≡ Some (before ++ take n bytes))
+AddsPart old new least bytes = (before : List ℕ) → old ≡ Some before
+    → (n : ℕ) × (least ≤ n) × (n ≤ length bytes) × (new ≡ Some (before ++ take n bytes))
 
 -- ---- openings
 
@@ -97,4 +98,5 @@ taken_back entry keeping = record { kind = entry.kind; name = entry.name; given 
 
 -- what an opened source tells: the bytes under its name, which is there
 abbrev pub TellsName : WorldState → List ℕ → SourceState → Type 0
-TellsName world name source = (told : Told) → world.told ≡ Some told → (source.left ≡ told.names name) × IsSome (told.names name)
+TellsName world name source =
+    (told : Told) → world.told ≡ Some told → (source.left ≡ told.names name) × IsSome (told.names name)

@@ -56,7 +56,8 @@ pub record TakesFront (rest : List ℕ) (left : Option (List ℕ)) (len : ℕ) (
 -- or a first part of it was lost, in a failure or where memory lacked for the rest
 abbrev pub StretchTaken : Option (List ℕ) → Option (List ℕ) → ℕ → List ℕ → Result Unit OutsideRefused → Type 0
 StretchTaken old new len got (Ok it) = (rest : List ℕ) → old ≡ Some rest → TakesFront rest new len got
-StretchTaken old new len got (Err why) = (rest : List ℕ) → old ≡ Some rest → (n : ℕ) × (n < len) × (new ≡ Some (drop n rest))
+StretchTaken old new len got (Err why) =
+    (rest : List ℕ) → old ≡ Some rest → (n : ℕ) × (n < len) × (new ≡ Some (drop n rest))
 
 -- ---- sinks and live stores
 
@@ -68,7 +69,8 @@ Writes old new bytes (Err why) = AddsPart old new 0 bytes
 -- a write failed, which took some first bytes of the rest
 abbrev pub WritesAll : SinkState → SinkState → List ℕ → Result Unit Short → Type 0
 WritesAll old new bytes (Ok it) = (new.faults ≡ old.faults) × Adds old.took new.took bytes
-WritesAll old new bytes (Err short) = RisesOnce old.faults new.faults × (short.taken < length bytes) × AddsPart old.took new.took short.taken bytes
+WritesAll old new bytes (Err short) =
+    RisesOnce old.faults new.faults × (short.taken < length bytes) × AddsPart old.took new.took short.taken bytes
 
 -- what a refused append leaves: the first bytes that it says, or all as it was
 abbrev pub AppendLeaves : Option (List ℕ) → Option (List ℕ) → List ℕ → AppendRefused → Type 0
@@ -84,7 +86,8 @@ with_opening told entry = record { names = told.names; log = told.log ++ entry �
 -- an opening is listed, unless memory lacked for it; the names hold what they held
 abbrev pub Opens : {T : Type 0} → WorldState → WorldState → ObjectKind → List ℕ → Result T OutsideRefused → Type 0
 Opens old new kind name (Ok it) = new.told ≡ option_map (λ told. with_opening told (opened kind name true)) old.told
-Opens old new kind name (Err outside_refusals.Failed) = new.told ≡ option_map (λ told. with_opening told (opened kind name false)) old.told
+Opens old new kind name (Err outside_refusals.Failed) =
+    new.told ≡ option_map (λ told. with_opening told (opened kind name false)) old.told
 Opens old new kind name (Err outside_refusals.Memory) = new.told ≡ old.told
 
 -- an opening leaves the counts of what was taken back
@@ -107,14 +110,16 @@ abbrev pub NoneIsOut : ObjectKind → List ℕ → List Opening → Type 0
 NoneIsOut kind name entries = All (λ entry. IsOut kind name entry → ⊥) entries
 
 -- the newest entry that an object of that kind is out of, under that name
-pub record IsNewestOut (log : List Opening) (kind : ObjectKind) (name : List ℕ) (before : List Opening) (entry : Opening) (behind : List Opening) : Type 0 where
+pub record IsNewestOut (log : List Opening) (kind : ObjectKind) (name : List ℕ) (before : List Opening)
+    (entry : Opening) (behind : List Opening) : Type 0 where
   pub there : log ≡ before ++ entry ∷ behind
   pub out : IsOut kind name entry
   pub newest : NoneIsOut kind name behind
 
 -- a keeping is noted in the newest entry of such an object; where there is none, the log stays
 abbrev pub Notes : List Opening → List Opening → ObjectKind → List ℕ → Keeping → Type 0
-Notes old new kind name keeping = ((before behind : List Opening) × (entry : Opening) × IsNewestOut old kind name before entry behind × (new ≡ before ++ taken_back entry keeping ∷ behind))
+Notes old new kind name keeping = ((before behind : List Opening) × (entry : Opening)
+    × IsNewestOut old kind name before entry behind × (new ≡ before ++ taken_back entry keeping ∷ behind))
     ⊎ (NoneIsOut kind name old × (new ≡ old))
 
 -- whether a call went well
@@ -133,19 +138,24 @@ abbrev pub PlacedUnder : Names → Names → List ℕ → List ℕ → Result Un
 PlacedUnder all now name bytes (Ok it) = now name ≡ Some bytes
 PlacedUnder all now name bytes (Err why) = (now name ≡ Some bytes) ⊎ (now name ≡ all name)
 
-pub record KeepsName (all now : Names) (name : List ℕ) (held : Option (List ℕ)) (result : Result Unit Failed) : Type 0 where
+pub record KeepsName (all now : Names) (name : List ℕ) (held : Option (List ℕ)) (result : Result Unit Failed)
+    : Type 0 where
   pub others : OthersSame all now name
   pub placed : (bytes : List ℕ) → held ≡ Some bytes → PlacedUnder all now name bytes result
 
 -- where the world tells, it goes on telling: a source that is taken back is noted, and the names hold what they held
 abbrev pub KeepsSource : WorldState → WorldState → List ℕ → SourceState → Result Unit Failed → Type 0
-KeepsSource old new name it result = (told : Told) → old.told ≡ Some told → (now : Told) × (new.told ≡ Some now) × (now.names ≡ told.names)
-    × Notes told.log now.log kinds.Source name (record { well = went_well result; faults = it.faults; left = it.left; asked = 0 })
+KeepsSource old new name it result = (told : Told) → old.told ≡ Some told
+    → (now : Told) × (new.told ≡ Some now) × (now.names ≡ told.names)
+    × Notes told.log now.log kinds.Source name (record
+    { well = went_well result; faults = it.faults; left = it.left; asked = 0 })
 
 -- an object of that kind, which told these bytes and had failed so often, is taken back: it is noted, and its bytes stand
 -- under its name alone
-abbrev pub KeepsWritten : ObjectKind → WorldState → WorldState → List ℕ → Option (List ℕ) → ℕ → Result Unit Failed → Type 0
-KeepsWritten kind old new name bytes faults result = (told : Told) → old.told ≡ Some told → (now : Told) × (new.told ≡ Some now) × KeepsName told.names now.names name bytes result
+abbrev pub KeepsWritten : ObjectKind → WorldState → WorldState → List ℕ → Option (List ℕ) → ℕ → Result Unit Failed
+    → Type 0
+KeepsWritten kind old new name bytes faults result = (told : Told) → old.told ≡ Some told
+    → (now : Told) × (new.told ≡ Some now) × KeepsName told.names now.names name bytes result
     × Notes told.log now.log kind name (record { well = went_well result; faults = faults; left = None; asked = 0 })
 
 abbrev pub KeepsSink : WorldState → WorldState → List ℕ → SinkState → Result Unit Failed → Type 0

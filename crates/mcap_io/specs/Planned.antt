@@ -43,13 +43,16 @@ calls_on call (piece ∷ pieces) = calls_on (next_call call) pieces
 -- none of these calls is to fail
 abbrev pub NoneFails : List FailingWrite → ℕ → List (List ℕ) → Type 0
 NoneFails failing call [] = Unit {0}
-NoneFails failing call (piece ∷ pieces) = (planned failing call (length piece) ≡ None) × NoneFails failing (next_call call) pieces
+NoneFails failing call (piece ∷ pieces) =
+    (planned failing call (length piece) ≡ None) × NoneFails failing (next_call call) pieces
 
 -- those before the piece that was refused aren't, and its own call is the last
-pub record FailsAsPlanned (failing : List FailingWrite) (call next : ℕ) (pieces : List (List ℕ)) (refused : EachRefused) : Type 0 where
+pub record FailsAsPlanned (failing : List FailingWrite) (call next : ℕ) (pieces : List (List ℕ)) (refused : EachRefused)
+    : Type 0 where
   pub at : BeginsAt pieces refused.whole
   pub none : NoneFails failing call at.before
-  pub fails : AppendsAsPlanned {T = Unit} (planned failing (calls_on call at.before) (length at.piece)) (Err refused.why)
+  pub fails : AppendsAsPlanned {T = Unit} (planned failing (calls_on call at.before) (length at.piece))
+      (Err refused.why)
   pub counted : next ≡ next_call (calls_on call at.before)
 
 -- pieces are appended each by a call, until one is refused

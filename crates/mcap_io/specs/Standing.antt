@@ -22,7 +22,8 @@ left_of-source (Some source) = left_of source.bytes.items source.next
 
 -- a keeping that is noted
 abbrev pub shown_keeping : Kept → Keeping
-shown_keeping kept = record { well = kept.well; faults = kept.faults; left = left_of-source kept.rest; asked = kept.asked }
+shown_keeping kept =
+    record { well = kept.well; faults = kept.faults; left = left_of-source kept.rest; asked = kept.asked }
 
 -- an opening that is listed
 abbrev pub shown : Opened → Opening
@@ -30,8 +31,8 @@ shown o = record { kind = o.kind; name = string_bytes o.name; given = o.given; k
 
 -- the place of the newest opening whose object is out, if there is one
 abbrev pub NewestAt : List Opened → ObjectKind → List ℕ → Option ℕ → Type 0
-NewestAt log kind name (Some at) = (before behind : List Opened) × (entry : Opened) × (log ≡ before ++ entry ∷ behind) × (length before ≡ at)
-    × IsOut kind name (shown entry) × NoneIsOut kind name (map shown behind)
+NewestAt log kind name (Some at) = (before behind : List Opened) × (entry : Opened) × (log ≡ before ++ entry ∷ behind)
+    × (length before ≡ at) × IsOut kind name (shown entry) × NoneIsOut kind name (map shown behind)
 NewestAt log kind name None = NoneIsOut kind name (map shown log)
 
 -- what is seen of the world

@@ -55,11 +55,13 @@ pub record ReadsPart (old new : StoreState) (at : ℕ) (out : List ℕ) (result 
 
 -- where the store tells, so many bytes are those that stand there
 abbrev pub IsPart : {Y : Type 0} → Option (List ℕ) → ℕ → ℕ → Result (Vec ℕ Y) OutsideRefused → Type 0
-IsPart told at len (Ok part) = (vec_len part ≡ len) × ((bytes : List ℕ) → told ≡ Some bytes → part.items ≡ take len (drop at bytes))
+IsPart told at len (Ok part) =
+    (vec_len part ≡ len) × ((bytes : List ℕ) → told ≡ Some bytes → part.items ≡ take len (drop at bytes))
 IsPart told at len (Err why) = Unit {0}
 
 -- so many bytes are read to a vector of their own; where memory lacks, none is asked for
-pub record TakesPart {Y : Type 0} (old new : StoreState) (at len : ℕ) (result : Result (Vec ℕ Y) OutsideRefused) : Type 0 where
+pub record TakesPart {Y : Type 0} (old new : StoreState) (at len : ℕ) (result : Result (Vec ℕ Y) OutsideRefused)
+    : Type 0 where
   pub gives : IsPart old.bytes at len result
   pub bytes : new.bytes ≡ old.bytes
   pub known : new.known ≡ old.known
@@ -69,5 +71,7 @@ pub record TakesPart {Y : Type 0} (old new : StoreState) (at len : ℕ) (result 
 
 -- where the world tells, it goes on telling: a store that is taken back is noted, and the names hold what they held
 abbrev pub KeepsStore : WorldState → WorldState → List ℕ → StoreState → Result Unit Failed → Type 0
-KeepsStore old new name it result = (told : Told) → old.told ≡ Some told → (now : Told) × (new.told ≡ Some now) × (now.names ≡ told.names)
-    × Notes told.log now.log kinds.Store name (record { well = went_well result; faults = it.faults; left = None; asked = it.asked })
+KeepsStore old new name it result = (told : Told) → old.told ≡ Some told
+    → (now : Told) × (new.told ≡ Some now) × (now.names ≡ told.names)
+    × Notes told.log now.log kinds.Store name (record
+    { well = went_well result; faults = it.faults; left = None; asked = it.asked })

@@ -20,4 +20,5 @@ pub record IsUnused (store : StoreState) : Type 0 where
 
 -- what an opened store tells: the bytes under its name, which is there
 abbrev pub TellsStore : WorldState → List ℕ → StoreState → Type 0
-TellsStore world name store = (told : Told) → world.told ≡ Some told → (store.bytes ≡ told.names name) × IsSome (told.names name)
+TellsStore world name store =
+    (told : Told) → world.told ≡ Some told → (store.bytes ≡ told.names name) × IsSome (told.names name)

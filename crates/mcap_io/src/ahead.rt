@@ -44,7 +44,8 @@ impl<F: Read + Drop> ReadAhead<F> {
     #[inline(always)]
     pub(crate) fn read(&mut self, out: &mut [u8]) -> Result<usize, Failed>
         ensures bound { IfOk result (λ n. n ≤ length out.new) }
-        ensures gives { AheadReads (ahead self.old.buffer.items self.old.from self.old.to (F.remaining self.old.file)) (ahead self.new.buffer.items self.new.from self.new.to (F.remaining self.new.file)) out.new result }
+        ensures gives { AheadReads (ahead self.old.buffer.items self.old.from self.old.to (F.remaining self.old.file))
+            (ahead self.new.buffer.items self.new.from self.new.to (F.remaining self.new.file)) out.new result }
     {
         if self.from < self.to {
             return Ok(self.give(out));
@@ -63,8 +64,10 @@ impl<F: Read + Drop> ReadAhead<F> {
     #[inline(never)]
     fn refill(&mut self) -> Result<(), Failed>
         requires { self.old.to ≤ self.old.from }
-        ensures rest { (rest : List ℕ) → F.remaining self.old.file ≡ Some rest → ahead self.new.buffer.items self.new.from self.new.to (F.remaining self.new.file) ≡ Some rest }
-        ensures end { OnOk result ((rest : List ℕ) → F.remaining self.old.file ≡ Some rest → self.new.to ≤ self.new.from → 0 < vec_len self.old.buffer → rest ≡ []) }
+        ensures rest { (rest : List ℕ) → F.remaining self.old.file ≡ Some rest
+            → ahead self.new.buffer.items self.new.from self.new.to (F.remaining self.new.file) ≡ Some rest }
+        ensures end { OnOk result ((rest : List ℕ) → F.remaining self.old.file ≡ Some rest
+            → self.new.to ≤ self.new.from → 0 < vec_len self.old.buffer → rest ≡ []) }
     {
         self.from = 0;
         self.to = 0;

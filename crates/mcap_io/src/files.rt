@@ -42,7 +42,8 @@ impl<F: Read + Drop> FileSource<F> {
     fn new(alloc: Global, file: F, id: FileId) -> Result<Self, AllocError>
         ensures unused { IfOk result (λ it. (⟦<FileSource<F> as Source>⟧.state it).faults ≡ 0) }
         ensures id { IfOk result (λ it. it.id ≡ id) }
-        ensures left { IfOk result (λ it. ahead it.ahead.buffer.items it.ahead.from it.ahead.to (F.remaining it.ahead.file) ≡ F.remaining file) }
+        ensures left { IfOk result (λ it. ahead it.ahead.buffer.items it.ahead.from it.ahead.to
+            (F.remaining it.ahead.file) ≡ F.remaining file) }
     {
         let ahead = ReadAhead::new(alloc, file)?;
         Ok(FileSource {
@@ -78,7 +79,10 @@ impl<F: Read + Drop> Source for FileSource<F> {
         ensures cause { HasCause self.old.faults self.new.faults result }
         ensures stays { self.new.id ≡ self.old.id }
         // Where the file tells what it has left, no byte of it is lost.
-        ensures file { AheadReads (ahead self.old.ahead.buffer.items self.old.ahead.from self.old.ahead.to (F.remaining self.old.ahead.file)) (ahead self.new.ahead.buffer.items self.new.ahead.from self.new.ahead.to (F.remaining self.new.ahead.file)) out.new result }
+        ensures file { AheadReads
+            (ahead self.old.ahead.buffer.items self.old.ahead.from self.old.ahead.to (F.remaining self.old.ahead.file))
+            (ahead self.new.ahead.buffer.items self.new.ahead.from self.new.ahead.to (F.remaining self.new.ahead.file))
+            out.new result }
     {
         if out.is_empty() {
             return Ok(0);
@@ -229,18 +233,23 @@ impl<F: Write + OpenFile + FileExt + Drop> LiveStore for FileLive<F> {
 
     fn append(&mut self, bytes: &[u8]) -> Result<Stretch, AppendRefused>
         ensures adds { IfOk result (λ e. Adds nothing nothing bytes.now) }
-        ensures extent { IfOk result (λ e. (e.len ≡ length bytes.now) × ((before : List ℕ) → nothing ≡ Some before → nothing ≡ Some bytes.now)) }
+        ensures extent { IfOk result (λ e. (e.len ≡ length bytes.now)
+            × ((before : List ℕ) → nothing ≡ Some before → nothing ≡ Some bytes.now)) }
         ensures names { IfOk result (λ e. (told : List ℕ) → nothing ≡ Some told → told ≡ bytes.now) }
         ensures leaves { IfErr result (AppendLeaves nothing nothing bytes.now) }
         ensures cause { AppendCause self.old.faults self.new.faults result }
         ensures waits { length self.new.gather.waiting.items ≤ length self.old.gather.waiting.items + length bytes.now }
         // The pieces stand one behind the other.
-        ensures place { IfOk result (λ e. (e.from ≡ self.old.len) × (self.new.len ≡ min (self.old.len + e.len) (2 ^ 64 - 1))) }
+        ensures place { IfOk result (λ e. (e.from ≡ self.old.len)
+            × (self.new.len ≡ min (self.old.len + e.len) (2 ^ 64 - 1))) }
         // Where the file tells what it holds, that and what waits hold all pieces in their order.
-        ensures file { Stores (F.contents self.old.gather.sink.writer) self.old.gather.waiting.items (F.contents self.new.gather.sink.writer) self.new.gather.waiting.items bytes.now result }
+        ensures file { Stores (F.contents self.old.gather.sink.writer) self.old.gather.waiting.items
+            (F.contents self.new.gather.sink.writer) self.new.gather.waiting.items bytes.now result }
         // It fails only where a write has failed.
-        ensures written { self.old.gather.broken ≡ false → OnErr result (RisesOnce self.old.gather.sink.faults self.new.gather.sink.faults) }
-        ensures broken { IsTrue self.old.gather.broken → IsErr result × (F.contents self.new.gather.sink.writer ≡ F.contents self.old.gather.sink.writer) }
+        ensures written { self.old.gather.broken ≡ false
+            → OnErr result (RisesOnce self.old.gather.sink.faults self.new.gather.sink.faults) }
+        ensures broken { IsTrue self.old.gather.broken
+            → IsErr result × (F.contents self.new.gather.sink.writer ≡ F.contents self.old.gather.sink.writer) }
     {
         let put = self.gather.put(bytes);
         self.placed(put, bytes.len() as u64)
@@ -248,19 +257,24 @@ impl<F: Write + OpenFile + FileExt + Drop> LiveStore for FileLive<F> {
 
     fn append_through(&mut self, bytes: &[u8]) -> Result<Stretch, AppendRefused>
         ensures adds { IfOk result (λ e. Adds nothing nothing bytes.now) }
-        ensures extent { IfOk result (λ e. (e.len ≡ length bytes.now) × ((before : List ℕ) → nothing ≡ Some before → nothing ≡ Some bytes.now)) }
+        ensures extent { IfOk result (λ e. (e.len ≡ length bytes.now)
+            × ((before : List ℕ) → nothing ≡ Some before → nothing ≡ Some bytes.now)) }
         ensures names { IfOk result (λ e. (told : List ℕ) → nothing ≡ Some told → told ≡ bytes.now) }
         ensures leaves { IfErr result (AppendLeaves nothing nothing bytes.now) }
         ensures cause { AppendCause self.old.faults self.new.faults result }
         ensures waits { length self.new.gather.waiting.items ≤ length self.old.gather.waiting.items + length bytes.now }
         ensures through { OnOk result (length self.new.gather.waiting.items ≡ 0) }
         // The pieces stand one behind the other.
-        ensures place { IfOk result (λ e. (e.from ≡ self.old.len) × (self.new.len ≡ min (self.old.len + e.len) (2 ^ 64 - 1))) }
+        ensures place { IfOk result (λ e. (e.from ≡ self.old.len)
+            × (self.new.len ≡ min (self.old.len + e.len) (2 ^ 64 - 1))) }
         // Where the file tells what it holds, that and what waits hold all pieces in their order.
-        ensures file { Stores (F.contents self.old.gather.sink.writer) self.old.gather.waiting.items (F.contents self.new.gather.sink.writer) self.new.gather.waiting.items bytes.now result }
+        ensures file { Stores (F.contents self.old.gather.sink.writer) self.old.gather.waiting.items
+            (F.contents self.new.gather.sink.writer) self.new.gather.waiting.items bytes.now result }
         // It fails only where a write has failed.
-        ensures written { self.old.gather.broken ≡ false → OnErr result (RisesOnce self.old.gather.sink.faults self.new.gather.sink.faults) }
-        ensures broken { IsTrue self.old.gather.broken → IsErr result × (F.contents self.new.gather.sink.writer ≡ F.contents self.old.gather.sink.writer) }
+        ensures written { self.old.gather.broken ≡ false
+            → OnErr result (RisesOnce self.old.gather.sink.faults self.new.gather.sink.faults) }
+        ensures broken { IsTrue self.old.gather.broken
+            → IsErr result × (F.contents self.new.gather.sink.writer ≡ F.contents self.old.gather.sink.writer) }
         ensures none_waits { OnOk result (self.new.gather.waiting.items ≡ []) }
     {
         let put = self.gather.put_through(bytes);
@@ -271,14 +285,19 @@ impl<F: Write + OpenFile + FileExt + Drop> LiveStore for FileLive<F> {
         ensures adds { OnOk result (Adds nothing nothing (concat (P.list pieces.now))) }
         ensures leaves { IfErr result (EachLeaves nothing nothing (P.list pieces.now)) }
         ensures cause { EachCause self.old.faults self.new.faults result }
-        ensures waits { length self.new.gather.waiting.items ≤ length self.old.gather.waiting.items + length (concat (P.list pieces.now)) }
+        ensures waits { length self.new.gather.waiting.items
+            ≤ length self.old.gather.waiting.items + length (concat (P.list pieces.now)) }
         // What is appended next stands behind them.
-        ensures place { OnOk result (self.new.len ≡ min (self.old.len + length (concat (P.list pieces.now))) (2 ^ 64 - 1)) }
+        ensures place { OnOk result (self.new.len
+            ≡ min (self.old.len + length (concat (P.list pieces.now))) (2 ^ 64 - 1)) }
         // Where the file tells what it holds, that and what waits hold all pieces in their order.
-        ensures file { StoresEach (F.contents self.old.gather.sink.writer) self.old.gather.waiting.items (F.contents self.new.gather.sink.writer) self.new.gather.waiting.items (concat (P.list pieces.now)) result }
+        ensures file { StoresEach (F.contents self.old.gather.sink.writer) self.old.gather.waiting.items
+            (F.contents self.new.gather.sink.writer) self.new.gather.waiting.items (concat (P.list pieces.now)) result }
         // It fails only where a write has failed.
-        ensures written { self.old.gather.broken ≡ false → OnErr result (RisesOnce self.old.gather.sink.faults self.new.gather.sink.faults) }
-        ensures broken { IsTrue self.old.gather.broken → 0 < length (concat (P.list pieces.now)) → IsErr result × (F.contents self.new.gather.sink.writer ≡ F.contents self.old.gather.sink.writer) }
+        ensures written { self.old.gather.broken ≡ false
+            → OnErr result (RisesOnce self.old.gather.sink.faults self.new.gather.sink.faults) }
+        ensures broken { IsTrue self.old.gather.broken → 0 < length (concat (P.list pieces.now))
+            → IsErr result × (F.contents self.new.gather.sink.writer ≡ F.contents self.old.gather.sink.writer) }
     {
         // The length is a number of 64 bits.
         let _len = self.len;
@@ -344,7 +363,8 @@ where
 {
     /// The files of this runtime.
     pub fn new(runtime: R) -> Self
-        ensures { ⟦<FileWorld<R> as World>⟧.state result ≡ record { told = None; faults = 0; input_faults = 0; output_faults = 0; watch_faults = 0 } }
+        ensures { ⟦<FileWorld<R> as World>⟧.state result
+            ≡ record { told = None; faults = 0; input_faults = 0; output_faults = 0; watch_faults = 0 } }
     {
         let inputs = Vec::new(runtime.alloc());
         FileWorld {
@@ -443,7 +463,8 @@ where
 
     type Live = FileLive<R::File>;
 
-    ghost state = { λ w. record { told = None; faults = w.faults; input_faults = w.input_faults; output_faults = w.output_faults; watch_faults = w.watch_faults } };
+    ghost state = { λ w. record
+        { told = None; faults = w.faults; input_faults = w.input_faults; output_faults = w.output_faults; watch_faults = w.watch_faults } };
 
     fn source(&mut self, name: &str) -> Result<FileSource<R::File>, OutsideRefused>
         ensures unused { IfOk result (λ it. it.faults ≡ 0) }

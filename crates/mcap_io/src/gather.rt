@@ -31,15 +31,19 @@ impl<K: Sink + Drop> Gather<K> {
 
     // Writes all that waits.
     pub(crate) fn flush(&mut self) -> Result<(), Short>
-        ensures written { OnOk result (Adds (K.state self.old.sink).took (K.state self.new.sink).took self.old.waiting.items) }
+        ensures written { OnOk result (Adds (K.state self.old.sink).took (K.state self.new.sink).took
+            self.old.waiting.items) }
         ensures none_waits { OnOk result (self.new.waiting.items ≡ []) }
         ensures unchanged { OnErr result (self.new.waiting.items ≡ self.old.waiting.items) }
-        ensures part { OnErr result (AddsPart (K.state self.old.sink).took (K.state self.new.sink).took 0 self.old.waiting.items) }
+        ensures part { OnErr result (AddsPart (K.state self.old.sink).took (K.state self.new.sink).took 0
+            self.old.waiting.items) }
         ensures none_taken { IfErr result (λ short. short.taken ≡ 0) }
-        ensures cause { self.old.broken ≡ false → OnErr result (RisesOnce (K.state self.old.sink).faults (K.state self.new.sink).faults) }
+        ensures cause { self.old.broken ≡ false
+            → OnErr result (RisesOnce (K.state self.old.sink).faults (K.state self.new.sink).faults) }
         ensures still { OnOk result ((K.state self.new.sink).faults ≡ (K.state self.old.sink).faults) }
         ensures broken { IsTrue self.new.broken ↔ IsErr result }
-        ensures stays { IsTrue self.old.broken → IsErr result × ((K.state self.new.sink).took ≡ (K.state self.old.sink).took) }
+        ensures stays { IsTrue self.old.broken
+            → IsErr result × ((K.state self.new.sink).took ≡ (K.state self.old.sink).took) }
     {
         if self.broken {
             return Err(Short { taken: 0 });
@@ -58,12 +62,15 @@ impl<K: Sink + Drop> Gather<K> {
 
     // Puts the piece behind what waits. Where there is no room for it, all that waits is written first.
     pub(crate) fn put(&mut self, bytes: &[u8]) -> Result<(), Short>
-        ensures puts { Puts (K.state self.old.sink).took self.old.waiting.items (K.state self.new.sink).took self.new.waiting.items bytes.now result }
+        ensures puts { Puts (K.state self.old.sink).took self.old.waiting.items (K.state self.new.sink).took
+            self.new.waiting.items bytes.now result }
         ensures waits { length self.new.waiting.items ≤ length self.old.waiting.items + length bytes.now }
-        ensures cause { self.old.broken ≡ false → OnErr result (RisesOnce (K.state self.old.sink).faults (K.state self.new.sink).faults) }
+        ensures cause { self.old.broken ≡ false
+            → OnErr result (RisesOnce (K.state self.old.sink).faults (K.state self.new.sink).faults) }
         ensures still { OnOk result ((K.state self.new.sink).faults ≡ (K.state self.old.sink).faults) }
         ensures broken { IsTrue self.new.broken ↔ IsErr result }
-        ensures stays { IsTrue self.old.broken → IsErr result × ((K.state self.new.sink).took ≡ (K.state self.old.sink).took) }
+        ensures stays { IsTrue self.old.broken
+            → IsErr result × ((K.state self.new.sink).took ≡ (K.state self.old.sink).took) }
     {
         if !self.broken && bytes.len() <= self.waiting.capacity() - self.waiting.len() {
             self.waiting.extend_from_slice(bytes).unwrap();
@@ -77,13 +84,16 @@ impl<K: Sink + Drop> Gather<K> {
 
     // Writes all that waits, and then the piece.
     pub(crate) fn put_through(&mut self, bytes: &[u8]) -> Result<(), Short>
-        ensures puts { Puts (K.state self.old.sink).took self.old.waiting.items (K.state self.new.sink).took self.new.waiting.items bytes.now result }
+        ensures puts { Puts (K.state self.old.sink).took self.old.waiting.items (K.state self.new.sink).took
+            self.new.waiting.items bytes.now result }
         ensures waits { length self.new.waiting.items ≤ length self.old.waiting.items + length bytes.now }
         ensures none_waits { OnOk result (self.new.waiting.items ≡ []) }
-        ensures cause { self.old.broken ≡ false → OnErr result (RisesOnce (K.state self.old.sink).faults (K.state self.new.sink).faults) }
+        ensures cause { self.old.broken ≡ false
+            → OnErr result (RisesOnce (K.state self.old.sink).faults (K.state self.new.sink).faults) }
         ensures still { OnOk result ((K.state self.new.sink).faults ≡ (K.state self.old.sink).faults) }
         ensures broken { IsTrue self.new.broken ↔ IsErr result }
-        ensures stays { IsTrue self.old.broken → IsErr result × ((K.state self.new.sink).took ≡ (K.state self.old.sink).took) }
+        ensures stays { IsTrue self.old.broken
+            → IsErr result × ((K.state self.new.sink).took ≡ (K.state self.old.sink).took) }
     {
         match self.flush() {
             Ok(()) => return self.write_past(bytes),
@@ -95,7 +105,8 @@ impl<K: Sink + Drop> Gather<K> {
     fn put_first(&mut self, bytes: &[u8]) -> Result<(), Short>
         requires none_waits { self.old.waiting.items ≡ [] }
         requires whole { self.old.broken ≡ false }
-        ensures puts { Puts (K.state self.old.sink).took [] (K.state self.new.sink).took self.new.waiting.items bytes.now result }
+        ensures puts { Puts (K.state self.old.sink).took [] (K.state self.new.sink).took self.new.waiting.items
+            bytes.now result }
         ensures long { length self.new.waiting.items ≤ length bytes.now }
         ensures cause { OnErr result (RisesOnce (K.state self.old.sink).faults (K.state self.new.sink).faults) }
         ensures still { OnOk result ((K.state self.new.sink).faults ≡ (K.state self.old.sink).faults) }
@@ -112,7 +123,8 @@ impl<K: Sink + Drop> Gather<K> {
     fn write_past(&mut self, bytes: &[u8]) -> Result<(), Short>
         requires none_waits { self.old.waiting.items ≡ [] }
         requires whole { self.old.broken ≡ false }
-        ensures puts { Puts (K.state self.old.sink).took [] (K.state self.new.sink).took self.new.waiting.items bytes.now result }
+        ensures puts { Puts (K.state self.old.sink).took [] (K.state self.new.sink).took self.new.waiting.items
+            bytes.now result }
         ensures waits { self.new.waiting.items ≡ [] }
         ensures cause { OnErr result (RisesOnce (K.state self.old.sink).faults (K.state self.new.sink).faults) }
         ensures still { OnOk result ((K.state self.new.sink).faults ≡ (K.state self.old.sink).faults) }

@@ -136,11 +136,14 @@ impl Source for MemorySource {
 
     fn read(&mut self, out: &mut [u8]) -> Result<usize, Failed>
         ensures bound { IfOk result (λ n. n ≤ length out.new) }
-        ensures gives { ReadGives (left_of self.old.bytes.bytes.items self.old.bytes.next) (left_of self.new.bytes.bytes.items self.new.bytes.next) out.new result }
+        ensures gives { ReadGives (left_of self.old.bytes.bytes.items self.old.bytes.next)
+            (left_of self.new.bytes.bytes.items self.new.bytes.next) out.new result }
         ensures no_room { length out.new ≡ 0 → (result ≡ Ok 0) × (self.new ≡ self.old) }
         ensures cause { HasCause self.old.faults self.new.faults result }
-        ensures stays { (self.new.bytes.bytes ≡ self.old.bytes.bytes) × (self.new.reads.failing ≡ self.old.reads.failing) }
-        ensures planned { IsErr result ↔ (0 < length out.new) × Contains self.old.reads.failing.items self.old.reads.made }
+        ensures stays { (self.new.bytes.bytes ≡ self.old.bytes.bytes)
+            × (self.new.reads.failing ≡ self.old.reads.failing) }
+        ensures planned { IsErr result
+            ↔ (0 < length out.new) × Contains self.old.reads.failing.items self.old.reads.made }
         ensures counted { 0 < length out.new → self.new.reads.made ≡ next_call self.old.reads.made }
     {
         if out.is_empty() {
@@ -238,7 +241,9 @@ impl Sink for MemorySink {
         ensures goes_on { IfOk result (λ n. 0 < length bytes.now → 0 < n) }
         ensures takes { Writes (Some self.old.bytes.items) (Some self.new.bytes.items) bytes.now result }
         ensures cause { HasCause self.old.faults self.new.faults result }
-        ensures planned { WritesAsPlanned (planned self.old.writes.failing.items self.old.writes.made (length bytes.now)) self.old.bytes self.new.bytes bytes.now result }
+        ensures planned { WritesAsPlanned
+            (planned self.old.writes.failing.items self.old.writes.made (length bytes.now)) self.old.bytes
+            self.new.bytes bytes.now result }
         ensures counted { self.new.writes.made ≡ next_call self.old.writes.made }
         ensures plan { self.new.writes.failing ≡ self.old.writes.failing }
     {
@@ -475,13 +480,17 @@ impl LiveStore for MemoryLive {
     ghost state = { λ s. record { held = Some s.store.bytes.items; faults = s.faults; waiting = s.store.waiting } };
 
     fn append(&mut self, bytes: &[u8]) -> Result<Piece, AppendRefused>
-        ensures adds { IfOk result (λ e. Adds (Some self.old.store.bytes.items) (Some self.new.store.bytes.items) bytes.now) }
-        ensures extent { IfOk result (λ e. (length e.bytes.now ≡ length bytes.now) × ((before : List ℕ) → Some self.old.store.bytes.items ≡ Some before → Some e.bytes.now ≡ Some bytes.now)) }
+        ensures adds { IfOk result (λ e. Adds (Some self.old.store.bytes.items) (Some self.new.store.bytes.items)
+            bytes.now) }
+        ensures extent { IfOk result (λ e. (length e.bytes.now ≡ length bytes.now)
+            × ((before : List ℕ) → Some self.old.store.bytes.items ≡ Some before → Some e.bytes.now ≡ Some bytes.now)) }
         ensures names { IfOk result (λ e. (told : List ℕ) → Some e.bytes.now ≡ Some told → told ≡ bytes.now) }
-        ensures leaves { IfErr result (AppendLeaves (Some self.old.store.bytes.items) (Some self.new.store.bytes.items) bytes.now) }
+        ensures leaves { IfErr result (AppendLeaves (Some self.old.store.bytes.items) (Some self.new.store.bytes.items)
+            bytes.now) }
         ensures cause { AppendCause self.old.faults self.new.faults result }
         ensures waits { self.new.store.waiting ≤ self.old.store.waiting + length bytes.now }
-        ensures planned { AppendsAsPlanned (planned self.old.appends.failing.items self.old.appends.made (length bytes.now)) result }
+        ensures planned { AppendsAsPlanned
+            (planned self.old.appends.failing.items self.old.appends.made (length bytes.now)) result }
         ensures counted { self.new.appends.made ≡ next_call self.old.appends.made }
         ensures plan { self.new.appends.failing ≡ self.old.appends.failing }
     {
@@ -499,14 +508,18 @@ impl LiveStore for MemoryLive {
     }
 
     fn append_through(&mut self, bytes: &[u8]) -> Result<Piece, AppendRefused>
-        ensures adds { IfOk result (λ e. Adds (Some self.old.store.bytes.items) (Some self.new.store.bytes.items) bytes.now) }
-        ensures extent { IfOk result (λ e. (length e.bytes.now ≡ length bytes.now) × ((before : List ℕ) → Some self.old.store.bytes.items ≡ Some before → Some e.bytes.now ≡ Some bytes.now)) }
+        ensures adds { IfOk result (λ e. Adds (Some self.old.store.bytes.items) (Some self.new.store.bytes.items)
+            bytes.now) }
+        ensures extent { IfOk result (λ e. (length e.bytes.now ≡ length bytes.now)
+            × ((before : List ℕ) → Some self.old.store.bytes.items ≡ Some before → Some e.bytes.now ≡ Some bytes.now)) }
         ensures names { IfOk result (λ e. (told : List ℕ) → Some e.bytes.now ≡ Some told → told ≡ bytes.now) }
-        ensures leaves { IfErr result (AppendLeaves (Some self.old.store.bytes.items) (Some self.new.store.bytes.items) bytes.now) }
+        ensures leaves { IfErr result (AppendLeaves (Some self.old.store.bytes.items) (Some self.new.store.bytes.items)
+            bytes.now) }
         ensures cause { AppendCause self.old.faults self.new.faults result }
         ensures waits { self.new.store.waiting ≤ self.old.store.waiting + length bytes.now }
         ensures through { OnOk result (self.new.store.waiting ≡ 0) }
-        ensures planned { AppendsAsPlanned (planned self.old.appends.failing.items self.old.appends.made (length bytes.now)) result }
+        ensures planned { AppendsAsPlanned
+            (planned self.old.appends.failing.items self.old.appends.made (length bytes.now)) result }
         ensures counted { self.new.appends.made ≡ next_call self.old.appends.made }
         ensures plan { self.new.appends.failing ≡ self.old.appends.failing }
     {
@@ -520,12 +533,15 @@ impl LiveStore for MemoryLive {
     }
 
     fn append_each<P: Pieces>(&mut self, pieces: &P) -> Result<(), EachRefused>
-        ensures adds { OnOk result (Adds (Some self.old.store.bytes.items) (Some self.new.store.bytes.items) (concat (P.list pieces.now))) }
-        ensures leaves { IfErr result (EachLeaves (Some self.old.store.bytes.items) (Some self.new.store.bytes.items) (P.list pieces.now)) }
+        ensures adds { OnOk result (Adds (Some self.old.store.bytes.items) (Some self.new.store.bytes.items)
+            (concat (P.list pieces.now))) }
+        ensures leaves { IfErr result (EachLeaves (Some self.old.store.bytes.items) (Some self.new.store.bytes.items)
+            (P.list pieces.now)) }
         ensures cause { EachCause self.old.faults self.new.faults result }
         ensures waits { self.new.store.waiting ≤ self.old.store.waiting + length (concat (P.list pieces.now)) }
         // Each piece is a call.
-        ensures planned { EachAsPlanned self.old.appends.failing.items self.old.appends.made self.new.appends.made (P.list pieces.now) result }
+        ensures planned { EachAsPlanned self.old.appends.failing.items self.old.appends.made self.new.appends.made
+            (P.list pieces.now) result }
         ensures plan { self.new.appends.failing ≡ self.old.appends.failing }
     {
         let len = pieces.bytes().len();

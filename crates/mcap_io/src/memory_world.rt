@@ -54,7 +54,17 @@ pub struct MemoryWorld {
 impl MemoryWorld {
     /// A world with no names.
     pub fn new(alloc: Global, plan: Plan) -> Self
-        ensures tells { ⟦<MemoryWorld as World>⟧.state result ≡ record { told = Some (record { names = λ name. None; log = [] }); faults = 0; input_faults = 0; output_faults = 0; watch_faults = 0 } }
+        ensures tells { ⟦<MemoryWorld as World>⟧.state result
+            ≡ record {
+              told = Some (record {
+                names = λ name. None;
+                log = [];
+              });
+              faults = 0;
+              input_faults = 0;
+              output_faults = 0;
+              watch_faults = 0;
+            } }
         ensures openings { (result.openings.failing ≡ plan.openings) × (result.openings.made ≡ 0) }
         ensures keepings { (result.keepings.failing ≡ plan.keepings) × (result.keepings.made ≡ 0) }
         ensures reads { result.reads ≡ plan.reads }
@@ -132,8 +142,10 @@ impl MemoryWorld {
 
     // A source of a copy of what stands under the name, with a plan of its own.
     fn open_source(&mut self, name: &str, fails: bool) -> Result<MemorySource, OutsideRefused>
-        ensures tells { IfOk result (λ it. Some (⟦<MemorySource as Source>⟧.state it).left ≡ option_map Some (standing self.old.entries name.now)) }
-        ensures unused { IfOk result (λ it. ((⟦<MemorySource as Source>⟧.state it).faults ≡ 0) × (it.reads.failing.items ≡ self.old.reads.items) × (it.reads.made ≡ 0)) }
+        ensures tells { IfOk result (λ it. Some (⟦<MemorySource as Source>⟧.state it).left
+            ≡ option_map Some (standing self.old.entries name.now)) }
+        ensures unused { IfOk result (λ it. ((⟦<MemorySource as Source>⟧.state it).faults ≡ 0)
+            × (it.reads.failing.items ≡ self.old.reads.items) × (it.reads.made ≡ 0)) }
         ensures cause { OpenCause self.old.faults self.new.faults result }
         ensures planned { OpensAsPlanned (IsTrue fails) (standing self.old.entries name.now ≡ None) result }
         ensures rest { self.new ≡ record self.old { faults = self.new.faults } }
@@ -146,8 +158,10 @@ impl MemoryWorld {
 
     // A store of a copy of what stands under the name, with a plan of its own.
     fn open_store(&mut self, name: &str, fails: bool) -> Result<MemoryStore, OutsideRefused>
-        ensures tells { IfOk result (λ it. Some (⟦<MemoryStore as Store>⟧.state it).bytes ≡ option_map Some (standing self.old.entries name.now)) }
-        ensures unused { IfOk result (λ it. IsUnused (⟦<MemoryStore as Store>⟧.state it) × (it.calls.failing.items ≡ self.old.reads.items) × (it.calls.made ≡ 0)) }
+        ensures tells { IfOk result (λ it. Some (⟦<MemoryStore as Store>⟧.state it).bytes
+            ≡ option_map Some (standing self.old.entries name.now)) }
+        ensures unused { IfOk result (λ it. IsUnused (⟦<MemoryStore as Store>⟧.state it)
+            × (it.calls.failing.items ≡ self.old.reads.items) × (it.calls.made ≡ 0)) }
         ensures cause { OpenCause self.old.faults self.new.faults result }
         ensures planned { OpensAsPlanned (IsTrue fails) (standing self.old.entries name.now ≡ None) result }
         ensures rest { self.new ≡ record self.old { faults = self.new.faults } }
@@ -178,8 +192,10 @@ impl MemoryWorld {
 
     // An empty live store, with a plan of its own.
     fn open_live(&mut self, fails: bool) -> Result<MemoryLive, OutsideRefused>
-        ensures tells { IfOk result (λ it. ⟦<MemoryLive as LiveStore>⟧.state it ≡ record { held = Some []; faults = 0; waiting = 0 }) }
-        ensures unused { IfOk result (λ it. (it.appends.failing.items ≡ self.old.appends.items) × (it.appends.made ≡ 0)) }
+        ensures tells { IfOk result (λ it. ⟦<MemoryLive as LiveStore>⟧.state it
+            ≡ record { held = Some []; faults = 0; waiting = 0 }) }
+        ensures unused { IfOk result (λ it. (it.appends.failing.items ≡ self.old.appends.items)
+            × (it.appends.made ≡ 0)) }
         ensures cause { OpenCause self.old.faults self.new.faults result }
         ensures planned { OpensAsPlanned (IsTrue fails) ⊥ result }
         ensures rest { self.new ≡ record self.old { faults = self.new.faults } }
@@ -198,7 +214,14 @@ impl MemoryWorld {
     fn count_keeping(&mut self) -> Result<(), Failed>
         ensures planned { IsErr result ↔ Contains self.old.keepings.failing.items self.old.keepings.made }
         ensures cause { HasCause self.old.faults self.new.faults result }
-        ensures rest { self.new ≡ record self.old { faults = self.new.faults; keepings = record { failing = self.old.keepings.failing; made = next_call self.old.keepings.made } } }
+        ensures rest { self.new
+            ≡ record self.old {
+              faults = self.new.faults;
+              keepings = record {
+                failing = self.old.keepings.failing;
+                made = next_call self.old.keepings.made;
+              };
+            } }
     {
         if self.keepings.next_fails() {
             self.faults = self.faults.saturating_add(1);
@@ -209,10 +232,20 @@ impl MemoryWorld {
 
     // Puts what a store held under the name. It fails where the keeping is to, and where memory lacks for the name.
     fn put_back(&mut self, name: &str, bytes: Vec<u8>) -> Result<(), Failed>
-        ensures keeps { KeepsName (standing self.old.entries) (standing self.new.entries) name.now (Some bytes.items) result }
-        ensures planned { Contains self.old.keepings.failing.items self.old.keepings.made → IsErr result × (self.new.entries ≡ self.old.entries) }
+        ensures keeps { KeepsName (standing self.old.entries) (standing self.new.entries) name.now (Some bytes.items)
+            result }
+        ensures planned { Contains self.old.keepings.failing.items self.old.keepings.made
+            → IsErr result × (self.new.entries ≡ self.old.entries) }
         ensures cause { HasCause self.old.faults self.new.faults result }
-        ensures rest { self.new ≡ record self.old { entries = self.new.entries; faults = self.new.faults; keepings = record { failing = self.old.keepings.failing; made = next_call self.old.keepings.made } } }
+        ensures rest { self.new
+            ≡ record self.old {
+              entries = self.new.entries;
+              faults = self.new.faults;
+              keepings = record {
+                failing = self.old.keepings.failing;
+                made = next_call self.old.keepings.made;
+              };
+            } }
     {
         match self.count_keeping() {
             Ok(()) => {}
@@ -230,7 +263,8 @@ impl MemoryWorld {
     /// The openings so far, in their order, each with how its object was taken back. One that memory lacked for is left
     /// out.
     pub fn log(&self) -> &[Opened]
-        ensures { (⟦<MemoryWorld as World>⟧.state self.now).told ≡ Some (record { names = standing self.now.entries; log = map shown result.now }) }
+        ensures { (⟦<MemoryWorld as World>⟧.state self.now).told
+            ≡ Some (record { names = standing self.now.entries; log = map shown result.now }) }
     {
         &self.log
     }
@@ -283,9 +317,18 @@ impl World for MemoryWorld {
         ensures unused { IfOk result (λ it. (⟦<MemorySource as Source>⟧.state it).faults ≡ 0) }
         ensures counts { CountsStand (seen self.old) (seen self.new) }
         ensures cause { OpenCause self.old.faults self.new.faults result }
-        ensures planned { OpensAsPlanned (Contains self.old.openings.failing.items self.old.openings.made) (standing self.old.entries name.now ≡ None) result }
+        ensures planned { OpensAsPlanned (Contains self.old.openings.failing.items self.old.openings.made)
+            (standing self.old.entries name.now ≡ None) result }
         ensures plan { IfOk result (λ it. (it.reads.failing.items ≡ self.old.reads.items) × (it.reads.made ≡ 0)) }
-        ensures rest { self.new ≡ record self.old { log = self.new.log; faults = self.new.faults; openings = record { failing = self.old.openings.failing; made = next_call self.old.openings.made } } }
+        ensures rest { self.new
+            ≡ record self.old {
+              log = self.new.log;
+              faults = self.new.faults;
+              openings = record {
+                failing = self.old.openings.failing;
+                made = next_call self.old.openings.made;
+              };
+            } }
     {
         let fails = self.openings.next_fails();
         let Ok(copy) = make_room(self.alloc, &mut self.log, name) else {
@@ -310,9 +353,18 @@ impl World for MemoryWorld {
         ensures unused { IfOk result (λ it. IsUnused (⟦<MemoryStore as Store>⟧.state it)) }
         ensures counts { CountsStand (seen self.old) (seen self.new) }
         ensures cause { OpenCause self.old.faults self.new.faults result }
-        ensures planned { OpensAsPlanned (Contains self.old.openings.failing.items self.old.openings.made) (standing self.old.entries name.now ≡ None) result }
+        ensures planned { OpensAsPlanned (Contains self.old.openings.failing.items self.old.openings.made)
+            (standing self.old.entries name.now ≡ None) result }
         ensures plan { IfOk result (λ it. (it.calls.failing.items ≡ self.old.reads.items) × (it.calls.made ≡ 0)) }
-        ensures rest { self.new ≡ record self.old { log = self.new.log; faults = self.new.faults; openings = record { failing = self.old.openings.failing; made = next_call self.old.openings.made } } }
+        ensures rest { self.new
+            ≡ record self.old {
+              log = self.new.log;
+              faults = self.new.faults;
+              openings = record {
+                failing = self.old.openings.failing;
+                made = next_call self.old.openings.made;
+              };
+            } }
     {
         let fails = self.openings.next_fails();
         let Ok(copy) = make_room(self.alloc, &mut self.log, name) else {
@@ -339,7 +391,15 @@ impl World for MemoryWorld {
         ensures cause { OpenCause self.old.faults self.new.faults result }
         ensures planned { OpensAsPlanned (Contains self.old.openings.failing.items self.old.openings.made) ⊥ result }
         ensures plan { IfOk result (λ it. (it.writes.failing.items ≡ self.old.writes.items) × (it.writes.made ≡ 0)) }
-        ensures rest { self.new ≡ record self.old { log = self.new.log; faults = self.new.faults; openings = record { failing = self.old.openings.failing; made = next_call self.old.openings.made } } }
+        ensures rest { self.new
+            ≡ record self.old {
+              log = self.new.log;
+              faults = self.new.faults;
+              openings = record {
+                failing = self.old.openings.failing;
+                made = next_call self.old.openings.made;
+              };
+            } }
     {
         let fails = self.openings.next_fails();
         let Ok(copy) = make_room(self.alloc, &mut self.log, name) else {
@@ -366,7 +426,15 @@ impl World for MemoryWorld {
         ensures cause { OpenCause self.old.faults self.new.faults result }
         ensures planned { OpensAsPlanned (Contains self.old.openings.failing.items self.old.openings.made) ⊥ result }
         ensures plan { IfOk result (λ it. (it.appends.failing.items ≡ self.old.appends.items) × (it.appends.made ≡ 0)) }
-        ensures rest { self.new ≡ record self.old { log = self.new.log; faults = self.new.faults; openings = record { failing = self.old.openings.failing; made = next_call self.old.openings.made } } }
+        ensures rest { self.new
+            ≡ record self.old {
+              log = self.new.log;
+              faults = self.new.faults;
+              openings = record {
+                failing = self.old.openings.failing;
+                made = next_call self.old.openings.made;
+              };
+            } }
     {
         let fails = self.openings.next_fails();
         let Ok(copy) = make_room(self.alloc, &mut self.log, name) else {
@@ -386,13 +454,23 @@ impl World for MemoryWorld {
     }
 
     fn keep_source(&mut self, name: &str, it: MemorySource) -> Result<(), Failed>
-        ensures keeps { KeepsSource (seen self.old) (seen self.new) name.now (⟦<MemorySource as Source>⟧.state it) result }
+        ensures keeps { KeepsSource (seen self.old) (seen self.new) name.now (⟦<MemorySource as Source>⟧.state it)
+            result }
         ensures input_faults { self.new.input_faults ≡ added self.old.input_faults it.faults }
         ensures output_faults { self.new.output_faults ≡ self.old.output_faults }
         ensures watch_faults { self.new.watch_faults ≡ self.old.watch_faults }
         ensures cause { HasCause self.old.faults self.new.faults result }
         ensures planned { IsErr result ↔ Contains self.old.keepings.failing.items self.old.keepings.made }
-        ensures rest { self.new ≡ record self.old { log = self.new.log; faults = self.new.faults; input_faults = self.new.input_faults; keepings = record { failing = self.old.keepings.failing; made = next_call self.old.keepings.made } } }
+        ensures rest { self.new
+            ≡ record self.old {
+              log = self.new.log;
+              faults = self.new.faults;
+              input_faults = self.new.input_faults;
+              keepings = record {
+                failing = self.old.keepings.failing;
+                made = next_call self.old.keepings.made;
+              };
+            } }
     {
         self.input_faults = self.input_faults.saturating_add(it.faults());
         let faults = it.faults();
@@ -415,7 +493,16 @@ impl World for MemoryWorld {
         ensures watch_faults { self.new.watch_faults ≡ self.old.watch_faults }
         ensures cause { HasCause self.old.faults self.new.faults result }
         ensures planned { IsErr result ↔ Contains self.old.keepings.failing.items self.old.keepings.made }
-        ensures rest { self.new ≡ record self.old { log = self.new.log; faults = self.new.faults; input_faults = self.new.input_faults; keepings = record { failing = self.old.keepings.failing; made = next_call self.old.keepings.made } } }
+        ensures rest { self.new
+            ≡ record self.old {
+              log = self.new.log;
+              faults = self.new.faults;
+              input_faults = self.new.input_faults;
+              keepings = record {
+                failing = self.old.keepings.failing;
+                made = next_call self.old.keepings.made;
+              };
+            } }
     {
         self.input_faults = self.input_faults.saturating_add(it.faults());
         let faults = it.faults();
@@ -438,8 +525,19 @@ impl World for MemoryWorld {
         ensures watch_faults { self.new.watch_faults ≡ added self.old.watch_faults it.faults }
         ensures cause { HasCause self.old.faults self.new.faults result }
         // It fails where it is to, and where memory lacks for the name.
-        ensures planned { Contains self.old.keepings.failing.items self.old.keepings.made → IsErr result × (self.new.entries ≡ self.old.entries) }
-        ensures rest { self.new ≡ record self.old { log = self.new.log; faults = self.new.faults; watch_faults = self.new.watch_faults; entries = self.new.entries; keepings = record { failing = self.old.keepings.failing; made = next_call self.old.keepings.made } } }
+        ensures planned { Contains self.old.keepings.failing.items self.old.keepings.made
+            → IsErr result × (self.new.entries ≡ self.old.entries) }
+        ensures rest { self.new
+            ≡ record self.old {
+              log = self.new.log;
+              faults = self.new.faults;
+              watch_faults = self.new.watch_faults;
+              entries = self.new.entries;
+              keepings = record {
+                failing = self.old.keepings.failing;
+                made = next_call self.old.keepings.made;
+              };
+            } }
     {
         let faults = it.faults();
         self.watch_faults = self.watch_faults.saturating_add(faults);
@@ -455,14 +553,26 @@ impl World for MemoryWorld {
     }
 
     fn keep_live(&mut self, name: &str, it: MemoryLive) -> Result<(), Failed>
-        ensures keeps { KeepsLive (seen self.old) (seen self.new) name.now (⟦<MemoryLive as LiveStore>⟧.state it) result }
+        ensures keeps { KeepsLive (seen self.old) (seen self.new) name.now (⟦<MemoryLive as LiveStore>⟧.state it)
+            result }
         ensures input_faults { self.new.input_faults ≡ self.old.input_faults }
         ensures output_faults { self.new.output_faults ≡ added self.old.output_faults it.faults }
         ensures watch_faults { self.new.watch_faults ≡ self.old.watch_faults }
         ensures cause { HasCause self.old.faults self.new.faults result }
         // It fails where it is to, and where memory lacks for the name.
-        ensures planned { Contains self.old.keepings.failing.items self.old.keepings.made → IsErr result × (self.new.entries ≡ self.old.entries) }
-        ensures rest { self.new ≡ record self.old { log = self.new.log; faults = self.new.faults; output_faults = self.new.output_faults; entries = self.new.entries; keepings = record { failing = self.old.keepings.failing; made = next_call self.old.keepings.made } } }
+        ensures planned { Contains self.old.keepings.failing.items self.old.keepings.made
+            → IsErr result × (self.new.entries ≡ self.old.entries) }
+        ensures rest { self.new
+            ≡ record self.old {
+              log = self.new.log;
+              faults = self.new.faults;
+              output_faults = self.new.output_faults;
+              entries = self.new.entries;
+              keepings = record {
+                failing = self.old.keepings.failing;
+                made = next_call self.old.keepings.made;
+              };
+            } }
     {
         self.output_faults = self.output_faults.saturating_add(it.faults());
         let faults = it.faults();

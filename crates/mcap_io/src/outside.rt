@@ -138,7 +138,8 @@ pub trait LiveStore {
     /// Puts the piece behind what it holds. The store may keep it back for a while before it is with the system.
     fn append(&mut self, bytes: &[u8]) -> Result<Self::Extent, AppendRefused>
         ensures adds { IfOk result (λ e. Adds (state self.old).held (state self.new).held bytes.now) }
-        ensures extent { IfOk result (λ e. (Self.Extent.size e ≡ length bytes.now) × ((before : List ℕ) → (state self.old).held ≡ Some before → Self.Extent.tells e ≡ Some bytes.now)) }
+        ensures extent { IfOk result (λ e. (Self.Extent.size e ≡ length bytes.now)
+            × ((before : List ℕ) → (state self.old).held ≡ Some before → Self.Extent.tells e ≡ Some bytes.now)) }
         // Whether the store tells or not, an extent tells nothing else.
         ensures names { IfOk result (λ e. (told : List ℕ) → Self.Extent.tells e ≡ Some told → told ≡ bytes.now) }
         ensures leaves { IfErr result (AppendLeaves (state self.old).held (state self.new).held bytes.now) }
@@ -148,7 +149,8 @@ pub trait LiveStore {
     /// Does the same; after an Ok all that was appended is with the system.
     fn append_through(&mut self, bytes: &[u8]) -> Result<Self::Extent, AppendRefused>
         ensures adds { IfOk result (λ e. Adds (state self.old).held (state self.new).held bytes.now) }
-        ensures extent { IfOk result (λ e. (Self.Extent.size e ≡ length bytes.now) × ((before : List ℕ) → (state self.old).held ≡ Some before → Self.Extent.tells e ≡ Some bytes.now)) }
+        ensures extent { IfOk result (λ e. (Self.Extent.size e ≡ length bytes.now)
+            × ((before : List ℕ) → (state self.old).held ≡ Some before → Self.Extent.tells e ≡ Some bytes.now)) }
         // Whether the store tells or not, an extent tells nothing else.
         ensures names { IfOk result (λ e. (told : List ℕ) → Self.Extent.tells e ≡ Some told → told ≡ bytes.now) }
         ensures leaves { IfErr result (AppendLeaves (state self.old).held (state self.new).held bytes.now) }
@@ -240,7 +242,8 @@ pub trait World {
     /// Takes a source back, after a failure too.
     fn keep_source(&mut self, name: &str, it: Self::Source) -> Result<(), Failed>
         ensures keeps { KeepsSource (state self.old) (state self.new) name.now (Self.Source.state it) result }
-        ensures input_faults { (state self.new).input_faults ≡ added (state self.old).input_faults (Self.Source.state it).faults }
+        ensures input_faults { (state self.new).input_faults
+            ≡ added (state self.old).input_faults (Self.Source.state it).faults }
         ensures output_faults { (state self.new).output_faults ≡ (state self.old).output_faults }
         ensures watch_faults { (state self.new).watch_faults ≡ (state self.old).watch_faults }
         ensures cause { HasCause (state self.old).faults (state self.new).faults result };
@@ -248,7 +251,8 @@ pub trait World {
     /// Takes a store back, after a failure too.
     fn keep_store(&mut self, name: &str, it: Self::Store) -> Result<(), Failed>
         ensures keeps { KeepsStore (state self.old) (state self.new) name.now (Self.Store.state it) result }
-        ensures input_faults { (state self.new).input_faults ≡ added (state self.old).input_faults (Self.Store.state it).faults }
+        ensures input_faults { (state self.new).input_faults
+            ≡ added (state self.old).input_faults (Self.Store.state it).faults }
         ensures output_faults { (state self.new).output_faults ≡ (state self.old).output_faults }
         ensures watch_faults { (state self.new).watch_faults ≡ (state self.old).watch_faults }
         ensures cause { HasCause (state self.old).faults (state self.new).faults result };
@@ -258,14 +262,16 @@ pub trait World {
         ensures keeps { KeepsSink (state self.old) (state self.new) name.now (Self.Sink.state it) result }
         ensures input_faults { (state self.new).input_faults ≡ (state self.old).input_faults }
         ensures output_faults { (state self.new).output_faults ≡ (state self.old).output_faults }
-        ensures watch_faults { (state self.new).watch_faults ≡ added (state self.old).watch_faults (Self.Sink.state it).faults }
+        ensures watch_faults { (state self.new).watch_faults
+            ≡ added (state self.old).watch_faults (Self.Sink.state it).faults }
         ensures cause { HasCause (state self.old).faults (state self.new).faults result };
 
     /// Takes a live store back, and puts what it holds under the name.
     fn keep_live(&mut self, name: &str, it: Self::Live) -> Result<(), Failed>
         ensures keeps { KeepsLive (state self.old) (state self.new) name.now (Self.Live.state it) result }
         ensures input_faults { (state self.new).input_faults ≡ (state self.old).input_faults }
-        ensures output_faults { (state self.new).output_faults ≡ added (state self.old).output_faults (Self.Live.state it).faults }
+        ensures output_faults { (state self.new).output_faults
+            ≡ added (state self.old).output_faults (Self.Live.state it).faults }
         ensures watch_faults { (state self.new).watch_faults ≡ (state self.old).watch_faults }
         ensures cause { HasCause (state self.old).faults (state self.new).faults result };
 

@@ -59,7 +59,10 @@ impl<F: OpenFile + FileExt + Drop> Store for FileStore<F> {
     ghost state = { λ s. record { bytes = nothing; known = s.known; faults = s.faults; asked = s.asked } };
 
     fn len(&mut self) -> Result<u64, Failed>
-        ensures measures { Measures (record { bytes = nothing; known = self.old.known; faults = self.old.faults; asked = self.old.asked }) (record { bytes = nothing; known = self.new.known; faults = self.new.faults; asked = self.new.asked }) result }
+        ensures measures { Measures
+            (record { bytes = nothing; known = self.old.known; faults = self.old.faults; asked = self.old.asked })
+            (record { bytes = nothing; known = self.new.known; faults = self.new.faults; asked = self.new.asked })
+            result }
         ensures id { self.new.id ≡ self.old.id }
     {
         match self.file.metadata() {
@@ -77,7 +80,10 @@ impl<F: OpenFile + FileExt + Drop> Store for FileStore<F> {
 
     fn read_at(&mut self, at: u64, out: &mut [u8]) -> Result<(), Failed>
         requires { at + length out.old ≤ self.old.known }
-        ensures reads { ReadsPart (record { bytes = nothing; known = self.old.known; faults = self.old.faults; asked = self.old.asked }) (record { bytes = nothing; known = self.new.known; faults = self.new.faults; asked = self.new.asked }) at out.new result }
+        ensures reads { ReadsPart
+            (record { bytes = nothing; known = self.old.known; faults = self.old.faults; asked = self.old.asked })
+            (record { bytes = nothing; known = self.new.known; faults = self.new.faults; asked = self.new.asked }) at
+            out.new result }
         ensures id { self.new.id ≡ self.old.id }
     {
         self.asked = self.asked.saturating_add(out.len() as u128);

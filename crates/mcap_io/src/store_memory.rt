@@ -19,7 +19,8 @@ pub struct QuietStore {
 impl QuietStore {
     /// A store of these bytes, none of which was asked for.
     pub fn new(bytes: Vec<u8>) -> Self
-        ensures { ⟦<QuietStore as Store>⟧.state result ≡ record { bytes = Some bytes.items; known = 0; faults = 0; asked = 0 } }
+        ensures { ⟦<QuietStore as Store>⟧.state result
+            ≡ record { bytes = Some bytes.items; known = 0; faults = 0; asked = 0 } }
     {
         QuietStore {
             bytes,
@@ -94,7 +95,8 @@ pub struct MemoryStore {
 impl MemoryStore {
     /// The questions for the length and the reads are numbered together, from 0. Those in the list fail.
     pub fn new(bytes: Vec<u8>, failing: Vec<u64>) -> Self
-        ensures state { ⟦<MemoryStore as Store>⟧.state result ≡ record { bytes = Some bytes.items; known = 0; faults = 0; asked = 0 } }
+        ensures state { ⟦<MemoryStore as Store>⟧.state result
+            ≡ record { bytes = Some bytes.items; known = 0; faults = 0; asked = 0 } }
         ensures plan { result.calls.failing ≡ failing }
         ensures made { result.calls.made ≡ 0 }
     {
@@ -114,10 +116,23 @@ impl MemoryStore {
 }
 
 impl Store for MemoryStore {
-    ghost state = { λ s. record { bytes = Some s.store.bytes.items; known = s.store.known; faults = s.faults; asked = s.store.asked } };
+    ghost state = { λ s. record
+        { bytes = Some s.store.bytes.items; known = s.store.known; faults = s.faults; asked = s.store.asked } };
 
     fn len(&mut self) -> Result<u64, Failed>
-        ensures measures { Measures (record { bytes = Some self.old.store.bytes.items; known = self.old.store.known; faults = self.old.faults; asked = self.old.store.asked }) (record { bytes = Some self.new.store.bytes.items; known = self.new.store.known; faults = self.new.faults; asked = self.new.store.asked }) result }
+        ensures measures { Measures
+            (record {
+              bytes = Some self.old.store.bytes.items;
+              known = self.old.store.known;
+              faults = self.old.faults;
+              asked = self.old.store.asked;
+            })
+            (record {
+              bytes = Some self.new.store.bytes.items;
+              known = self.new.store.known;
+              faults = self.new.faults;
+              asked = self.new.store.asked;
+            }) result }
         ensures planned { IsErr result ↔ Contains self.old.calls.failing.items self.old.calls.made }
         ensures counted { self.new.calls.made ≡ one_more self.old.calls.made }
         ensures plan { self.new.calls.failing ≡ self.old.calls.failing }
@@ -131,7 +146,19 @@ impl Store for MemoryStore {
 
     fn read_at(&mut self, at: u64, out: &mut [u8]) -> Result<(), Failed>
         requires { at + length out.old ≤ self.old.store.known }
-        ensures reads { ReadsPart (record { bytes = Some self.old.store.bytes.items; known = self.old.store.known; faults = self.old.faults; asked = self.old.store.asked }) (record { bytes = Some self.new.store.bytes.items; known = self.new.store.known; faults = self.new.faults; asked = self.new.store.asked }) at out.new result }
+        ensures reads { ReadsPart
+            (record {
+              bytes = Some self.old.store.bytes.items;
+              known = self.old.store.known;
+              faults = self.old.faults;
+              asked = self.old.store.asked;
+            })
+            (record {
+              bytes = Some self.new.store.bytes.items;
+              known = self.new.store.known;
+              faults = self.new.faults;
+              asked = self.new.store.asked;
+            }) at out.new result }
         ensures planned { IsErr result ↔ Contains self.old.calls.failing.items self.old.calls.made }
         ensures counted { self.new.calls.made ≡ one_more self.old.calls.made }
         ensures plan { self.new.calls.failing ≡ self.old.calls.failing }

@@ -22,7 +22,8 @@ impl<'a, T: Store> StoreSource<'a, T> {
         requires { len ≤ (T.state store.old).known }
         ensures same_reference { result.store.ghost_name ≡ store.entry.ghost_name }
         ensures now { result.store.now ≡ store.old }
-        ensures state { ⟦<StoreSource<'a, T> as Source>⟧.state result ≡ record { left = front_left (T.state store.old).bytes 0 len; faults = (T.state store.old).faults } }
+        ensures state { ⟦<StoreSource<'a, T> as Source>⟧.state result
+            ≡ record { left = front_left (T.state store.old).bytes 0 len; faults = (T.state store.old).faults } }
     {
         StoreSource {
             store,
@@ -33,14 +34,32 @@ impl<'a, T: Store> StoreSource<'a, T> {
 }
 
 impl<'a, T: Store> Source for StoreSource<'a, T> {
-    ghost state = { λ s. record { left = front_left (T.state s.store.now).bytes s.next s.len; faults = (T.state s.store.now).faults } };
+    ghost state = { λ s. record
+        { left = front_left (T.state s.store.now).bytes s.next s.len; faults = (T.state s.store.now).faults } };
 
     /// It is lent the same store, whose bytes are the same, and gives as many of them.
-    ghost stays = { λ s t. (t.store.ghost_name ≡ s.store.ghost_name) × (t.len ≡ s.len) × StaysStore (T.state s.store.now) (T.state t.store.now) };
+    ghost stays = { λ s t. (t.store.ghost_name ≡ s.store.ghost_name) × (t.len ≡ s.len)
+        × StaysStore (T.state s.store.now) (T.state t.store.now) };
 
-    ghost stays_so = { λ s. (refl, refl, record { bytes = refl; known = refl; faults = le_refl (T.state s.store.now).faults }) };
+    ghost stays_so = { λ s. (
+      refl,
+      refl,
+      record {
+        bytes = refl;
+        known = refl;
+        faults = le_refl (T.state s.store.now).faults;
+      },
+    ) };
 
-    ghost stays_on = { λ s t u first second. (second.0 ∙ first.0, second.1 ∙ first.1, record { bytes = second.2.bytes ∙ first.2.bytes; known = second.2.known ∙ first.2.known; faults = le_trans first.2.faults second.2.faults }) };
+    ghost stays_on = { λ s t u first second. (
+      second.0 ∙ first.0,
+      second.1 ∙ first.1,
+      record {
+        bytes = second.2.bytes ∙ first.2.bytes;
+        known = second.2.known ∙ first.2.known;
+        faults = le_trans first.2.faults second.2.faults;
+      },
+    ) };
 
     fn read(&mut self, out: &mut [u8]) -> Result<usize, Failed> {
         let left = self.len - self.next;

@@ -56,7 +56,8 @@ fn read_on<S: Source>(
     ensures bound { IfOk result (λ n. filled + n ≤ room) }
     ensures room { IfOk result (λ n. vec_len buffer.new ≡ room) }
     ensures front { IfOk result (λ n. take filled buffer.new.items ≡ take filled buffer.old.items) }
-    ensures fills { FillsBehind (S.state source.old).left (S.state source.new).left (drop filled buffer.new.items) (room - filled) result }
+    ensures fills { FillsBehind (S.state source.old).left (S.state source.new).left (drop filled buffer.new.items)
+        (room - filled) result }
     ensures cause { ReadCause (S.state source.old).faults (S.state source.new).faults result }
     ensures unread { IsErrOf result OutsideRefused.Memory → source.new ≡ source.old }
     ensures stays { S.stays source.old source.new }

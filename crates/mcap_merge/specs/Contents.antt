@@ -24,7 +24,8 @@ SchemaFitsUnder (Some s) id = RecFits (schema_of id (fields_of_schema s))
 
 -- so have the Channel and its Schema, whatever their ids are
 abbrev pub FitsUnderIds : ChannelDef → Type 0
-FitsUnderIds d = (id schema : ℕ) → id < 65536 → schema < 65536 → RecFits (channel_of id (fields_with d schema)) × SchemaFitsUnder d.schema schema
+FitsUnderIds d = (id schema : ℕ) → id < 65536 → schema < 65536
+    → RecFits (channel_of id (fields_with d schema)) × SchemaFitsUnder d.schema schema
 
 -- ---- one by one
 
@@ -38,7 +39,8 @@ TakesOf records source old new = (d : ChannelDef) × IsContent records source d 
 
 -- why it hasn't: as many others are there as there are ids, or memory lacked
 abbrev pub LacksIdsOf : List Top → ℕ → tables.IdContents → IdRefused → Type 0
-LacksIdsOf records source old TooManySchemas = (d : ChannelDef) × IsContent records source d × IsFullTo old.schemas d.schema
+LacksIdsOf records source old TooManySchemas =
+    (d : ChannelDef) × IsContent records source d × IsFullTo old.schemas d.schema
 LacksIdsOf records source old TooManyChannels = (d : ChannelDef) × IsContent records source d × IsFull old.channels d
 LacksIdsOf records source old Memory = Unit {0}
 

@@ -57,7 +57,8 @@ pub record MergesInto (stores news : List StoreState) (opened now : LiveState) (
   pub records : m.records ≡ length history
   pub peak : IsPeak (read_tops is.reads) m.peak
   pub file : Adds opened.held now.held (file_of (merged_options profile chunk) extras history)
-  pub within : Holds (length (blocks_in (pieces_of (Some chunk) history))) (length (file_of (merged_options profile chunk) extras history))
+  pub within : Holds (length (blocks_in (pieces_of (Some chunk) history))) (length
+      (file_of (merged_options profile chunk) extras history))
   pub inputs_still : AllZip FaultsStand stores news
   pub still : now.faults ≡ opened.faults
   pub through : now.waiting ≡ 0
@@ -65,12 +66,15 @@ pub record MergesInto (stores news : List StoreState) (opened now : LiveState) (
 -- The file stands behind what the store held, within the limits on files, and is with the system; or the writer stopped at a
 -- piece of it.
 abbrev pub FileStands : FileOptions → List Top → List Rec → LiveState → LiveState → Result Unit Stop → Type 0
-FileStands options extras history opened now (Ok it) = Adds opened.held now.held (file_of options extras history) × Holds (length (blocks_in (pieces_of options.chunk history))) (length (file_of options extras history))
+FileStands options extras history opened now (Ok it) = Adds opened.held now.held (file_of options extras history)
+    × Holds (length (blocks_in (pieces_of options.chunk history))) (length (file_of options extras history))
     × (now.waiting ≡ 0)
-FileStands options extras history opened now (Err stop) = (blocks : ℕ) × (bytes : ℕ) × StopsAt options extras history opened.held now.held stop (numbers blocks bytes)
+FileStands options extras history opened now (Err stop) =
+    (blocks : ℕ) × (bytes : ℕ) × StopsAt options extras history opened.held now.held stop (numbers blocks bytes)
 
 -- the writer stopped at a piece of the file of the merge
-pub record MergeStops (stores : List StoreState) (opened now : LiveState) (chunk : ℕ) (why : MergeRefused) : Type 0 where
+pub record MergeStops (stores : List StoreState) (opened now : LiveState) (chunk : ℕ) (why : MergeRefused)
+    : Type 0 where
   pub profile : List ℕ
   pub extras : List Top
   pub history : List Rec
@@ -96,13 +100,15 @@ AgainHalted olds news input refusals.Memory = ⊥
 -- lacked.
 abbrev pub IsCutBy : List StoreState → List StoreState → MergeRefused → Type 0
 IsCutBy olds news (merges.Halted input why) = AgainHalted olds news input why
-IsCutBy olds news (merges.Changed input offset) = (input < length olds) × AllZip FaultsStand olds news × TellsNot olds input
+IsCutBy olds news (merges.Changed input offset) =
+    (input < length olds) × AllZip FaultsStand olds news × TellsNot olds input
 IsCutBy olds news merges.TooManySchemas = ⊥
 IsCutBy olds news merges.TooManyChannels = ⊥
 IsCutBy olds news (merges.Stopped stop) = ReadStopped olds news stop
 
 -- so the writer was stopped at a piece of the file of the merge, where it lacked nothing itself
-pub record MergeIsCut (stores news : List StoreState) (opened now : LiveState) (chunk : ℕ) (why : MergeRefused) : Type 0 where
+pub record MergeIsCut (stores news : List StoreState) (opened now : LiveState) (chunk : ℕ) (why : MergeRefused)
+    : Type 0 where
   pub profile : List ℕ
   pub extras : List Top
   pub history : List Rec
@@ -113,7 +119,8 @@ pub record MergeIsCut (stores news : List StoreState) (opened now : LiveState) (
 
 -- nothing was written; or the writer stopped behind inputs that were read whole; or one of them couldn't be read again
 abbrev pub MergeFails : List StoreState → List StoreState → LiveState → LiveState → ℕ → MergeRefused → Type 0
-MergeFails olds news opened now chunk why = ((now ≡ opened) × GatherRefused olds news why) ⊎ ((AllZip FaultsStand olds news × MergeStops olds opened now chunk why) ⊎ MergeIsCut olds news opened now chunk why)
+MergeFails olds news opened now chunk why = ((now ≡ opened) × GatherRefused olds news why)
+    ⊎ ((AllZip FaultsStand olds news × MergeStops olds opened now chunk why) ⊎ MergeIsCut olds news opened now chunk why)
 
 -- no store was asked for more bytes than twice the length that it has answered
 pub record AsksTwice (old new : StoreState) : Type 0 where

@@ -24,4 +24,5 @@ PrepareRefused inputs (merges.Stopped stops.Memory) = Unit {0}
 
 -- why nothing is merged: an input wasn't read to its Data End; or all were, and no more can be made of their records
 abbrev pub GatherRefused : List StoreState → List StoreState → MergeRefused → Type 0
-GatherRefused olds news why = InputRefused olds news why ⊎ (AllZip FaultsStand olds news × (reads : List Read) × AllZip IsReadOf olds reads × PrepareRefused (read_tops reads) why)
+GatherRefused olds news why = InputRefused olds news why
+    ⊎ (AllZip FaultsStand olds news × (reads : List Read) × AllZip IsReadOf olds reads × PrepareRefused (read_tops reads) why)

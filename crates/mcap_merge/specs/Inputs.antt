@@ -32,7 +32,8 @@ KeepsExtra t old new = extra_tops new ≡ extra_tops old ++ filter is_extra (t �
 
 -- a Header's content shows that profile; memory may lack, also where it shows none
 abbrev pub ReadsProfile : List ℕ → Result (List ℕ) Memory → Type 0
-ReadsProfile content (Ok profile) = (library : List ℕ) × ShowsHeader content (record { profile = profile; library = library })
+ReadsProfile content (Ok profile) =
+    (library : List ℕ) × ShowsHeader content (record { profile = profile; library = library })
 ReadsProfile content (Err lacking) = Unit {0}
 
 -- a Header's profile is kept where it stands first

@@ -32,11 +32,13 @@ HasMergedId tops j source id = (d : ChannelDef) × IsContent (flat tops) source 
 -- the table gives the ids of the history, and what is noted of the inputs' channels is so
 pub record JoinerStands (inputs : List (List Top)) (history : List Rec) (j : Joiner) : Type 0 where
   pub ids_are : ids_in j.table ≡ ids_of history
-  pub known : (number source id : ℕ) (tops : List Top) → source < 65536 → At inputs number tops → At j.given.items (number * 65536 + source) id → (id ≡ 0 → ⊥) → HasMergedId tops j source id
+  pub known : (number source id : ℕ) (tops : List Top) → source < 65536 → At inputs number tops
+      → At j.given.items (number * 65536 + source) id → (id ≡ 0 → ⊥) → HasMergedId tops j source id
 
 -- the records of what is declared
 abbrev pub declaring_records : Declared → List Rec
-declaring_records d = schema_with d.content.schema d.ids.schema ++ channel_of (id_given d.ids.channel) (fields_with d.content (id_of d.ids.schema)) ∷ []
+declaring_records d = schema_with d.content.schema d.ids.schema
+    ++ channel_of (id_given d.ids.channel) (fields_with d.content (id_of d.ids.schema)) ∷ []
 
 abbrev pub declared_records : Option Declared → List Rec
 declared_records None = []
@@ -47,7 +49,8 @@ FitsChoice None = Unit {0}
 FitsChoice (Some d) = DefFits d.content
 
 -- the channel has the id that its content has or gets behind the history, and what is declared is what its declaration adds
-pub record IsChosen (inputs : List (List Top)) (tops : List Top) (history : List Rec) (source : ℕ) (j : Joiner) (c : Choice) : Type 0 where
+pub record IsChosen (inputs : List (List Top)) (tops : List Top) (history : List Rec) (source : ℕ) (j : Joiner)
+    (c : Choice) : Type 0 where
   pub content : ChannelDef
   pub is : IsContent (flat tops) source content
   pub id_is : c.id ≡ channel_id (ids_of history) content

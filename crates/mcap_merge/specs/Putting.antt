@@ -43,7 +43,8 @@ pub record MergeStart : Type 0 where
 
 -- The pen stands for the extras with what was put of all turns of a walk through the pieces, which is at its end; this is what it
 -- comes to.
-pub record WholeStands {P : Type 0} (adds : P → P → List Top → List Rec → Type 0) (start : MergeStart) (old all : P) (m : Merged) : Type 0 where
+pub record WholeStands {P : Type 0} (adds : P → P → List Top → List Rec → Type 0) (start : MergeStart) (old all : P)
+    (m : Merged) : Type 0 where
   pub walk : Walk
   pub pieces : pieces_in walk ≡ pieces_in start.walk
   pub loaded : pieces_loaded walk ≡ pieces_in walk
@@ -51,29 +52,37 @@ pub record WholeStands {P : Type 0} (adds : P → P → List Top → List Rec �
   pub given : List Turn
   pub stands : WalkStands start.files walk texts given
   pub all_given : AllGiven start.files (pieces_in walk) texts given
-  pub uses : UsesOf start.inputs texts given (λ tops uses. adds old all (extras_of start.inputs) (history_of uses) × CountsMerged (history_of uses) m)
+  pub uses : UsesOf start.inputs texts given (λ tops uses. adds old all (extras_of start.inputs) (history_of uses)
+      × CountsMerged (history_of uses) m)
   pub peak : m.peak ≡ peak_of walk
 
 -- it stands for the extras with what was put of some turns, and with whatever would have come behind them
-pub record PartStands {P : Type 0} (adds : P → P → List Top → List Rec → Type 0) (start : MergeStart) (old now : P) : Type 0 where
+pub record PartStands {P : Type 0} (adds : P → P → List Top → List Rec → Type 0) (start : MergeStart) (old now : P)
+    : Type 0 where
   pub walk : Walk
   pub pieces : pieces_in walk ≡ pieces_in start.walk
   pub texts : List Text
   pub given : List Turn
   pub stands : WalkStands start.files walk texts given
-  pub uses : UsesOf start.inputs texts given (λ tops uses. (more : List Rec) → adds old now (extras_of start.inputs) (history_of uses ++ more))
+  pub uses : UsesOf start.inputs texts given (λ tops uses. (more : List Rec)
+      → adds old now (extras_of start.inputs) (history_of uses ++ more))
 
 -- the whole stands with a pen, and the end of its file came to this
-pub record EndsWhole {P : Type 0} (adds : P → P → List Top → List Rec → Type 0) (ends : P → P → Result Unit Stop → Type 0) (start : MergeStart) (old new : P) (m : Merged) (end : Result Unit Stop) : Type 0 where
+pub record EndsWhole {P : Type 0} (adds : P → P → List Top → List Rec → Type 0)
+    (ends : P → P → Result Unit Stop → Type 0) (start : MergeStart) (old new : P) (m : Merged) (end : Result Unit Stop)
+    : Type 0 where
   pub all : P
   pub whole : WholeStands adds start old all m
   pub ends_file : ends all new end
 
 -- the pen stopped before the end
-pub record StopsBefore {P : Type 0} (adds : P → P → List Top → List Rec → Type 0) (phase : P → Phase) (start : MergeStart) (old new : P) (why : MergeRefused) : Type 0 where
+pub record StopsBefore {P : Type 0} (adds : P → P → List Top → List Rec → Type 0) (phase : P → Phase)
+    (start : MergeStart) (old new : P) (why : MergeRefused) : Type 0 where
   pub part : PartStands adds start old new
   pub stopped : phase new ≡ phases.Stopped (stop_of why)
 
 -- or at the end
-abbrev pub StopsAtEnd : {P : Type 0} → (P → P → List Top → List Rec → Type 0) → (P → P → Result Unit Stop → Type 0) → MergeStart → P → P → MergeRefused → Type 0
-StopsAtEnd adds ends start old new why = (stop : Stop) × (why ≡ merges.Stopped stop) × (m : Merged) × EndsWhole adds ends start old new m (Err stop)
+abbrev pub StopsAtEnd : {P : Type 0} → (P → P → List Top → List Rec → Type 0) → (P → P → Result Unit Stop → Type 0)
+    → MergeStart → P → P → MergeRefused → Type 0
+StopsAtEnd adds ends start old new why =
+    (stop : Stop) × (why ≡ merges.Stopped stop) × (m : Merged) × EndsWhole adds ends start old new m (Err stop)

@@ -24,7 +24,8 @@ abbrev pub front_source : StoreState → ℕ → SourceState
 front_source store len = record { left = front_left store.bytes 0 len; faults = 0 }
 
 -- the first so many bytes of a store were read, none twice
-pub record FrontReads (old : StoreState) (len : ℕ) (new : StoreState) (result : Result Input ReadingRefused) : Type 0 where
+pub record FrontReads (old : StoreState) (len : ℕ) (new : StoreState) (result : Result Input ReadingRefused)
+    : Type 0 where
   pub next : ℕ
   pub now : SourceState
   pub was : WasRead old new next len now.faults
@@ -68,9 +69,12 @@ pub record StoreKeeps (old new : StoreState) : Type 0 where
 -- why a store wasn't read to its Data End
 abbrev pub StoreRefused : StoreState → StoreState → ReadingRefused → Type 0
 StoreRefused old new (refusals.Fault faults) = RisesOnce old.faults new.faults × (faults ≡ new.faults)
-StoreRefused old new (refusals.Grammar offset rule) = (new.faults ≡ old.faults) × ((bytes : List ℕ) → old.bytes ≡ Some bytes → (tops : List Top) × Halts reading_limits bytes tops (grammar offset rule))
-StoreRefused old new (refusals.Compressed offset name) = (new.faults ≡ old.faults) × ((bytes : List ℕ) → old.bytes ≡ Some bytes → (tops : List Top) × Halts reading_limits bytes tops (compressed offset name))
-StoreRefused old new (refusals.Limit offset) = (new.faults ≡ old.faults) × ((bytes : List ℕ) → old.bytes ≡ Some bytes → (tops : List Top) × Halts reading_limits bytes tops (beyond offset))
+StoreRefused old new (refusals.Grammar offset rule) = (new.faults ≡ old.faults)
+    × ((bytes : List ℕ) → old.bytes ≡ Some bytes → (tops : List Top) × Halts reading_limits bytes tops (grammar offset rule))
+StoreRefused old new (refusals.Compressed offset name) = (new.faults ≡ old.faults)
+    × ((bytes : List ℕ) → old.bytes ≡ Some bytes → (tops : List Top) × Halts reading_limits bytes tops (compressed offset name))
+StoreRefused old new (refusals.Limit offset) = (new.faults ≡ old.faults)
+    × ((bytes : List ℕ) → old.bytes ≡ Some bytes → (tops : List Top) × Halts reading_limits bytes tops (beyond offset))
 StoreRefused old new refusals.Memory = new.faults ≡ old.faults
 
 -- a store was read whole

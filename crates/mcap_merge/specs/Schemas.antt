@@ -34,7 +34,8 @@ LacksPlace old s Memory = Unit {0}
 
 -- the same of the schema of a channel
 abbrev pub LacksPlaceOf : List Top → ℕ → List SchemaDef → IdRefused → Type 0
-LacksPlaceOf records source old TooManySchemas = (d : ChannelDef) × (s : SchemaDef) × IsContent records source d × (d.schema ≡ Some s) × LacksPlace old s TooManySchemas
+LacksPlaceOf records source old TooManySchemas = (d : ChannelDef) × (s : SchemaDef) × IsContent records source d
+    × (d.schema ≡ Some s) × LacksPlace old s TooManySchemas
 LacksPlaceOf records source old TooManyChannels = ⊥
 LacksPlaceOf records source old Memory = Unit {0}
 

@@ -38,11 +38,13 @@ use Rattle.mcap_merge.specs.ReadingSteps.{IsRefusalAt}
 
 -- a content is no Message on a channel of the input that has messages
 abbrev pub IsNoMessageOn : Input → List ℕ → Type 0
-IsNoMessageOn input content = (channel : ℕ) (m : MessageFields) → ShowsMessage content channel m → At input.used.items channel true → ⊥
+IsNoMessageOn input content =
+    (channel : ℕ) (m : MessageFields) → ShowsMessage content channel m → At input.used.items channel true → ⊥
 
 -- or it is this one
 abbrev pub IsMessageOn : Input → List ℕ → Option Message → Type 0
-IsMessageOn input content (Some m) = ShowsMessage content m.channel_id (message_fields m) × At input.used.items m.channel_id true
+IsMessageOn input content (Some m) =
+    ShowsMessage content m.channel_id (message_fields m) × At input.used.items m.channel_id true
 IsMessageOn input content None = IsNoMessageOn input content
 
 -- the record of a turn is this message, whose channel has messages, and a content, in what was read first
@@ -64,7 +66,8 @@ pub record IsUseOfTurn (inputs : List (List Top)) (texts : List Text) (t : Turn)
 
 -- of the inputs as they were read first, these are the uses of the turns, and so it is with them
 abbrev pub UsesOf : List Input → List Text → List Turn → (List (List Top) → List Use → Type 0) → Type 0
-UsesOf inputs texts given is = (reads : List Read) → HoldInputs reads inputs → IdsSuffice (read_tops reads) → (uses : List Use) × AllZip (IsUseOfTurn (read_tops reads) texts) given uses × is (read_tops reads) uses
+UsesOf inputs texts given is = (reads : List Read) → HoldInputs reads inputs → IdsSuffice (read_tops reads)
+    → (uses : List Use) × AllZip (IsUseOfTurn (read_tops reads) texts) given uses × is (read_tops reads) uses
 
 -- what the stores tell, and the inputs as they were read of them
 pub record Sources : Type 0 where
@@ -75,21 +78,25 @@ abbrev pub sources : InputBytes → List Input → Sources
 sources files inputs = record { files = files; inputs = inputs }
 
 -- so many turns were given by the walk, and their records were put
-pub record PutSoFar {P : Type 0} (adds : P → P → List Top → List Rec → Type 0) (from : Sources) (w : Walk) (count : ℕ) (j : Joiner) (old now : P) : Type 0 where
+pub record PutSoFar {P : Type 0} (adds : P → P → List Top → List Rec → Type 0) (from : Sources) (w : Walk) (count : ℕ)
+    (j : Joiner) (old now : P) : Type 0 where
   pub texts : List Text
   pub given : List Turn
   pub stands : WalkStands from.files w texts given
   pub size : length given ≡ count
-  pub uses : UsesOf from.inputs texts given (λ all uses. JoinerStands all (history_of uses) j × adds old now [] (history_of uses))
+  pub uses : UsesOf from.inputs texts given (λ all uses. JoinerStands all (history_of uses) j
+      × adds old now [] (history_of uses))
 
 -- all were given, and all their records were put
-pub record PutAll {P : Type 0} (adds : P → P → List Top → List Rec → Type 0) (from : Sources) (w : Walk) (count : ℕ) (j : Joiner) (old now : P) : Type 0 where
+pub record PutAll {P : Type 0} (adds : P → P → List Top → List Rec → Type 0) (from : Sources) (w : Walk) (count : ℕ)
+    (j : Joiner) (old now : P) : Type 0 where
   pub put : PutSoFar adds from w count j old now
   pub all : AllGiven from.files w.pieces.items put.texts put.given
   pub loaded : pieces_loaded w ≡ pieces_in w
 
 -- of a walk through the same pieces the records of some turns were put, and the pen stands for whatever would have come
-pub record PutSome {P : Type 0} (adds : P → P → List Top → List Rec → Type 0) (files : InputBytes) (inputs : List Input) (start : Walk) (old now : P) : Type 0 where
+pub record PutSome {P : Type 0} (adds : P → P → List Top → List Rec → Type 0) (files : InputBytes) (inputs : List Input)
+    (start : Walk) (old now : P) : Type 0 where
   pub walk : Walk
   pub pieces : walk.pieces ≡ start.pieces
   pub texts : List Text
@@ -116,7 +123,8 @@ pub record IsOther (files : InputBytes) (pieces : List Piece) (inputs : List Inp
 
 -- a piece isn't what it was: the walk through the pieces found it so, or a record of it is another
 abbrev pub IsChanged : InputBytes → Walk → List Input → ℕ → ℕ → Type 0
-IsChanged files start inputs input offset = ((w : Walk) × (pieces_in w ≡ pieces_in start) × IsWalkRefused files w (walks.Changed input offset)) ⊎ IsOther files (pieces_in start) inputs input offset
+IsChanged files start inputs input offset = ((w : Walk) × (pieces_in w ≡ pieces_in start) × IsWalkRefused files w (walks.Changed input offset))
+    ⊎ IsOther files (pieces_in start) inputs input offset
 
 -- what a merge answers, where the walk can't go on
 abbrev pub IsWalkRefusal : WalkRefused → MergeRefused → Type 0

@@ -17,7 +17,8 @@ pub record Use : Type 0 where
 
 -- what a message adds to a history: its channel's records that are new, and the message on the channel
 abbrev pub added_by : List Rec → Use → List Rec
-added_by history u = new_records (ids_of history) u.content ++ message_of (channel_id (ids_of history) u.content) u.message ∷ []
+added_by history u =
+    new_records (ids_of history) u.content ++ message_of (channel_id (ids_of history) u.content) u.message ∷ []
 
 abbrev pub with_use : List Rec → Use → List Rec
 with_use history u = history ++ added_by history u

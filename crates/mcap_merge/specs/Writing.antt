@@ -25,7 +25,8 @@ abbrev pub put_on_channel : ℕ → MessageFields → OnChannel
 put_on_channel channel fields = record { channel = channel; fields = fields }
 
 -- the message of the input of that number comes next behind the history, and this is its use
-pub record ComesNext (inputs : List (List Top)) (history : List Rec) (j : Joiner) (input : Input) (number : ℕ) (m : OnChannel) (u : Use) : Type 0 where
+pub record ComesNext (inputs : List (List Top)) (history : List Rec) (j : Joiner) (input : Input) (number : ℕ)
+    (m : OnChannel) (u : Use) : Type 0 where
   pub stands : JoinerStands inputs history j
   pub tops : List Top
   pub at : At inputs number tops

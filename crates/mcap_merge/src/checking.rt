@@ -35,9 +35,11 @@ fn enter_channel(
     tables: &Tables,
     source: u16,
 ) -> Result<(), IdRefused>
-    ensures entered { OnOk result ((records : List Top) → TablesOf records tables.now → TakesOf records source table.old table.new) }
+    ensures entered { OnOk result ((records : List Top) → TablesOf records tables.now
+        → TakesOf records source table.old table.new) }
     ensures table { IsIdTable table.old }
-    ensures refused { IfErr result (λ why. (records : List Top) → TablesOf records tables.now → LacksIdsOf records source table.old why) }
+    ensures refused { IfErr result (λ why. (records : List Top) → TablesOf records tables.now
+        → LacksIdsOf records source table.old why) }
 {
     let _schemas = table.schemas();
     let _channels = table.channels();
@@ -56,7 +58,8 @@ pub(crate) fn check_ids(alloc: Global, inputs: &[Input]) -> Result<(), IdRefused
     requires few { length inputs.now ≤ 64 }
     requires held { (reads : List Read) × HoldInputs reads inputs.now }
     ensures suffice { OnOk result ((reads : List Read) → HoldInputs reads inputs.now → IdsSuffice (read_tops reads)) }
-    ensures refused { IfErr result (λ why. (reads : List Read) → HoldInputs reads inputs.now → LackMet (read_tops reads) why) }
+    ensures refused { IfErr result (λ why. (reads : List Read) → HoldInputs reads inputs.now
+        → LackMet (read_tops reads) why) }
 {
     let mut table = match IdTable::new(alloc) {
         Ok(table) => table,

@@ -47,7 +47,8 @@ fn id_refusal(why: IdRefused) -> MergeRefused
 fn first_refusal(alloc: Global, inputs: &[Input], met: IdRefused) -> IdRefused
     requires few { length inputs.now ≤ 64 }
     requires held { (reads : List Read) × HoldInputs reads inputs.now }
-    ensures { (reads : List Read) → HoldInputs reads inputs.now → LackMet (read_tops reads) met → WhyLacks (read_tops reads) result }
+    ensures { (reads : List Read) → HoldInputs reads inputs.now → LackMet (read_tops reads) met
+        → WhyLacks (read_tops reads) result }
 {
     match met {
         IdRefused::TooManySchemas => return IdRefused::TooManySchemas,
@@ -64,7 +65,8 @@ fn see_ids(alloc: Global, inputs: &[Input]) -> Result<(), IdRefused>
     requires few { length inputs.now ≤ 64 }
     requires held { (reads : List Read) × HoldInputs reads inputs.now }
     ensures suffice { OnOk result ((reads : List Read) → HoldInputs reads inputs.now → IdsSuffice (read_tops reads)) }
-    ensures refused { IfErr result (λ why. (reads : List Read) → HoldInputs reads inputs.now → WhyLacks (read_tops reads) why) }
+    ensures refused { IfErr result (λ why. (reads : List Read) → HoldInputs reads inputs.now
+        → WhyLacks (read_tops reads) why) }
 {
     match check_ids(alloc, inputs) {
         Ok(()) => return Ok(()),
@@ -77,8 +79,10 @@ fn prepare(alloc: Global, inputs: &[Input]) -> Result<Text, MergeRefused>
     requires some { 0 < length inputs.now }
     requires few { length inputs.now ≤ 64 }
     requires held { (reads : List Read) × HoldInputs reads inputs.now }
-    ensures prepared { IfOk result (λ profile. (reads : List Read) → HoldInputs reads inputs.now → IsPrepared reads profile (extras_of inputs.now)) }
-    ensures refused { IfErr result (λ why. (reads : List Read) → HoldInputs reads inputs.now → PrepareRefused (read_tops reads) why) }
+    ensures prepared { IfOk result (λ profile. (reads : List Read) → HoldInputs reads inputs.now
+        → IsPrepared reads profile (extras_of inputs.now)) }
+    ensures refused { IfErr result (λ why. (reads : List Read) → HoldInputs reads inputs.now
+        → PrepareRefused (read_tops reads) why) }
 {
     match see_ids(alloc, inputs) {
         Ok(()) => {}
@@ -95,11 +99,14 @@ pub(crate) fn gather<T: Store>(alloc: Global, stores: &mut Vec<T>) -> Result<Gat
     requires some { 0 < length stores.old.items }
     requires few { length stores.old.items ≤ 64 }
     ensures gathered { IfOk result (λ g. IsGathered (map (λ s. T.state s) stores.old.items) g) }
-    ensures still { OnOk result (AllZip FaultsStand (map (λ s. T.state s) stores.old.items) (map (λ s. T.state s) stores.new.items)) }
-    ensures refused { IfErr result (λ why. GatherRefused (map (λ s. T.state s) stores.old.items) (map (λ s. T.state s) stores.new.items) why) }
+    ensures still { OnOk result (AllZip FaultsStand (map (λ s. T.state s) stores.old.items)
+        (map (λ s. T.state s) stores.new.items)) }
+    ensures refused { IfErr result (λ why. GatherRefused (map (λ s. T.state s) stores.old.items)
+        (map (λ s. T.state s) stores.new.items) why) }
     ensures keeps { AllZip StoreKeeps (map (λ s. T.state s) stores.old.items) (map (λ s. T.state s) stores.new.items) }
     ensures fits { IfOk result (λ g. AllZip SpansFit (map (λ s. T.state s) stores.new.items) g.inputs.items) }
-    ensures asked { AllZip AsksWithinLength (map (λ s. T.state s) stores.old.items) (map (λ s. T.state s) stores.new.items) }
+    ensures asked { AllZip AsksWithinLength (map (λ s. T.state s) stores.old.items)
+        (map (λ s. T.state s) stores.new.items) }
 {
     let inputs = match read_inputs(alloc, stores) {
         Ok(inputs) => inputs,

@@ -152,9 +152,11 @@ impl Joiner {
         ensures fits { IfOk result (λ c. FitsChoice c.declared) }
         ensures short { IfOk result (λ c. c.id < 65536) }
         ensures back { IfOk result (λ c. Each IsReadBack (declared_records c.declared)) }
-        ensures chosen { IfOk result (λ c. (inputs : List (List Top)) (tops : List Top) (history : List Rec) → JoinerStands inputs history self.old
-            → At inputs number tops → TablesOf (flat tops) input.now.tables → IsChosen inputs tops history source self.new c) }
-        ensures used { (inputs : List (List Top)) (m : Sent) → IsAskedFor inputs m source input.now.tables → TableIsUsed inputs self.old.table → AfterChoice inputs self.new.table result }
+        ensures chosen { IfOk result (λ c. (inputs : List (List Top)) (tops : List Top) (history : List Rec)
+            → JoinerStands inputs history self.old → At inputs number tops → TablesOf (flat tops) input.now.tables
+            → IsChosen inputs tops history source self.new c) }
+        ensures used { (inputs : List (List Top)) (m : Sent) → IsAskedFor inputs m source input.now.tables
+            → TableIsUsed inputs self.old.table → AfterChoice inputs self.new.table result }
     {
         let place = number * 65_536 + source as usize;
         let id = self.given[place];

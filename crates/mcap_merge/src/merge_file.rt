@@ -33,13 +33,22 @@ pub(crate) fn write_all<T: Store, P: Pen>(
     requires ready { IsBegun inputs.now begun }
     requires fits { StoresFit (map (λ s. T.state s) stores.old.items) (pieces_in begun.walk) }
     requires going { P.phase pen.old ≡ phases.Going }
-    ensures written { IfOk result (λ m. EndsWhole P.adds P.ends (record { files = files_of (map (λ s. T.state s) stores.old.items); inputs = inputs.now; walk = begun.walk }) pen.old pen.new m (Ok tt)) }
-    ensures stopped { IfErr result (λ why. StopsBefore P.adds P.phase (record { files = files_of (map (λ s. T.state s) stores.old.items); inputs = inputs.now; walk = begun.walk }) pen.old pen.new why
-        ⊎ StopsAtEnd P.adds P.ends (record { files = files_of (map (λ s. T.state s) stores.old.items); inputs = inputs.now; walk = begun.walk }) pen.old pen.new why) }
-    ensures why { IfErr result (λ why. WhyNotAll (files_of (map (λ s. T.state s) stores.old.items)) begun.walk inputs.now why) }
+    ensures written { IfOk result (λ m. EndsWhole P.adds P.ends
+        (record { files = files_of (map (λ s. T.state s) stores.old.items); inputs = inputs.now; walk = begun.walk })
+        pen.old pen.new m (Ok tt)) }
+    ensures stopped { IfErr result (λ why. StopsBefore P.adds P.phase
+        (record { files = files_of (map (λ s. T.state s) stores.old.items); inputs = inputs.now; walk = begun.walk })
+        pen.old pen.new why
+        ⊎ StopsAtEnd P.adds P.ends
+        (record { files = files_of (map (λ s. T.state s) stores.old.items); inputs = inputs.now; walk = begun.walk })
+        pen.old pen.new why) }
+    ensures why { IfErr result (λ why. WhyNotAll (files_of (map (λ s. T.state s) stores.old.items)) begun.walk
+        inputs.now why) }
     ensures stay { StoresStay (map (λ s. T.state s) stores.old.items) (map (λ s. T.state s) stores.new.items) }
-    ensures counts { PutCounts (map (λ s. T.state s) stores.old.items) (map (λ s. T.state s) stores.new.items) (P.failures pen.old) (P.failures pen.new) result }
-    ensures asked { AskedWithin (map (λ s. T.state s) stores.old.items) (map (λ s. T.state s) stores.new.items) (unasked begun.walk) none_left }
+    ensures counts { PutCounts (map (λ s. T.state s) stores.old.items) (map (λ s. T.state s) stores.new.items)
+        (P.failures pen.old) (P.failures pen.new) result }
+    ensures asked { AskedWithin (map (λ s. T.state s) stores.old.items) (map (λ s. T.state s) stores.new.items)
+        (unasked begun.walk) none_left }
 {
     match write_extras(inputs, pen) {
         Ok(()) => {}

@@ -60,10 +60,13 @@ fn make_ready<T: Store>(
 ) -> Result<Ready, MergeRefused>
     requires some { 0 < length stores.old.items }
     requires few { length stores.old.items ≤ 64 }
-    ensures ready { IfOk result (λ r. IsReadyToWrite (map (λ s. T.state s) stores.old.items) (map (λ s. T.state s) stores.new.items) chunk r) }
-    ensures refused { IfErr result (λ why. GatherRefused (map (λ s. T.state s) stores.old.items) (map (λ s. T.state s) stores.new.items) why) }
+    ensures ready { IfOk result (λ r. IsReadyToWrite (map (λ s. T.state s) stores.old.items)
+        (map (λ s. T.state s) stores.new.items) chunk r) }
+    ensures refused { IfErr result (λ why. GatherRefused (map (λ s. T.state s) stores.old.items)
+        (map (λ s. T.state s) stores.new.items) why) }
     ensures keeps { AllZip StoreKeeps (map (λ s. T.state s) stores.old.items) (map (λ s. T.state s) stores.new.items) }
-    ensures asked { AllZip AsksWithinLength (map (λ s. T.state s) stores.old.items) (map (λ s. T.state s) stores.new.items) }
+    ensures asked { AllZip AsksWithinLength (map (λ s. T.state s) stores.old.items)
+        (map (λ s. T.state s) stores.new.items) }
 {
     let gathered = match gather(alloc, stores) {
         Ok(gathered) => gathered,
@@ -100,12 +103,19 @@ fn write_file<T: Store, L: LiveStore>(
     requires fits { StoresFit (map (λ s. T.state s) stores.old.items) (pieces_in begun.walk) }
     requires size { (n : ℕ) → options.now.chunk ≡ Some n → (1 ≤ n) × (n ≤ chunk_size_limit) }
     requires profile { length options.now.profile ≤ content_limit }
-    ensures written { IfOk result.1 (λ m. WholeStands (FilesAs options.now (Ok tt)) (record { files = files_of (map (λ s. T.state s) stores.old.items); inputs = inputs.now; walk = begun.walk }) (L.state live) (L.state result.0) m) }
-    ensures stopped { IfErr result.1 (λ why. FileStops options.now (record { files = files_of (map (λ s. T.state s) stores.old.items); inputs = inputs.now; walk = begun.walk }) (L.state live) (L.state result.0) why) }
-    ensures why { IfErr result.1 (λ why. WhyNotAll (files_of (map (λ s. T.state s) stores.old.items)) begun.walk inputs.now why) }
+    ensures written { IfOk result.1 (λ m. WholeStands (FilesAs options.now (Ok tt))
+        (record { files = files_of (map (λ s. T.state s) stores.old.items); inputs = inputs.now; walk = begun.walk })
+        (L.state live) (L.state result.0) m) }
+    ensures stopped { IfErr result.1 (λ why. FileStops options.now
+        (record { files = files_of (map (λ s. T.state s) stores.old.items); inputs = inputs.now; walk = begun.walk })
+        (L.state live) (L.state result.0) why) }
+    ensures why { IfErr result.1 (λ why. WhyNotAll (files_of (map (λ s. T.state s) stores.old.items)) begun.walk
+        inputs.now why) }
     ensures stay { StoresStay (map (λ s. T.state s) stores.old.items) (map (λ s. T.state s) stores.new.items) }
-    ensures counts { PutCounts (map (λ s. T.state s) stores.old.items) (map (λ s. T.state s) stores.new.items) (L.state live).faults (L.state result.0).faults result.1 }
-    ensures asked { AskedWithin (map (λ s. T.state s) stores.old.items) (map (λ s. T.state s) stores.new.items) (unasked begun.walk) none_left }
+    ensures counts { PutCounts (map (λ s. T.state s) stores.old.items) (map (λ s. T.state s) stores.new.items)
+        (L.state live).faults (L.state result.0).faults result.1 }
+    ensures asked { AskedWithin (map (λ s. T.state s) stores.old.items) (map (λ s. T.state s) stores.new.items)
+        (unasked begun.walk) none_left }
 {
     match Scribe::open(alloc, live, options) {
         Ok(scribe) => {
@@ -131,8 +141,10 @@ pub fn merge<T: Store, L: LiveStore>(
     requires some { 0 < length stores.old.items }
     requires few { length stores.old.items ≤ 64 }
     requires size { (1 ≤ chunk) × (chunk ≤ chunk_size_limit) }
-    ensures merged { IfOk result.1 (λ m. MergesInto (map (λ s. T.state s) stores.old.items) (map (λ s. T.state s) stores.new.items) (L.state live) (L.state result.0) chunk m) }
-    ensures refused { IfErr result.1 (λ why. MergeFails (map (λ s. T.state s) stores.old.items) (map (λ s. T.state s) stores.new.items) (L.state live) (L.state result.0) chunk why) }
+    ensures merged { IfOk result.1 (λ m. MergesInto (map (λ s. T.state s) stores.old.items)
+        (map (λ s. T.state s) stores.new.items) (L.state live) (L.state result.0) chunk m) }
+    ensures refused { IfErr result.1 (λ why. MergeFails (map (λ s. T.state s) stores.old.items)
+        (map (λ s. T.state s) stores.new.items) (L.state live) (L.state result.0) chunk why) }
     ensures keeps { AllZip StoreKeeps (map (λ s. T.state s) stores.old.items) (map (λ s. T.state s) stores.new.items) }
     ensures asked { AllZip AsksTwice (map (λ s. T.state s) stores.old.items) (map (λ s. T.state s) stores.new.items) }
 {

@@ -29,9 +29,11 @@ pub(crate) trait Pen {
 
     ghost adds_none: { (p : Self) → adds p p [] [] };
 
-    ghost adds_on: { (p q r : Self) (extras others : List Top) (records behind : List Rec) → adds p q extras records → adds q r others behind → adds p r (extras ++ others) (records ++ behind) };
+    ghost adds_on: { (p q r : Self) (extras others : List Top) (records behind : List Rec) → adds p q extras records
+        → adds q r others behind → adds p r (extras ++ others) (records ++ behind) };
 
-    ghost adds_all: { (p : Self) (stop : Why) (extras : List Top) (records : List Rec) → phase p ≡ phases.Stopped stop → adds p p extras records };
+    ghost adds_all: { (p : Self) (stop : Why) (extras : List Top) (records : List Rec) → phase p ≡ phases.Stopped stop
+        → adds p p extras records };
 
     /// Puts a framed record behind the history.
     fn put(&mut self, framed: &[u8]) -> Result<(), Stop>

@@ -11,7 +11,8 @@ use std::alloc::Global;
 /// The profile that all inputs have, or none.
 pub(crate) fn common_profile(alloc: Global, inputs: &[Input]) -> Result<Text, Memory>
     requires some { 0 < length inputs.now }
-    ensures { IfOk result (λ profile. (reads : List Read) → HoldInputs reads inputs.now → CommonProfile (read_tops reads) profile) }
+    ensures { IfOk result (λ profile. (reads : List Read) → HoldInputs reads inputs.now
+        → CommonProfile (read_tops reads) profile) }
 {
     let first = &inputs[0].profile;
     'inputs: for i in 1..inputs.len() {

@@ -109,11 +109,14 @@ pub(crate) fn read_inputs<T: Store>(
 ) -> Result<Vec<Input>, MergeRefused>
     requires few { length stores.old.items ≤ 64 }
     ensures read { IfOk result (λ inputs. AllReadWhole (map (λ s. T.state s) stores.old.items) inputs.items) }
-    ensures still { OnOk result (AllZip FaultsStand (map (λ s. T.state s) stores.old.items) (map (λ s. T.state s) stores.new.items)) }
-    ensures refused { IfErr result (λ why. InputRefused (map (λ s. T.state s) stores.old.items) (map (λ s. T.state s) stores.new.items) why) }
+    ensures still { OnOk result (AllZip FaultsStand (map (λ s. T.state s) stores.old.items)
+        (map (λ s. T.state s) stores.new.items)) }
+    ensures refused { IfErr result (λ why. InputRefused (map (λ s. T.state s) stores.old.items)
+        (map (λ s. T.state s) stores.new.items) why) }
     ensures keeps { AllZip StoreKeeps (map (λ s. T.state s) stores.old.items) (map (λ s. T.state s) stores.new.items) }
     ensures fits { IfOk result (λ inputs. AllZip SpansFit (map (λ s. T.state s) stores.new.items) inputs.items) }
-    ensures asked { AllZip AsksWithinLength (map (λ s. T.state s) stores.old.items) (map (λ s. T.state s) stores.new.items) }
+    ensures asked { AllZip AsksWithinLength (map (λ s. T.state s) stores.old.items)
+        (map (λ s. T.state s) stores.new.items) }
 {
     let mut inputs = Vec::new(alloc);
     'inputs: for i in 0..stores.len() {

@@ -67,8 +67,10 @@ fn enter_of(
 ) -> Result<(), IdRefused>
     requires { AreBare table.old }
     ensures bare { AreBare table.new }
-    ensures entered { OnOk result ((records : List Top) → TablesOf records tables.now → (d : Content) × IsContent records source d × EntersOf table.old.schemas d.schema table.new.schemas) }
-    ensures refused { IfErr result (λ why. (records : List Top) → TablesOf records tables.now → LacksPlaceOf records source table.old.schemas why) }
+    ensures entered { OnOk result ((records : List Top) → TablesOf records tables.now
+        → (d : Content) × IsContent records source d × EntersOf table.old.schemas d.schema table.new.schemas) }
+    ensures refused { IfErr result (λ why. (records : List Top) → TablesOf records tables.now
+        → LacksPlaceOf records source table.old.schemas why) }
 {
     let content = match content_of(alloc, tables, source) {
         Ok(content) => content,
@@ -93,8 +95,10 @@ fn enter_of(
 pub(crate) fn see_schemas(alloc: Global, inputs: &[Input]) -> Result<(), IdRefused>
     requires few { length inputs.now ≤ 64 }
     requires held { (reads : List Read) × HoldInputs reads inputs.now }
-    ensures few { OnOk result ((reads : List Read) → HoldInputs reads inputs.now → AtMost id_limit (SchemaIsUsed (read_tops reads))) }
-    ensures refused { IfErr result (λ why. (reads : List Read) → HoldInputs reads inputs.now → LacksSchemas (read_tops reads) why) }
+    ensures few { OnOk result ((reads : List Read) → HoldInputs reads inputs.now
+        → AtMost id_limit (SchemaIsUsed (read_tops reads))) }
+    ensures refused { IfErr result (λ why. (reads : List Read) → HoldInputs reads inputs.now
+        → LacksSchemas (read_tops reads) why) }
 {
     let mut table = match IdTable::new(alloc) {
         Ok(table) => table,

@@ -18,7 +18,8 @@ impl<L: LiveStore> Pen for Scribe<L> {
 
     ghost adds_none = { λ s. adds_none L.state s };
 
-    ghost adds_on = { λ one two three extras others records behind first second. adds_on L.state one two three extras others records behind first second };
+    ghost adds_on = { λ one two three extras others records behind first second. adds_on L.state one two three extras
+        others records behind first second };
 
     ghost adds_all = { λ s stop extras records stopped. adds_all L.state s stop extras records stopped };
 

@@ -60,18 +60,25 @@ pub(crate) fn put_turns<T: Store, P: Pen>(
     requires many { length stores.old.items ≡ length inputs.now }
     requires sized { length joiner.old.given.items ≡ length inputs.now * 65536 }
     requires schemas { HasSchemas joiner.old.table }
-    requires begun { PutSoFar P.adds (sources (files_of (map (λ s. T.state s) stores.old.items)) inputs.now) walk.old 0 joiner.old pen.old pen.old }
+    requires begun { PutSoFar P.adds (sources (files_of (map (λ s. T.state s) stores.old.items)) inputs.now) walk.old 0
+        joiner.old pen.old pen.old }
     requires fits { StoresFit (map (λ s. T.state s) stores.old.items) (pieces_in walk.old) }
     requires going { P.phase pen.old ≡ phases.Going }
-    ensures all { IfOk result (λ count. PutAll P.adds (sources (files_of (map (λ s. T.state s) stores.old.items)) inputs.now) walk.new count joiner.new pen.old pen.new) }
-    ensures some { IfErr result (λ why. PutSome P.adds (files_of (map (λ s. T.state s) stores.old.items)) inputs.now walk.old pen.old pen.new) }
+    ensures all { IfOk result (λ count. PutAll P.adds
+        (sources (files_of (map (λ s. T.state s) stores.old.items)) inputs.now) walk.new count joiner.new pen.old
+        pen.new) }
+    ensures some { IfErr result (λ why. PutSome P.adds (files_of (map (λ s. T.state s) stores.old.items)) inputs.now
+        walk.old pen.old pen.new) }
     ensures pieces { OnOk result (pieces_in walk.new ≡ pieces_in walk.old) }
     ensures stay { StoresStay (map (λ s. T.state s) stores.old.items) (map (λ s. T.state s) stores.new.items) }
     ensures goes_on { OnOk result (P.phase pen.new ≡ phases.Going) }
     ensures stopped { IfErr result (λ why. P.phase pen.new ≡ phases.Stopped (stop_of why)) }
-    ensures why { IfErr result (λ why. WhyNotAll (files_of (map (λ s. T.state s) stores.old.items)) walk.old inputs.now why) }
-    ensures counts { PutCounts (map (λ s. T.state s) stores.old.items) (map (λ s. T.state s) stores.new.items) (P.failures pen.old) (P.failures pen.new) result }
-    ensures asked { AskedWithin (map (λ s. T.state s) stores.old.items) (map (λ s. T.state s) stores.new.items) (unasked walk.old) none_left }
+    ensures why { IfErr result (λ why. WhyNotAll (files_of (map (λ s. T.state s) stores.old.items)) walk.old inputs.now
+        why) }
+    ensures counts { PutCounts (map (λ s. T.state s) stores.old.items) (map (λ s. T.state s) stores.new.items)
+        (P.failures pen.old) (P.failures pen.new) result }
+    ensures asked { AskedWithin (map (λ s. T.state s) stores.old.items) (map (λ s. T.state s) stores.new.items)
+        (unasked walk.old) none_left }
 {
     'turns: for count in 0..u64::MAX {
         let turn = match walk.advance(stores) {

@@ -121,8 +121,14 @@ pub(crate) fn write_message<P: Pen>(
     requires within { number * 65536 + 65535 < length joiner.old.given.items }
     requires schemas { HasSchemas joiner.old.table }
     requires going { P.phase pen.old ≡ phases.Going }
-    ensures adds { (inputs : List (List Top)) (history : List Rec) (u : Use) → ComesNext inputs history joiner.old input.now number (put_on_channel message.now.channel_id (message_fields message.now)) u → P.adds pen.old pen.new [] (added_by history u) }
-    ensures stands { OnOk result ((inputs : List (List Top)) (history : List Rec) (u : Use) → ComesNext inputs history joiner.old input.now number (put_on_channel message.now.channel_id (message_fields message.now)) u → JoinerStands inputs (with_use history u) joiner.new) }
+    ensures adds { (inputs : List (List Top)) (history : List Rec) (u : Use)
+        → ComesNext inputs history joiner.old input.now number
+        (put_on_channel message.now.channel_id (message_fields message.now)) u
+        → P.adds pen.old pen.new [] (added_by history u) }
+    ensures stands { OnOk result ((inputs : List (List Top)) (history : List Rec) (u : Use)
+        → ComesNext inputs history joiner.old input.now number
+        (put_on_channel message.now.channel_id (message_fields message.now)) u
+        → JoinerStands inputs (with_use history u) joiner.new) }
     ensures schemas { OnOk result (HasSchemas joiner.new.table) }
     ensures sized { OnOk result (length joiner.new.given.items ≡ length joiner.old.given.items) }
     ensures goes_on { OnOk result (P.phase pen.new ≡ phases.Going) }

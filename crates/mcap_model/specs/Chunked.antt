@@ -33,7 +33,8 @@ BreaksInner before inner t rule = ((rule ≡ rules.V7) × (is_flat_kind t ≡ tr
     ⊎ ((rule ≡ rules.V7 → ⊥) × (stands_in_chunk t.op ≡ true → V6 t → ⊥))
 
 abbrev pub InnerTaken : List Top → List Top → Top → Tables → Result Times Ruling → Type 0
-InnerTaken before inner t tables (Ok times) = IsInner before inner t × TablesOf (before ++ flat_of (inner ++ t ∷ [])) tables × TimesOf (inner ++ t ∷ []) times
+InnerTaken before inner t tables (Ok times) =
+    IsInner before inner t × TablesOf (before ++ flat_of (inner ++ t ∷ [])) tables × TimesOf (inner ++ t ∷ []) times
 InnerTaken before inner t tables (Err rulings.Fits) = ⊥
 InnerTaken before inner t tables (Err (rulings.Breaks rule)) = BreaksInner before inner t rule
 InnerTaken before inner t tables (Err rulings.Memory) = Unit {0}
@@ -45,12 +46,16 @@ pub record AreWhole (bytes : List ℕ) : Type 0 where
   pub layouts : Each V6 (records_in bytes)
 
 abbrev pub AllTaken : List Top → List ℕ → Tables → Result Times Ruling → Type 0
-AllTaken before bytes tables (Ok times) = AreWhole bytes × AgreeBehind before (flat_of (records_in bytes)) × TablesOf (before ++ flat_of (records_in bytes)) tables × TimesOf (records_in bytes) times
+AllTaken before bytes tables (Ok times) = AreWhole bytes × AgreeBehind before (flat_of (records_in bytes))
+    × TablesOf (before ++ flat_of (records_in bytes)) tables × TimesOf (records_in bytes) times
 AllTaken before bytes tables (Err rulings.Fits) = ⊥
-AllTaken before bytes tables (Err (rulings.Breaks rule)) = ((rule ≡ rules.V7) × (AgreeBehind before (flat_of (records_in bytes)) → ⊥)) ⊎ ((rule ≡ rules.V7 → ⊥) × (AreWhole bytes → ⊥))
+AllTaken before bytes tables (Err (rulings.Breaks rule)) = ((rule ≡ rules.V7) × (AgreeBehind before (flat_of (records_in bytes)) → ⊥))
+    ⊎ ((rule ≡ rules.V7 → ⊥) × (AreWhole bytes → ⊥))
 AllTaken before bytes tables (Err rulings.Memory) = Unit {0}
 
 abbrev pub ChunkTaken : List Top → ChunkFields → Tables → Ruling → Type 0
-ChunkTaken before f tables rulings.Fits = ChunkIsRight f × AgreeBehind before (flat_of (records_in f.records)) × TablesOf (before ++ flat_of (records_in f.records)) tables
-ChunkTaken before f tables (rulings.Breaks rule) = ((rule ≡ rules.V7) × (AgreeBehind before (flat_of (records_in f.records)) → ⊥)) ⊎ ((rule ≡ rules.V8) × (ChunkIsRight f → ⊥))
+ChunkTaken before f tables rulings.Fits = ChunkIsRight f × AgreeBehind before (flat_of (records_in f.records))
+    × TablesOf (before ++ flat_of (records_in f.records)) tables
+ChunkTaken before f tables (rulings.Breaks rule) = ((rule ≡ rules.V7) × (AgreeBehind before (flat_of (records_in f.records)) → ⊥))
+    ⊎ ((rule ≡ rules.V8) × (ChunkIsRight f → ⊥))
 ChunkTaken before f tables rulings.Memory = HasSizeAndCrc f

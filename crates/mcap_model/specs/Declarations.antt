@@ -26,9 +26,12 @@ abbrev pub SomeFirst : List Declared → ℕ → Type 0
 SomeFirst first id = (k : ℕ) × (d : Declared) × At first k d × (d.id ≡ id)
 
 -- These are records of one kind, each the first of its id among these records.
-pub record FirstOf {F : Type 0} (op : ℕ) (Is : Top → ℕ → F → Type 0) (Same : F → F → Type 0) (records : List Top) (first : List Declared) : Type 0 where
-  pub holds : (k : ℕ) (d : Declared) → At first k d → (f : F) × Is (top op d.content) d.id f × Has records (top op d.content)
-  pub covers : (n id : ℕ) (t : Top) (g : F) → At records n t → Is t id g → (k : ℕ) × (d : Declared) × (h : F) × At first k d × (d.id ≡ id) × Is (top op d.content) id h × Same h g
+pub record FirstOf {F : Type 0} (op : ℕ) (Is : Top → ℕ → F → Type 0) (Same : F → F → Type 0) (records : List Top)
+    (first : List Declared) : Type 0 where
+  pub holds : (k : ℕ) (d : Declared) → At first k d
+      → (f : F) × Is (top op d.content) d.id f × Has records (top op d.content)
+  pub covers : (n id : ℕ) (t : Top) (g : F) → At records n t → Is t id g
+      → (k : ℕ) × (d : Declared) × (h : F) × At first k d × (d.id ≡ id) × Is (top op d.content) id h × Same h g
   pub apart : (j k : ℕ) (d e : Declared) → At first j d → At first k e → d.id ≡ e.id → d ≡ e
 
 -- the tables of these records
@@ -67,5 +70,7 @@ Hears records t (Err rule) = BreaksFlat records t rule
 -- ---- an Attachment
 
 abbrev pub AttachmentJudged : List ℕ → Option Rule → Type 0
-AttachmentJudged content None = ((f : AttachmentFields) × IsAttachment (top attachment_opcode content) f) × V10 (top attachment_opcode content)
-AttachmentJudged content (Some rule) = ((rule ≡ rules.V6) × ((f : AttachmentFields) → IsAttachment (top attachment_opcode content) f → ⊥)) ⊎ ((rule ≡ rules.V10) × (V10 (top attachment_opcode content) → ⊥))
+AttachmentJudged content None =
+    ((f : AttachmentFields) × IsAttachment (top attachment_opcode content) f) × V10 (top attachment_opcode content)
+AttachmentJudged content (Some rule) = ((rule ≡ rules.V6) × ((f : AttachmentFields) → IsAttachment (top attachment_opcode content) f → ⊥))
+    ⊎ ((rule ≡ rules.V10) × (V10 (top attachment_opcode content) → ⊥))

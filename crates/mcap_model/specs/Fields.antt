@@ -88,4 +88,5 @@ pub record IsSummaryOffset (t : Top) (op offset size : ℕ) : Type 0 where
 
 pub record IsFooter (t : Top) (summary offsets crc : ℕ) : Type 0 where
   pub kind : t.op ≡ footer_opcode
-  pub layout : ShowsFooter t.content (record { summary_start = summary; summary_offset_start = offsets; summary_crc = crc })
+  pub layout : ShowsFooter t.content (record
+      { summary_start = summary; summary_offset_start = offsets; summary_crc = crc })

@@ -36,14 +36,16 @@ extras_from at (t ∷ ts) = (at, t) ∷ extras_from (at + length (top_bytes t)) 
 
 -- all in front of the Data End
 abbrev pub section : FileOptions → List Top → List Rec → List ℕ
-section options extras history = front options.profile ++ (pieces_bytes (pieces_of options.chunk history) ++ spelled extras)
+section options extras history =
+    front options.profile ++ (pieces_bytes (pieces_of options.chunk history) ++ spelled extras)
 
 -- what the summary is made of
 abbrev pub noted : FileOptions → List Top → List Rec → Noted
 noted options extras history = record {
   records = history;
   blocks = blocks_from (length (front options.profile)) (pieces_of options.chunk history);
-  extras = extras_from (length (front options.profile) + length (pieces_bytes (pieces_of options.chunk history))) extras;
+  extras =
+      extras_from (length (front options.profile) + length (pieces_bytes (pieces_of options.chunk history))) extras;
 }
 
 -- what stands behind the Data End: without a chunk size a Footer that names no summary

@@ -81,20 +81,25 @@ IsPacked tops t name = (tops ≡ [] → ⊥) × NamesCompression t name
 -- What stands behind the records halts the reading. Each of these reasons excludes those above it.
 pub data HaltsThere (limits : Limits) (tops : List Top) (rest : List ℕ) : Halt → Type 0 where
   short_head : has_head rest ≡ false → HaltsThere limits tops rest (grammar (offset_behind tops) rules.V4)
-  zero_opcode : has_head rest ≡ true → opcode rest ≡ 0 → HaltsThere limits tops rest (grammar (offset_behind tops) rules.V5)
+  zero_opcode : has_head rest ≡ true → opcode rest ≡ 0
+      → HaltsThere limits tops rest (grammar (offset_behind tops) rules.V5)
   past_limit : HasOpcode rest → is_beyond limits (offset_behind tops) (declared_length rest) ≡ true
       → HaltsThere limits tops rest (beyond (offset_behind tops))
-  cut_short : IsDue limits tops rest → is_whole rest ≡ false → HaltsThere limits tops rest (grammar (offset_behind tops) rules.V4)
+  cut_short : IsDue limits tops rest → is_whole rest ≡ false
+      → HaltsThere limits tops rest (grammar (offset_behind tops) rules.V4)
   packed_chunk : (name : List ℕ) → IsDue limits tops rest → is_whole rest ≡ true → IsPacked tops (first_top rest) name
       → HaltsThere limits tops rest (compressed (offset_behind tops) name)
-  broken_rule : (rule : Rule) → IsDue limits tops rest → is_whole rest ≡ true → ((name : List ℕ) → IsPacked tops (first_top rest) name → ⊥)
-      → Breaks tops (first_top rest) rule → HaltsThere limits tops rest (grammar (offset_behind tops) rule)
+  broken_rule : (rule : Rule) → IsDue limits tops rest → is_whole rest ≡ true
+      → ((name : List ℕ) → IsPacked tops (first_top rest) name → ⊥) → Breaks tops (first_top rest) rule
+      → HaltsThere limits tops rest (grammar (offset_behind tops) rule)
 
 -- The reading of these bytes, which keeps these records, halts there.
 pub data HaltsAt (limits : Limits) (bytes : List ℕ) (tops : List Top) : Halt → Type 0 where
   no_magic : (V1 bytes → ⊥) → HaltsAt limits bytes tops (grammar 0 rules.V1)
-  at_data_end : (rest : List ℕ) → Tops bytes tops rest → HasDataEnd tops → HaltsAt limits bytes tops (at_end (offset_behind tops))
-  behind_kept : (rest : List ℕ) → Tops bytes tops rest → (HasDataEnd tops → ⊥) → (halt : Halt) → HaltsThere limits tops rest halt → HaltsAt limits bytes tops halt
+  at_data_end : (rest : List ℕ) → Tops bytes tops rest → HasDataEnd tops
+      → HaltsAt limits bytes tops (at_end (offset_behind tops))
+  behind_kept : (rest : List ℕ) → Tops bytes tops rest → (HasDataEnd tops → ⊥) → (halt : Halt)
+      → HaltsThere limits tops rest halt → HaltsAt limits bytes tops halt
 
 pub record Halts (limits : Limits) (bytes : List ℕ) (tops : List Top) (halt : Halt) : Type 0 where
   pub kept : Kept limits bytes tops

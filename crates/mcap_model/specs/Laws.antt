@@ -51,12 +51,14 @@ ReadingsHaltOnce = (bytes : List ℕ) (tops others : List Top) (a b : Halt)
 
 -- bytes have one longest good list, wherever and why ever a reading of them halts
 abbrev pub KeptIsOne : Type 0
-KeptIsOne = (bytes : List ℕ) (tops others : List Top) → Kept reading_limits bytes tops → Kept reading_limits bytes others → tops ≡ others
+KeptIsOne = (bytes : List ℕ) (tops others : List Top) → Kept reading_limits bytes tops
+    → Kept reading_limits bytes others → tops ≡ others
 
 -- where good records end with a Data End, or what follows them halts the reading, they are the longest good list
 abbrev pub HaltsAreLast : Type 0
-HaltsAreLast = (bytes : List ℕ) (tops : List Top) (rest : List ℕ) (halt : Halt) → Tops bytes tops rest → Good reading_limits tops
-    → HasDataEnd tops ⊎ HaltsThere reading_limits tops rest halt → Kept reading_limits bytes tops
+HaltsAreLast = (bytes : List ℕ) (tops : List Top) (rest : List ℕ) (halt : Halt) → Tops bytes tops rest
+    → Good reading_limits tops → HasDataEnd tops ⊎ HaltsThere reading_limits tops rest halt
+    → Kept reading_limits bytes tops
 
 -- Some bytes that hold the magic keep these records, the first of others: all of them, up to the Data End; or those that
 -- are whole in the bytes, where the next one is cut short.
@@ -69,12 +71,13 @@ pub record KeepsWhole (front : List ℕ) (tops : List Top) : Type 0 where
 
 -- a front of bytes with good records up to the Data End keeps those of them that are whole in it
 abbrev pub FrontsKeepWhole : Type 0
-FrontsKeepWhole = (bytes front behind : List ℕ) (tops : List Top) (rest : List ℕ) → Tops bytes tops rest → Good reading_limits tops → HasDataEnd tops
-    → bytes ≡ front ++ behind → 8 ≤ length front → KeepsWhole front tops
+FrontsKeepWhole = (bytes front behind : List ℕ) (tops : List Top) (rest : List ℕ) → Tops bytes tops rest
+    → Good reading_limits tops → HasDataEnd tops → bytes ≡ front ++ behind → 8 ≤ length front → KeepsWhole front tops
 
 -- the records that some bytes spell are those that are found in them, up to where no whole record begins
 abbrev pub RecordsAreFound : Type 0
-RecordsAreFound = (records : List Top) (rest : List ℕ) → Each IsFound records → begins_record rest ≡ false → records_in (spelled records ++ rest) ≡ records
+RecordsAreFound = (records : List Top) (rest : List ℕ) → Each IsFound records → begins_record rest ≡ false
+    → records_in (spelled records ++ rest) ≡ records
 
 -- what a chunk shows as its records are those that its content holds
 abbrev pub ChunksAreOpened : Type 0
@@ -104,18 +107,21 @@ index_top records channel = record { op = message_index_opcode; content = index_
 -- the Message Indexes that are written of records are those of their channels, and have their entries
 abbrev pub IndexesAreWritten : Type 0
 IndexesAreWritten = (records : List Rec) → Each IsReadBack records → length (history_bytes records) < 2 ^ 32
-    → Each (λ channel. IsMessageIndex (index_top records channel) channel (entries_for records channel)) (logged_channels records)
+    → Each (λ channel. IsMessageIndex (index_top records channel) channel (entries_for records channel))
+    (logged_channels records)
 
 -- what is indexed of an Attachment, and of a Metadata, is what it shows
 abbrev pub ExtrasAreIndexed : Type 0
 ExtrasAreIndexed = ((offset : ℕ) (t : Top) (f : AttachmentFields) → IsAttachment t f
     → attachment_index_content (offset, t) ≡ attachment_index_text (indexed_attachment offset t f))
     × ((offset : ℕ) (t : Top) (name : List ℕ) (metadata : List (List ℕ × List ℕ)) → IsMetadata t name metadata
-    → metadata_index_content (offset, t) ≡ metadata_index_text (record { offset = offset; size = length (top_bytes t); name = name }))
+    → metadata_index_content (offset, t)
+    ≡ metadata_index_text (record { offset = offset; size = length (top_bytes t); name = name }))
 
 -- a replay of some messages is one list
 abbrev pub ReplaysAreOne : Type 0
-ReplaysAreOne = (range : Range) (topic : Option (List ℕ)) (messages one other : List Seen) → Replay range topic messages one → Replay range topic messages other → one ≡ other
+ReplaysAreOne = (range : Range) (topic : Option (List ℕ)) (messages one other : List Seen)
+    → Replay range topic messages one → Replay range topic messages other → one ≡ other
 
 -- a history is cut into blocks in one way, which is that of its pieces
 abbrev pub BlocksAreOne : Type 0
@@ -125,11 +131,13 @@ BlocksAreOne = (ripe : List Rec → Bool) (history : List Rec) → Ripens ripe
 
 -- a chunk size makes such blocks
 abbrev pub SizesRipen : Type 0
-SizesRipen = (size : ℕ) → 0 < size → Ripens (reaches size) × ((history : List Rec) → pieces_of (Some size) history ≡ pieces_by (reaches size) history)
+SizesRipen = (size : ℕ) → 0 < size
+    → Ripens (reaches size) × ((history : List Rec) → pieces_of (Some size) history ≡ pieces_by (reaches size) history)
 
 -- the flat records of a good list meet their layouts, and each agrees with those before it
 abbrev pub GoodListsAgree : Type 0
-GoodListsAgree = (limits : Limits) (tops : List Top) → Good limits tops → Each V6 (flat tops) × EachBehind Agrees (flat tops)
+GoodListsAgree =
+    (limits : Limits) (tops : List Top) → Good limits tops → Each V6 (flat tops) × EachBehind Agrees (flat tops)
 
 -- a good list has one scan
 abbrev pub GoodListsAreScanned : Type 0
@@ -171,17 +179,20 @@ pub record CanBeRead (options : FileOptions) (extras : List Top) (history : List
 
 -- the ids of a numbered history agree, and none of its Schemas has the id 0
 abbrev pub NumberedIdsAgree : Type 0
-NumberedIdsAgree = (history : List Rec) → Each IsReadBack history → Numbered history → IdsAgree history × Each IsNumberedRec history
+NumberedIdsAgree =
+    (history : List Rec) → Each IsReadBack history → Numbered history → IdsAgree history × Each IsNumberedRec history
 
 -- so it is without what declares an id again
 abbrev pub RepeatsMayGo : Type 0
 RepeatsMayGo = (history : List Rec) → Each IsReadBack history → Each IsNumberedRec history → IdsAgree history
-    → IdsAgree (without_repeats history) × Each IsReadBack (without_repeats history) × Each IsNumberedRec (without_repeats history)
+    → IdsAgree (without_repeats history) × Each IsReadBack (without_repeats history)
+    × Each IsNumberedRec (without_repeats history)
 
 -- bytes decide what is kept of them when they are repaired
 abbrev pub RepairsAreOne : Type 0
-RepairsAreOne = (bytes profile other_profile : List ℕ) (extras other_extras : List Top) (history other_history : List Rec)
-    → Repaired bytes profile extras history → Repaired bytes other_profile other_extras other_history
+RepairsAreOne = (bytes profile other_profile : List ℕ) (extras other_extras : List Top)
+    (history other_history : List Rec) → Repaired bytes profile extras history
+    → Repaired bytes other_profile other_extras other_history
     → (profile ≡ other_profile) × (extras ≡ other_extras) × (history ≡ other_history)
 
 -- no rule fails in a valid file
@@ -190,8 +201,8 @@ FlawsExcludeValidity = (file : List ℕ) (rule : Rule) (offset : ℕ) → Flaw f
 
 -- a file is read to its Data End, and its messages are those of the history, in order
 abbrev pub FilesAreScanned : Type 0
-FilesAreScanned = (options : FileOptions) (extras : List Top) (history : List Rec)
-    → IsUtf8 options.profile → Each IsReadBack history → Each IsNumberedRec history → IdsAgree history → Each IsExtra extras
+FilesAreScanned = (options : FileOptions) (extras : List Top) (history : List Rec) → IsUtf8 options.profile
+    → Each IsReadBack history → Each IsNumberedRec history → IdsAgree history → Each IsExtra extras
     → CanBeRead options extras history
     → (tops : List Top) × (end : ℕ) × Halts reading_limits (file_of options extras history) tops (at_end end)
     × (flat tops ≡ flat_history history)
@@ -204,8 +215,8 @@ FilesAreValid = (options : FileOptions) (extras : List Top) (history : List Rec)
 
 -- with a chunk size it is fully indexed
 abbrev pub FilesAreIndexed : Type 0
-FilesAreIndexed = (options : FileOptions) (extras : List Top) (history : List Rec) (size : ℕ) → options.chunk ≡ Some size
-    → CanBeWritten options extras history → IsFullyIndexed (file_of options extras history)
+FilesAreIndexed = (options : FileOptions) (extras : List Top) (history : List Rec) (size : ℕ)
+    → options.chunk ≡ Some size → CanBeWritten options extras history → IsFullyIndexed (file_of options extras history)
 
 -- a whole file is one list of records, so it is valid, or fully indexed, with these alone
 abbrev pub WholeFilesAreOne : Type 0
@@ -213,42 +224,49 @@ WholeFilesAreOne = (file : List ℕ) (tops others : List Top) → IsWhole file t
 
 -- in blocks that are cut at a size of at most 64 MiB the entries fit
 abbrev pub SmallBlocksFit : Type 0
-SmallBlocksFit = (size : ℕ) (history : List Rec) → 0 < size → size ≤ chunk_size_limit → Each EntriesFit (blocks_in (pieces_of (Some size) history))
+SmallBlocksFit = (size : ℕ) (history : List Rec) → 0 < size → size ≤ chunk_size_limit
+    → Each EntriesFit (blocks_in (pieces_of (Some size) history))
 
 -- Where a file is read to its Data End, what is kept of a first part of it that holds the magic are the records up to
 -- the Data End that are whole there.
 abbrev pub PrefixesAreKept : Type 0
-PrefixesAreKept = (bytes some : List ℕ) (tops : List Top) (end : ℕ) → Halts reading_limits bytes tops (at_end end) → IsPrefix some bytes → V1 some
+PrefixesAreKept = (bytes some : List ℕ) (tops : List Top) (end : ℕ) → Halts reading_limits bytes tops (at_end end)
+    → IsPrefix some bytes → V1 some
     → (k : ℕ) × Kept reading_limits some (take k tops) × (offset_behind (take k tops) ≤ length some)
     × ((k ≡ length tops) ⊎ (length some < offset_behind (take (suc k) tops)))
 
 -- the ids of a history agree where its records are a good list behind a Header
 abbrev pub GoodHistoriesAgree : Type 0
-GoodHistoriesAgree = (header : Top) (history : List Rec) → Each IsReadBack history → header.op ≡ header_opcode → Good reading_limits (header ∷ map rec_top history)
-    → IdsAgree history × Each IsNumberedRec history
+GoodHistoriesAgree = (header : Top) (history : List Rec) → Each IsReadBack history → header.op ≡ header_opcode
+    → Good reading_limits (header ∷ map rec_top history) → IdsAgree history × Each IsNumberedRec history
 
 -- ---- the pieces of a file
 
 -- a file is its pieces, one behind the other
 abbrev pub PiecesMakeFiles : Type 0
-PiecesMakeFiles = (options : FileOptions) (extras : List Top) (history : List Rec) → joined (file_pieces options extras history) ≡ file_of options extras history
+PiecesMakeFiles = (options : FileOptions) (extras : List Top) (history : List Rec)
+    → joined (file_pieces options extras history) ≡ file_of options extras history
 
 -- what stands where a writer stopped is a first part of all its pieces
 abbrev pub StopsLeavePrefixes : Type 0
-StopsLeavePrefixes = (pieces : List (List ℕ)) (place : ℕ) (stop : Stop) (text : List ℕ) (bytes : ℕ) → StoppedAt pieces place stop text bytes → IsPrefix text (joined pieces)
+StopsLeavePrefixes = (pieces : List (List ℕ)) (place : ℕ) (stop : Stop) (text : List ℕ) (bytes : ℕ)
+    → StoppedAt pieces place stop text bytes → IsPrefix text (joined pieces)
 
 -- ---- what indexes lead to
 
 -- On a fully indexed file that is read to its Data End the summary leads, in a range, to just those messages of the scan
 -- that lie in it, at the same places and with the same topics.
 abbrev pub IndexesLeadToTheScan : Type 0
-IndexesLeadToTheScan = (file : List ℕ) (tops : List Top) (end : ℕ) (messages : List Seen) (range : Range) → IsFullyIndexed file → Halts reading_limits file tops (at_end end) → Scan tops messages
-    → (s : Seen) → Led file range s ↔ (Has messages s × InRange range s.message.log_time)
+IndexesLeadToTheScan = (file : List ℕ) (tops : List Top) (end : ℕ) (messages : List Seen) (range : Range)
+    → IsFullyIndexed file → Halts reading_limits file tops (at_end end) → Scan tops messages → (s : Seen)
+    → Led file range s ↔ (Has messages s × InRange range s.message.log_time)
 
 -- so a replay of what the summary leads to is one of the scan, and the other way round
 abbrev pub LedReplaysAreScans : Type 0
-LedReplaysAreScans = (file : List ℕ) (tops : List Top) (end : ℕ) (messages : List Seen) (range : Range) → IsFullyIndexed file → Halts reading_limits file tops (at_end end) → Scan tops messages
-    → (topic : Option (List ℕ)) (shown : List Seen) → LedReplay file range topic shown ↔ Replay range topic messages shown
+LedReplaysAreScans = (file : List ℕ) (tops : List Top) (end : ℕ) (messages : List Seen) (range : Range)
+    → IsFullyIndexed file → Halts reading_limits file tops (at_end end) → Scan tops messages
+    → (topic : Option (List ℕ)) (shown : List Seen)
+    → LedReplay file range topic shown ↔ Replay range topic messages shown
 
 -- ---- a rule that holds of any row of whole records
 

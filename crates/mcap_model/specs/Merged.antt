@@ -77,7 +77,8 @@ IsUseOf (Message channel sequence log_time publish_time payload) next = Unit {0}
 
 -- a Schema stands directly before a Channel that has it, and a Channel directly before a Message on it
 abbrev pub StandBeforeUse : List Rec → Type 0
-StandBeforeUse history = (n : ℕ) (r : Rec) → At history n r → (is_message r ≡ true) ⊎ ((next : Rec) × At history (suc n) next × IsUseOf r next)
+StandBeforeUse history = (n : ℕ) (r : Rec) → At history n r
+    → (is_message r ≡ true) ⊎ ((next : Rec) × At history (suc n) next × IsUseOf r next)
 
 -- ---- the merge
 

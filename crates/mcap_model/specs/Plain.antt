@@ -48,8 +48,10 @@ pub record IsScanned (bytes : List ℕ) (all : Replayed) : Type 0 where
 -- the reading of the file halts before, at that offset and for that reason
 abbrev pub IsRefused : List ℕ → ReadingRefused → Type 0
 IsRefused bytes (refusals.Fault faults) = ⊥
-IsRefused bytes (refusals.Grammar offset rule) = (tops : List Top) × Halts reading_limits bytes tops (grammar offset rule)
-IsRefused bytes (refusals.Compressed offset name) = (tops : List Top) × Halts reading_limits bytes tops (compressed offset name)
+IsRefused bytes (refusals.Grammar offset rule) =
+    (tops : List Top) × Halts reading_limits bytes tops (grammar offset rule)
+IsRefused bytes (refusals.Compressed offset name) =
+    (tops : List Top) × Halts reading_limits bytes tops (compressed offset name)
 IsRefused bytes (refusals.Limit offset) = (tops : List Top) × Halts reading_limits bytes tops (beyond offset)
 IsRefused bytes refusals.Memory = Unit {0}
 
@@ -95,7 +97,8 @@ uncut_rule (cut_faults.TooLong len) = rules.V4
 -- the message at a place is shown so
 pub record IsShown (p : Placed) (s : Shown) : Type 0 where
   pub place : p.place ≡ s.place
-  pub is : IsMessage p.top s.channel (record { sequence = s.sequence; log_time = s.log_time; publish_time = s.publish_time; payload = s.payload })
+  pub is : IsMessage p.top s.channel (record
+      { sequence = s.sequence; log_time = s.log_time; publish_time = s.publish_time; payload = s.payload })
 
 -- the messages of these records are added
 pub record AddsThose (records : List Placed) (old new : List Shown) : Type 0 where
@@ -104,14 +107,17 @@ pub record AddsThose (records : List Placed) (old new : List Shown) : Type 0 whe
   pub shows : AllZip IsShown (filter (λ p. is_message_top p.top) records) more
 
 abbrev pub AddsMessage : Place → List ℕ → List Shown → List Shown → Type 0
-AddsMessage place content old new = V6 (top message_opcode content) → AddsThose (record { place = place; top = top message_opcode content } ∷ []) old new
+AddsMessage place content old new = V6 (top message_opcode content)
+    → AddsThose (record { place = place; top = top message_opcode content } ∷ []) old new
 
 abbrev pub AddsInside : ℕ → List ℕ → List Shown → List Shown → Type 0
-AddsInside offset records old new = Each V6 (records_in records) → AddsThose (placed_inside offset 0 (records_in records)) old new
+AddsInside offset records old new =
+    Each V6 (records_in records) → AddsThose (placed_inside offset 0 (records_in records)) old new
 
 -- a record that keeps the rules on layouts and on chunks, and names no compression
 abbrev pub AddsMessages : ℕ → Top → List Shown → List Shown → Type 0
-AddsMessages offset t old new = V6 t → V8 t → ((name : List ℕ) → NamesCompression t name → ⊥) → AddsThose (placed_one offset t) old new
+AddsMessages offset t old new =
+    V6 t → V8 t → ((name : List ℕ) → NamesCompression t name → ⊥) → AddsThose (placed_one offset t) old new
 
 -- ---- topics
 
@@ -127,17 +133,21 @@ pub record HasDeclaredTopic (channels : List Declared) (id : ℕ) (topic : List 
 
 -- what is declared are Channels, of one content for each id
 pub record DeclareChannels (channels : List Declared) : Type 0 where
-  pub are : (k : ℕ) (d : Declared) → At channels k d → (f : ChannelFields) × IsChannel (top channel_opcode d.content) d.id f
+  pub are : (k : ℕ) (d : Declared) → At channels k d
+      → (f : ChannelFields) × IsChannel (top channel_opcode d.content) d.id f
   pub apart : (j k : ℕ) (d e : Declared) → At channels j d → At channels k e → d.id ≡ e.id → d ≡ e
 
 -- the topic of the channel of that id, which was declared, is added
 abbrev pub AddsTopic : List Declared → ℕ → List Topic → List Topic → Type 0
-AddsTopic channels id old new = DeclareChannels channels → ((k : ℕ) × (d : Declared) × At channels k d × (d.id ≡ id)) → (topic : List ℕ) × HasDeclaredTopic channels id topic × (new ≡ old ++ (record { channel = id; topic = topic }) ∷ [])
+AddsTopic channels id old new = DeclareChannels channels → ((k : ℕ) × (d : Declared) × At channels k d × (d.id ≡ id))
+    → (topic : List ℕ) × HasDeclaredTopic channels id topic
+    × (new ≡ old ++ (record { channel = id; topic = topic }) ∷ [])
 
 -- one entry for each channel of the messages, in ascending order of ids, with the topic that was declared
 pub record HaveTopics (channels : List Declared) (shown : List Shown) (topics : List Topic) : Type 0 where
   pub rises : AllPairs (λ t u. t.channel < u.channel) topics
-  pub are : (t : Topic) → Has topics t → HasDeclaredTopic channels t.channel t.topic × ((s : Shown) × Has shown s × (s.channel ≡ t.channel))
+  pub are : (t : Topic) → Has topics t
+      → HasDeclaredTopic channels t.channel t.topic × ((s : Shown) × Has shown s × (s.channel ≡ t.channel))
   pub all : (s : Shown) → Has shown s → (topic : List ℕ) × Has topics (record { channel = s.channel; topic = topic })
 
 -- the channel of each message was declared
@@ -145,7 +155,8 @@ abbrev pub AreDeclared : List Declared → List Shown → Type 0
 AreDeclared channels shown = (s : Shown) → Has shown s → (k : ℕ) × (d : Declared) × At channels k d × (d.id ≡ s.channel)
 
 abbrev pub AreNamed : List Declared → List Shown → List Topic → Type 0
-AreNamed channels shown topics = DeclareChannels channels → AreDeclared channels shown → HaveTopics channels shown topics
+AreNamed channels shown topics =
+    DeclareChannels channels → AreDeclared channels shown → HaveTopics channels shown topics
 
 -- ---- the replay
 
@@ -168,8 +179,10 @@ is_chosen topics range topic s = is_within range s.log_time && is_named topics s
 
 -- a message doesn't come behind another: by log time, then by place
 abbrev pub NotBehind : Shown → Shown → Type 0
-NotBehind s r = (s.log_time < r.log_time) ⊎ ((s.log_time ≡ r.log_time) × ((s.place.top < r.place.top) ⊎ ((s.place.top ≡ r.place.top) × (s.place.inner ≤ r.place.inner))))
+NotBehind s r = (s.log_time < r.log_time)
+    ⊎ ((s.log_time ≡ r.log_time) × ((s.place.top < r.place.top) ⊎ ((s.place.top ≡ r.place.top) × (s.place.inner ≤ r.place.inner))))
 
 -- none comes behind the next
 abbrev pub InOrder : List Shown → Type 0
-InOrder shown = (k : ℕ) (d : Shown) → k + 1 < length shown → NotBehind (slice_index_or shown k d) (slice_index_or shown (k + 1) d)
+InOrder shown =
+    (k : ℕ) (d : Shown) → k + 1 < length shown → NotBehind (slice_index_or shown k d) (slice_index_or shown (k + 1) d)

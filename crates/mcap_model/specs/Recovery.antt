@@ -27,14 +27,16 @@ IsFirstOf {X} some whole = (rest : List X) × (some ++ rest ≡ whole)
 -- writer counts are within their limits.
 abbrev pub RepairsCanBeWritten : Type 0
 RepairsCanBeWritten = (options : FileOptions) (tops extras : List Top) (history : List Rec) (size : ℕ)
-    → Good reading_limits tops → Repairs tops options.profile extras history → options.chunk ≡ Some size → 0 < size → size ≤ chunk_size_limit
-    → length (blocks_in (pieces_of options.chunk history)) ≤ block_limit → length (file_of options extras history) ≤ file_limit
-    → count_of attachment_opcode extras < 2 ^ 32 → count_of metadata_opcode extras < 2 ^ 32 → CanBeWritten options extras history
+    → Good reading_limits tops → Repairs tops options.profile extras history → options.chunk ≡ Some size → 0 < size
+    → size ≤ chunk_size_limit → length (blocks_in (pieces_of options.chunk history)) ≤ block_limit
+    → length (file_of options extras history) ≤ file_limit → count_of attachment_opcode extras < 2 ^ 32
+    → count_of metadata_opcode extras < 2 ^ 32 → CanBeWritten options extras history
 
 -- The messages of what is repaired are those of the scan of the records, all of them, in order.
 abbrev pub RepairsKeepMessages : Type 0
 RepairsKeepMessages = (tops extras : List Top) (profile : List ℕ) (history : List Rec) (messages : List Seen)
-    → Good reading_limits tops → Repairs tops profile extras history → Scan tops messages → AllZip HoldsSeen (filter is_message history) messages
+    → Good reading_limits tops → Repairs tops profile extras history → Scan tops messages
+    → AllZip HoldsSeen (filter is_message history) messages
 
 -- Of the first ones of some records repairing makes first parts, with the same profile behind the first record.
 abbrev pub RepairsGoOn : Type 0
@@ -44,12 +46,13 @@ RepairsGoOn = (tops more extras others : List Top) (profile other : List ℕ) (h
 
 -- Good records with which bytes begin behind their magic are the first that are kept of these.
 abbrev pub GoodRecordsAreKept : Type 0
-GoodRecordsAreKept = (bytes : List ℕ) (tops kept : List Top) (rest : List ℕ) → Tops bytes tops rest → Good reading_limits tops
-    → Kept reading_limits bytes kept → IsFirstOf tops kept
+GoodRecordsAreKept = (bytes : List ℕ) (tops kept : List Top) (rest : List ℕ) → Tops bytes tops rest
+    → Good reading_limits tops → Kept reading_limits bytes kept → IsFirstOf tops kept
 
 -- A file is read to its Data End, and repairing makes of it what it was written of, without what declares an id again.
 abbrev pub FilesAreRepaired : Type 0
-FilesAreRepaired = (options : FileOptions) (extras : List Top) (history : List Rec) → CanBeWritten options extras history → CanBeRead options extras history
+FilesAreRepaired = (options : FileOptions) (extras : List Top) (history : List Rec)
+    → CanBeWritten options extras history → CanBeRead options extras history
     → (tops : List Top) × (end : ℕ) × Halts reading_limits (file_of options extras history) tops (at_end end)
     × Repairs tops options.profile extras (without_repeats history)
 
@@ -73,10 +76,12 @@ offset_behind_piece options before p = length (front options.profile ++ (pieces_
 -- its reading halts behind them: at the Data End if that is there, and else because the bytes are cut short. It has the profile
 -- if the Header is whole there; of the pieces those whose records are whole there, whether or not their Message Indexes are;
 -- and of the extras those that are whole there.
-pub record FrontIsRepaired (options : FileOptions) (extras : List Top) (history : List Rec) (some : List ℕ) : Type 0 where
+pub record FrontIsRepaired (options : FileOptions) (extras : List Top) (history : List Rec) (some : List ℕ)
+    : Type 0 where
   pub whole : List Top
   pub others : List Top
-  pub read : Halts reading_limits (file_of options extras history) (whole ++ others) (at_end (offset_behind (whole ++ others)))
+  pub read : Halts reading_limits (file_of options extras history) (whole ++ others)
+      (at_end (offset_behind (whole ++ others)))
   pub within : offset_behind whole ≤ length some
   pub cut : (t : Top) (more : List Top) → others ≡ t ∷ more → length some < offset_behind (whole ++ t ∷ [])
   pub complete : others ≡ [] → Halts reading_limits some whole (at_end (offset_behind whole))
@@ -93,9 +98,11 @@ pub record FrontIsRepaired (options : FileOptions) (extras : List Top) (history 
       → (n < piece_count) ↔ (offset_behind_piece options (take n (pieces_of options.chunk history)) p ≤ length some)
   pub extra_count : ℕ
   pub kept_is : kept ≡ take extra_count extras
-  pub extras_are : (n : ℕ) (t : Top) → At extras n t → (n < extra_count) ↔ (length (section options (take n extras ++ t ∷ []) history) ≤ length some)
+  pub extras_are : (n : ℕ) (t : Top) → At extras n t
+      → (n < extra_count) ↔ (length (section options (take n extras ++ t ∷ []) history) ≤ length some)
 
 -- of a first part of a file that holds the magic just what is whole there is kept
 abbrev pub FrontsAreRepaired : Type 0
-FrontsAreRepaired = (options : FileOptions) (some : List ℕ) (extras : List Top) (history : List Rec) → CanBeWritten options extras history → CanBeRead options extras history
+FrontsAreRepaired = (options : FileOptions) (some : List ℕ) (extras : List Top) (history : List Rec)
+    → CanBeWritten options extras history → CanBeRead options extras history
     → IsPrefix some (file_of options extras history) → V1 some → FrontIsRepaired options extras history some

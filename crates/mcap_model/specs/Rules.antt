@@ -36,7 +36,8 @@ abbrev pub is_unknown : ℕ → Bool
 is_unknown op = nat_le 16 op
 
 abbrev pub stands_in_section : ℕ → Bool
-stands_in_section op = list_any (λ kind. kind == op) (schema_opcode ∷ channel_opcode ∷ message_opcode ∷ chunk_opcode ∷ message_index_opcode ∷ attachment_opcode ∷ metadata_opcode ∷ data_end_opcode ∷ []) || is_unknown op
+stands_in_section op = list_any (λ kind. kind == op) (schema_opcode ∷ channel_opcode ∷ message_opcode ∷ chunk_opcode
+    ∷ message_index_opcode ∷ attachment_opcode ∷ metadata_opcode ∷ data_end_opcode ∷ []) || is_unknown op
 
 abbrev pub V5 : List Top → Top → Type 0
 V5 [] t = t.op ≡ 0 → ⊥
@@ -51,13 +52,15 @@ pub record V6 (t : Top) : Type 0 where
   pub channel : t.op ≡ channel_opcode → (id : ℕ) × (f : ChannelFields) × IsChannel t id f
   pub message : t.op ≡ message_opcode → (channel : ℕ) × (m : MessageFields) × IsMessage t channel m
   pub chunk : t.op ≡ chunk_opcode → (f : ChunkFields) × IsChunk t f
-  pub message_index : t.op ≡ message_index_opcode → (channel : ℕ) × (entries : List (ℕ × ℕ)) × IsMessageIndex t channel entries
+  pub message_index : t.op ≡ message_index_opcode
+      → (channel : ℕ) × (entries : List (ℕ × ℕ)) × IsMessageIndex t channel entries
   pub chunk_index : t.op ≡ chunk_index_opcode → (f : ChunkIndexFields) × IsChunkIndex t f
   pub attachment : t.op ≡ attachment_opcode → (f : AttachmentFields) × IsAttachment t f
   pub attachment_index : t.op ≡ attachment_index_opcode → (f : AttachmentIndexFields) × IsAttachmentIndex t f
   pub statistics : t.op ≡ statistics_opcode → (f : StatisticsFields) × IsStatistics t f
   pub metadata : t.op ≡ metadata_opcode → (name : List ℕ) × (pairs : List (List ℕ × List ℕ)) × IsMetadata t name pairs
-  pub metadata_index : t.op ≡ metadata_index_opcode → (offset size : ℕ) × (name : List ℕ) × IsMetadataIndex t offset size name
+  pub metadata_index : t.op ≡ metadata_index_opcode
+      → (offset size : ℕ) × (name : List ℕ) × IsMetadataIndex t offset size name
   pub summary_offset : t.op ≡ summary_offset_opcode → (op offset size : ℕ) × IsSummaryOffset t op offset size
   pub data_end : t.op ≡ data_end_opcode → IsDataEnd t
 
@@ -82,8 +85,10 @@ pub record HasChannel (records : List Top) (id : ℕ) : Type 0 where
 
 -- a record agrees with those before it
 pub record Agrees (before : List Top) (t : Top) : Type 0 where
-  pub schemas : (id : ℕ) (f g : SchemaFields) (n : ℕ) (u : Top) → IsSchema t id f → At before n u → IsSchema u id g → g ≡ f
-  pub channels : (id : ℕ) (f g : ChannelFields) (n : ℕ) (u : Top) → IsChannel t id f → At before n u → IsChannel u id g → SameChannel g f
+  pub schemas : (id : ℕ) (f g : SchemaFields) (n : ℕ) (u : Top) → IsSchema t id f → At before n u → IsSchema u id g
+      → g ≡ f
+  pub channels : (id : ℕ) (f g : ChannelFields) (n : ℕ) (u : Top) → IsChannel t id f → At before n u → IsChannel u id g
+      → SameChannel g f
   pub schema : (id : ℕ) (f : ChannelFields) → IsChannel t id f → (f.schema ≡ 0) ⊎ HasSchema before f.schema
   pub channel : (id : ℕ) (m : MessageFields) → IsMessage t id m → HasChannel before id
 
@@ -105,10 +110,12 @@ pub record LogsAt (records : List Top) (time : ℕ) : Type 0 where
 
 -- where one of the records is a Message, these are the least and the greatest log time
 abbrev pub TimesAre : List Top → ℕ → ℕ → Type 0
-TimesAre records start end = (time : ℕ) → LogsAt records time → (start ≤ time) × (time ≤ end) × LogsAt records start × LogsAt records end
+TimesAre records start end =
+    (time : ℕ) → LogsAt records time → (start ≤ time) × (time ≤ end) × LogsAt records start × LogsAt records end
 
 abbrev pub stands_in_chunk : ℕ → Bool
-stands_in_chunk op = list_any (λ kind. kind == op) (schema_opcode ∷ channel_opcode ∷ message_opcode ∷ []) || is_unknown op
+stands_in_chunk op =
+    list_any (λ kind. kind == op) (schema_opcode ∷ channel_opcode ∷ message_opcode ∷ []) || is_unknown op
 
 pub record ChunkIsRight (f : ChunkFields) : Type 0 where
   pub size : f.size ≡ length f.records
@@ -125,7 +132,8 @@ V8 t = (f : ChunkFields) → IsChunk t f → f.compression ≡ [] → ChunkIsRig
 -- ---- V10: the CRC of an Attachment is 0, or that of the fields before it
 
 abbrev pub V10 : Top → Type 0
-V10 t = (f : AttachmentFields) (place : ℕ) → t.op ≡ attachment_opcode → CrcStandsAt t.content place f → (f.crc ≡ 0) ⊎ (f.crc ≡ remainder (take place t.content))
+V10 t = (f : AttachmentFields) (place : ℕ) → t.op ≡ attachment_opcode → CrcStandsAt t.content place f
+    → (f.crc ≡ 0) ⊎ (f.crc ≡ remainder (take place t.content))
 
 -- the record breaks that rule
 pub data Breaks (before : List Top) (t : Top) : Rule → Type 0 where

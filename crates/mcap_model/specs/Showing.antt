@@ -8,7 +8,8 @@ use Rattle.mcap_model.specs.Scan.{Seen}
 
 -- a message, as it is shown
 abbrev pub shown_as : Seen → Shown
-shown_as s = record { place = s.place; log_time = s.message.log_time; publish_time = s.message.publish_time; channel = s.channel; sequence = s.message.sequence; payload = s.message.payload }
+shown_as s = record
+    { place = s.place; log_time = s.message.log_time; publish_time = s.message.publish_time; channel = s.channel; sequence = s.message.sequence; payload = s.message.payload }
 
 -- the entry of its channel
 abbrev pub topic_as : Seen → Topic

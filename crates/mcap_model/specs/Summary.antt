@@ -94,7 +94,8 @@ attachment_index_content extra =
 
 abbrev pub metadata_index_content : ℕ × Top → List ℕ
 metadata_index_content extra =
-    metadata_index_text (record { offset = extra.0; size = length (top_bytes extra.1); name = text_bytes extra.1.content 0 })
+    metadata_index_text (record
+    { offset = extra.0; size = length (top_bytes extra.1); name = text_bytes extra.1.content 0 })
 
 -- ---- its groups
 
@@ -117,8 +118,11 @@ groups_of n = filter (λ g. has_some g.contents) (
     ∷ record { op = channel_opcode; contents = map rec_text (channels_of n.records) }
     ∷ record { op = statistics_opcode; contents = statistics_content n ∷ [] }
     ∷ record { op = chunk_index_opcode; contents = map chunk_index_content n.blocks }
-    ∷ record { op = attachment_index_opcode; contents = map attachment_index_content (extras_of_kind attachment_opcode n.extras) }
-    ∷ record { op = metadata_index_opcode; contents = map metadata_index_content (extras_of_kind metadata_opcode n.extras) } ∷ [])
+    ∷ record
+    { op = attachment_index_opcode; contents = map attachment_index_content (extras_of_kind attachment_opcode n.extras) }
+    ∷ record
+    { op = metadata_index_opcode; contents = map metadata_index_content (extras_of_kind metadata_opcode n.extras) }
+    ∷ [])
 
 -- the fields of the Summary Offset of a group that stands at that offset
 abbrev pub group_fields : Group → ℕ → SummaryOffsetFields
@@ -130,7 +134,8 @@ offset_contents at [] = []
 offset_contents at (g ∷ gs) = summary_offset_text (group_fields g at) ∷ offset_contents (at + length (group_bytes g)) gs
 
 abbrev pub footer_of_offsets : ℕ → ℕ → ℕ → FooterFields
-footer_of_offsets summary offsets crc = record { summary_start = summary; summary_offset_start = offsets; summary_crc = crc }
+footer_of_offsets summary offsets crc =
+    record { summary_start = summary; summary_offset_start = offsets; summary_crc = crc }
 
 -- The summary at that offset, its Summary Offsets, the Footer and the magic. The Footer's CRC is that of all before it,
 -- and of the Footer's front with the two offsets.
@@ -140,4 +145,6 @@ summary_text n at =
     let offsets = flat_map (framed summary_offset_opcode) (offset_contents at (groups_of n)) in
     let behind = at + length groups in
     let front = take 25 (framed footer_opcode (footer_text (footer_of_offsets at behind 0))) in
-    groups ++ (offsets ++ (framed footer_opcode (footer_text (footer_of_offsets at behind (remainder (groups ++ (offsets ++ front))))) ++ magic))
+    groups
+    ++ (offsets
+    ++ (framed footer_opcode (footer_text (footer_of_offsets at behind (remainder (groups ++ (offsets ++ front))))) ++ magic))

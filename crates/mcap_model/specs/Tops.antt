@@ -119,7 +119,9 @@ placed_inside chunk at (t ∷ ts) =
 
 -- the Schemas, Channels and Messages that the record at that offset is or holds
 abbrev pub placed_one : ℕ → Top → List Placed
-placed_one at t = filter (λ p. is_flat_kind p.top) (if is_chunk t then placed_inside at 0 (inner_tops t) else record { place = record { top = at; inner = 0 }; top = t } ∷ [])
+placed_one at t =
+    filter (λ p. is_flat_kind p.top) (if is_chunk t then placed_inside at 0 (inner_tops t)
+    else record { place = record { top = at; inner = 0 }; top = t } ∷ [])
 
 -- those of records, the first of which stands at that offset
 abbrev pub placed_from : ℕ → List Top → List Placed

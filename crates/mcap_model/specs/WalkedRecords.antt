@@ -4,7 +4,8 @@ use Rattle.mcap_model.specs.Tops.{Top, top_bytes, is_chunk, inner_tops, Placed, 
 
 -- the record at that offset, and behind a chunk those inside it
 abbrev pub walked_one : ℕ → Top → List Placed
-walked_one at t = record { place = record { top = at; inner = 0 }; top = t } ∷ (if is_chunk t then placed_inside at 0 (inner_tops t) else [])
+walked_one at t = record { place = record { top = at; inner = 0 }; top = t }
+    ∷ (if is_chunk t then placed_inside at 0 (inner_tops t) else [])
 
 -- those of records, the first of which stands at that offset
 abbrev pub walked_from : ℕ → List Top → List Placed

@@ -15,8 +15,10 @@ pub record SameButMetadata (f g : ChannelFields) : Type 0 where
 
 -- a record agrees with those before it, but that the metadata of a Channel may differ
 pub record AgreesButMetadata (before : List Top) (t : Top) : Type 0 where
-  pub schemas : (id : ℕ) (f g : SchemaFields) (n : ℕ) (u : Top) → IsSchema t id f → At before n u → IsSchema u id g → g ≡ f
-  pub channels : (id : ℕ) (f g : ChannelFields) (n : ℕ) (u : Top) → IsChannel t id f → At before n u → IsChannel u id g → SameButMetadata g f
+  pub schemas : (id : ℕ) (f g : SchemaFields) (n : ℕ) (u : Top) → IsSchema t id f → At before n u → IsSchema u id g
+      → g ≡ f
+  pub channels : (id : ℕ) (f g : ChannelFields) (n : ℕ) (u : Top) → IsChannel t id f → At before n u → IsChannel u id g
+      → SameButMetadata g f
   pub schema : (id : ℕ) (f : ChannelFields) → IsChannel t id f → (f.schema ≡ 0) ⊎ HasSchema before f.schema
   pub channel : (id : ℕ) (m : MessageFields) → IsMessage t id m → HasChannel before id
 

@@ -48,7 +48,8 @@ pub record IsWhole (file : List ℕ) (tops : List Top) : Type 0 where
 -- attachments and of metadata, Statistics, Summary Offsets and unknown records; and there is a Data End
 
 abbrev pub stands_in_summary : ℕ → Bool
-stands_in_summary op = list_any (λ kind. kind == op) (schema_opcode ∷ channel_opcode ∷ chunk_index_opcode ∷ attachment_index_opcode ∷ statistics_opcode ∷ metadata_index_opcode ∷ summary_offset_opcode ∷ []) || is_unknown op
+stands_in_summary op = list_any (λ kind. kind == op) (schema_opcode ∷ channel_opcode ∷ chunk_index_opcode
+    ∷ attachment_index_opcode ∷ statistics_opcode ∷ metadata_index_opcode ∷ summary_offset_opcode ∷ []) || is_unknown op
 
 abbrev pub V5Behind : List Top → ℕ → Top → Type 0
 V5Behind tops n t = (InSummary tops n → stands_in_summary t.op ≡ true) × (is_last tops n → HasDataEnd tops)
@@ -85,8 +86,10 @@ pub record AreEntries (records : List Top) (channel : ℕ) (entries : List (ℕ 
 -- A Message Index of a chunk, behind the earlier ones of that chunk, has the entries of its channel's messages, and none
 -- of the earlier ones is of its channel.
 pub record IndexIsRight (chunk : Top) (earlier : List Top) (t : Top) : Type 0 where
-  pub entries : (channel : ℕ) (entries : List (ℕ × ℕ)) → IsMessageIndex t channel entries → AreEntries (inner_tops chunk) channel entries
-  pub only : (channel : ℕ) (u : Top) (entries others : List (ℕ × ℕ)) → Has earlier u → IsMessageIndex u channel others → IsMessageIndex t channel entries → ⊥
+  pub entries : (channel : ℕ) (entries : List (ℕ × ℕ)) → IsMessageIndex t channel entries
+      → AreEntries (inner_tops chunk) channel entries
+  pub only : (channel : ℕ) (u : Top) (entries others : List (ℕ × ℕ)) → Has earlier u → IsMessageIndex u channel others
+      → IsMessageIndex t channel entries → ⊥
 
 -- Of the records before a Message Index the last is a Chunk or a Message Index. Where a chunk is followed by Message
 -- Indexes alone, it is right for that chunk: so one that has no chunk fails alone, and not those behind it.
@@ -95,20 +98,23 @@ pub record BelongsTo (before : List Top) (t : Top) : Type 0 where
   pub neighbour : Top
   pub follows : before ≡ front ++ neighbour ∷ []
   pub is : (neighbour.op ≡ chunk_opcode) ⊎ (neighbour.op ≡ message_index_opcode)
-  pub right : (others : List Top) (chunk : Top) (earlier : List Top) → before ≡ others ++ chunk ∷ earlier → chunk.op ≡ chunk_opcode → Each (λ u. u.op ≡ message_index_opcode) earlier → IndexIsRight chunk earlier t
+  pub right : (others : List Top) (chunk : Top) (earlier : List Top) → before ≡ others ++ chunk ∷ earlier
+      → chunk.op ≡ chunk_opcode → Each (λ u. u.op ≡ message_index_opcode) earlier → IndexIsRight chunk earlier t
 
 -- behind the chunk stand no Message Indexes, or one for each channel with a message in it
 abbrev pub IsIndexed : List Top → ℕ → Top → Type 0
 IsIndexed tops n t = (indexes_behind tops n ≡ [])
     ⊎ ((j channel : ℕ) (u : Top) (m : MessageFields) → At (inner_tops t) j u → IsMessage u channel m
-    → (k : ℕ) × (i : Top) × (entries : List (ℕ × ℕ)) × At (indexes_behind tops n) k i × IsMessageIndex i channel entries)
+    → (k : ℕ) × (i : Top) × (entries : List (ℕ × ℕ)) × At (indexes_behind tops n) k i
+    × IsMessageIndex i channel entries)
 
 -- some record stands behind the chunk at that place and its Message Indexes
 abbrev pub IsFollowed : List Top → ℕ → Type 0
 IsFollowed tops n = suc n + length (indexes_behind tops n) < length tops
 
 abbrev pub V9 : List Top → ℕ → Top → Type 0
-V9 tops n t = (t.op ≡ message_index_opcode → BelongsTo (take n tops) t) × (t.op ≡ chunk_opcode → IsFollowed tops n → IsIndexed tops n t)
+V9 tops n t = (t.op ≡ message_index_opcode → BelongsTo (take n tops) t)
+    × (t.op ≡ chunk_opcode → IsFollowed tops n → IsIndexed tops n t)
 
 -- ---- V11: where the summary starts, and its order
 
@@ -134,7 +140,8 @@ pub record NamesSummary (tops : List Top) (n summary offsets : ℕ) : Type 0 whe
   pub start : (k : ℕ) × (t : Top) × At tops k t × (t.op ≡ data_end_opcode) × (HasDataEnd (take k tops) → ⊥)
       × (((summary ≡ 0) × (n ≡ suc k)) ⊎ (summary ≡ offset_of tops (suc k)))
   -- where the summary has a Summary Offset, this is the place of the first one
-  pub first_offset : (k : ℕ) (t : Top) → At tops k t → InSummary tops k → t.op ≡ summary_offset_opcode → Each (λ u. u.op ≢ summary_offset_opcode) (behind_end (take k tops)) → offsets ≡ offset_of tops k
+  pub first_offset : (k : ℕ) (t : Top) → At tops k t → InSummary tops k → t.op ≡ summary_offset_opcode
+      → Each (λ u. u.op ≢ summary_offset_opcode) (behind_end (take k tops)) → offsets ≡ offset_of tops k
 
 -- A known record of a summary, behind the known ones before it: the one in front of it has its opcode, or none has;
 -- there is one Statistics; and behind Summary Offsets stand such alone.
@@ -184,7 +191,8 @@ pub record ChunkIndexIsRight (tops : List Top) (n : ℕ) (f : ChunkIndexFields) 
   pub is : IsIndexOf tops f k chunk shown
   pub names : NamesIndexes tops k f
   -- no Chunk Index in front of it is of that chunk
-  pub only : (i : ℕ) (u : Top) (other : ChunkIndexFields) → i < n → At tops i u → IsChunkIndex u other → other.offset ≢ f.offset
+  pub only : (i : ℕ) (u : Top) (other : ChunkIndexFields) → i < n → At tops i u → IsChunkIndex u other
+      → other.offset ≢ f.offset
 
 abbrev pub V12 : List Top → ℕ → Top → Type 0
 V12 tops n t = (f : ChunkIndexFields) → IsChunkIndex t f → ChunkIndexIsRight tops n f
@@ -202,7 +210,8 @@ pub record AttachmentIndexIsRight (tops : List Top) (n : ℕ) (f : AttachmentInd
   pub payload_size : f.payload_size ≡ length shown.payload
   pub name : f.name ≡ shown.name
   pub media_type : f.media_type ≡ shown.media_type
-  pub only : (i : ℕ) (u : Top) (other : AttachmentIndexFields) → i < n → At tops i u → IsAttachmentIndex u other → other.offset ≢ f.offset
+  pub only : (i : ℕ) (u : Top) (other : AttachmentIndexFields) → i < n → At tops i u → IsAttachmentIndex u other
+      → other.offset ≢ f.offset
 
 pub record MetadataIndexIsRight (tops : List Top) (n offset size : ℕ) (name : List ℕ) : Type 0 where
   pub top : Top
@@ -210,7 +219,8 @@ pub record MetadataIndexIsRight (tops : List Top) (n offset size : ℕ) (name : 
   pub at : StandsAt tops offset top
   pub is : IsMetadata top name pairs
   pub size_is : size ≡ length (top_bytes top)
-  pub only : (i other other_size : ℕ) (u : Top) (other_name : List ℕ) → i < n → At tops i u → IsMetadataIndex u other other_size other_name → other ≢ offset
+  pub only : (i other other_size : ℕ) (u : Top) (other_name : List ℕ) → i < n → At tops i u
+      → IsMetadataIndex u other other_size other_name → other ≢ offset
 
 abbrev pub V13 : List Top → ℕ → Top → Type 0
 V13 tops n t = ((f : AttachmentIndexFields) → IsAttachmentIndex t f → AttachmentIndexIsRight tops n f)
@@ -236,7 +246,8 @@ count_of op records = length (filter (λ t. t.op == op) records)
 
 -- the channels of the messages among the records, in their order
 abbrev pub AreChannels : List Top → List ℕ → Type 0
-AreChannels records channels = AllZip (λ t channel. (m : MessageFields) × IsMessage t channel m) (filter is_message_top records) channels
+AreChannels records channels =
+    AllZip (λ t channel. (m : MessageFields) × IsMessage t channel m) (filter is_message_top records) channels
 
 -- so many of the messages are on that channel
 abbrev pub on_channel : List ℕ → ℕ → ℕ
@@ -250,7 +261,8 @@ pub record AreIds (P : ℕ → Type 0) (ids : List ℕ) : Type 0 where
 
 -- a count lies between the number of ids in the section and that in the whole file
 abbrev pub LiesBetween : (List Top → ℕ → Type 0) → List Top → List Top → ℕ → Type 0
-LiesBetween P section tops n = (low high : List ℕ) × AreIds (P (flat section)) low × AreIds (P (flat tops)) high × (length low ≤ n) × (n ≤ length high)
+LiesBetween P section tops n = (low high : List ℕ) × AreIds (P (flat section)) low × AreIds (P (flat tops)) high
+    × (length low ≤ n) × (n ≤ length high)
 
 -- the counts are those of the channels of the messages in the section: each right, and none of such a channel left out
 pub record AreCounted (section : List Top) (counts : List (ℕ × ℕ)) : Type 0 where
@@ -306,9 +318,11 @@ V15 tops n t = (op offset size : ℕ) → IsSummaryOffset t op offset size → S
 -- ---- V16: the CRC of the summary, which ends behind the first 25 bytes of the Footer
 
 abbrev pub V16 : List ℕ → List Top → ℕ → Top → Type 0
-V16 file tops n t = (summary offsets crc : ℕ) → is_last tops n → IsFooter t summary offsets crc → summary ≢ 0 → crc ≢ 0 → crc ≡ remainder (part summary (offset_of tops n + 25) file)
+V16 file tops n t = (summary offsets crc : ℕ) → is_last tops n → IsFooter t summary offsets crc → summary ≢ 0 → crc ≢ 0
+    → crc ≡ remainder (part summary (offset_of tops n + 25) file)
 
 -- ---- V17: the last record is a Footer, and no other one is
 
 abbrev pub V17 : List Top → Type 0
-V17 tops = (before : List Top) × (t : Top) × (tops ≡ before ++ t ∷ []) × ((summary offsets crc : ℕ) × IsFooter t summary offsets crc) × Each (λ u. u.op ≢ footer_opcode) before
+V17 tops = (before : List Top) × (t : Top) × (tops ≡ before ++ t ∷ [])
+    × ((summary offsets crc : ℕ) × IsFooter t summary offsets crc) × Each (λ u. u.op ≢ footer_opcode) before

@@ -24,7 +24,8 @@ is_passed_over t = (t.op == attachment_opcode) || ((t.op == metadata_opcode) || 
 -- How many records are passed over where one is read. It is said apart what of a chunk is passed over, since inside one
 -- no record is recorded but Schemas, Channels and Messages.
 abbrev pub passed_in : Top → ℕ
-passed_in t = if is_chunk t then length (filter (λ u. is_unknown u.op) (inner_tops t)) else if is_passed_over t then 1 else 0
+passed_in t =
+    if is_chunk t then length (filter (λ u. is_unknown u.op) (inner_tops t)) else if is_passed_over t then 1 else 0
 
 abbrev pub passed : List Top → ℕ
 passed tops = sum_by passed_in tops

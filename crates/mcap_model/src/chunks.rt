@@ -24,7 +24,8 @@ fn take_inner(
     op: u8,
     content: &[u8],
 ) -> Result<Times, Ruling>
-    ensures { (before inner : List Top) → TablesOf (before ++ flat_of inner) tables.old → TimesOf inner times → InnerTaken before inner (top op content.now) tables.new result }
+    ensures { (before inner : List Top) → TablesOf (before ++ flat_of inner) tables.old → TimesOf inner times
+        → InnerTaken before inner (top op content.now) tables.new result }
 {
     match op {
         SCHEMA => match tables.take_schema(alloc, content) {
@@ -76,7 +77,11 @@ fn has_crc(crc: u32, records: &[u8]) -> bool
 
 /// Takes a chunk that isn't compressed.
 pub(crate) fn take_chunk(alloc: Global, tables: &mut Tables, chunk: &Chunk<'_>) -> Ruling
-    ensures { (before : List Top) → TablesOf before tables.old → ChunkTaken before (record { start = chunk.now.message_start_time; end = chunk.now.message_end_time; size = chunk.now.uncompressed_size; crc = chunk.now.uncompressed_crc; compression = chunk.now.compression.now; records = chunk.now.records.now }) tables.new result }
+    ensures { (before : List Top) → TablesOf before tables.old
+        → ChunkTaken before
+        (record
+        { start = chunk.now.message_start_time; end = chunk.now.message_end_time; size = chunk.now.uncompressed_size; crc = chunk.now.uncompressed_crc; compression = chunk.now.compression.now; records = chunk.now.records.now })
+        tables.new result }
 {
     if chunk.uncompressed_size != chunk.records.len() as u64 {
         return Ruling::Breaks { rule: Rule::V8 };

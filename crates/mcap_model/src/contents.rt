@@ -33,7 +33,8 @@ pub(crate) fn is_data_end(content: &[u8]) -> bool
 
 /// Whether the content is that of a Metadata.
 pub(crate) fn is_metadata(content: &[u8]) -> bool
-    ensures { IsTrue result ↔ ((name : List ℕ) × (pairs : List (List ℕ × List ℕ)) × IsMetadata (top metadata_opcode content.now) name pairs) }
+    ensures { IsTrue result
+        ↔ ((name : List ℕ) × (pairs : List (List ℕ × List ℕ)) × IsMetadata (top metadata_opcode content.now) name pairs) }
 {
     match Metadata::parse(content) {
         Ok(_) => return true,
@@ -43,7 +44,8 @@ pub(crate) fn is_metadata(content: &[u8]) -> bool
 
 /// Whether the content is that of a Message Index.
 pub(crate) fn is_message_index(content: &[u8]) -> bool
-    ensures { IsTrue result ↔ ((channel : ℕ) × (entries : List (ℕ × ℕ)) × IsMessageIndex (top message_index_opcode content.now) channel entries) }
+    ensures { IsTrue result
+        ↔ ((channel : ℕ) × (entries : List (ℕ × ℕ)) × IsMessageIndex (top message_index_opcode content.now) channel entries) }
 {
     match MessageIndex::parse(content) {
         Ok(_) => return true,

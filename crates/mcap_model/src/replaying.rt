@@ -52,7 +52,8 @@ fn choose(
     range: Range,
     topic: Option<&Text>,
 ) -> Result<Vec<Shown>, Memory>
-    ensures { IfOk result (λ chosen. chosen.items ≡ filter (is_chosen all.now.topics.items range (asked_topic topic.entry)) all.now.shown.items) }
+    ensures { IfOk result (λ chosen. chosen.items
+        ≡ filter (is_chosen all.now.topics.items range (asked_topic topic.entry)) all.now.shown.items) }
 {
     let mut chosen = Vec::new(alloc);
     'messages: for i in 0..all.shown.len() {
@@ -115,7 +116,9 @@ pub fn replay_plain(
     topic: Option<&Text>,
 ) -> Result<Replayed, Memory>
     requires { PlacesDiffer all.now.shown.items }
-    ensures { (messages : List Seen) → Shows all.now messages → IfOk result (λ replayed. (shown : List Seen) × Replay range (asked_topic topic.entry) messages shown × Shows replayed shown) }
+    ensures { (messages : List Seen) → Shows all.now messages
+        → IfOk result (λ replayed. (shown : List Seen) × Replay range (asked_topic topic.entry) messages shown
+        × Shows replayed shown) }
 {
     let mut shown = match choose(alloc, all, range, topic) {
         Ok(shown) => shown,

@@ -22,7 +22,8 @@ fn has_fields(first: &Schema<'_>, schema: &Schema<'_>) -> bool
 
 /// Whether the content shows a Schema with the fields of this one.
 pub(crate) fn is_same_schema(content: &[u8], schema: &Schema<'_>) -> bool
-    ensures { (id : ℕ) (f : SchemaFields) → IsSchema (top schema_opcode content.now) id f → IsTrue result ↔ (f ≡ schema_fields schema.now) }
+    ensures { (id : ℕ) (f : SchemaFields) → IsSchema (top schema_opcode content.now) id f
+        → IsTrue result ↔ (f ≡ schema_fields schema.now) }
 {
     match Schema::parse(content) {
         Ok(first) => return has_fields(&first, schema),
@@ -73,7 +74,9 @@ fn is_same_map(alloc: Global, one: &PairsRef<'_>, other: &PairsRef<'_>) -> Resul
 
 // Whether two Channels have equal fields beside their ids and their metadata.
 fn has_head(first: &Channel<'_>, channel: &Channel<'_>) -> bool
-    ensures { IsTrue result ↔ ((first.now.schema_id ≡ channel.now.schema_id) × (first.now.topic.now ≡ channel.now.topic.now) × (first.now.message_encoding.now ≡ channel.now.message_encoding.now)) }
+    ensures { IsTrue result
+        ↔ ((first.now.schema_id ≡ channel.now.schema_id) × (first.now.topic.now ≡ channel.now.topic.now)
+        × (first.now.message_encoding.now ≡ channel.now.message_encoding.now)) }
 {
     first.schema_id == channel.schema_id
         && first.topic == channel.topic
@@ -86,8 +89,10 @@ pub(crate) fn is_same_channel(
     content: &[u8],
     channel: &Channel<'_>,
 ) -> Result<bool, Memory>
-    ensures same { IfOk result (λ same. (id : ℕ) (f : ChannelFields) → IsChannel (top channel_opcode content.now) id f → IsTrue same ↔ SameChannel f (channel_fields channel.now)) }
-    ensures lacks { IfErr result (λ memory. (id : ℕ) (f : ChannelFields) → IsChannel (top channel_opcode content.now) id f → SameButMetadata f (channel_fields channel.now)) }
+    ensures same { IfOk result (λ same. (id : ℕ) (f : ChannelFields) → IsChannel (top channel_opcode content.now) id f
+        → IsTrue same ↔ SameChannel f (channel_fields channel.now)) }
+    ensures lacks { IfErr result (λ memory. (id : ℕ) (f : ChannelFields)
+        → IsChannel (top channel_opcode content.now) id f → SameButMetadata f (channel_fields channel.now)) }
 {
     match Channel::parse(content) {
         Ok(first) => {

@@ -105,7 +105,8 @@ impl Tables {
 
     /// The log time of a Message, or the rule that it breaks.
     pub(crate) fn take_message(&self, content: &[u8]) -> Result<u64, Rule>
-        ensures { (records : List Top) → TablesOf records self.now → Hears records (top message_opcode content.now) result }
+        ensures { (records : List Top) → TablesOf records self.now
+            → Hears records (top message_opcode content.now) result }
     {
         let message = match Message::parse(content) {
             Ok(message) => message,

@@ -30,7 +30,8 @@ fn is_beyond(offset: u64, len: u64) -> bool
 // Whether a valid head stands at the offset, and its record passes a limit.
 fn passes_limit(bytes: &[u8], at: usize) -> bool
     requires { at ≤ length bytes.now }
-    ensures { IsTrue result ↔ (HasOpcode (drop at bytes.now) × (passes reading_limits at (declared_length (drop at bytes.now)) ≡ true)) }
+    ensures { IsTrue result
+        ↔ (HasOpcode (drop at bytes.now) × (passes reading_limits at (declared_length (drop at bytes.now)) ≡ true)) }
 {
     if at == bytes.len() {
         return false;
@@ -64,7 +65,8 @@ fn judge_at<'a>(
     op: u8,
     content: &'a [u8],
 ) -> Judged<'a>
-    ensures { (tops : List Top) → (HasDataEnd tops → ⊥) → at ≡ offset_behind tops → TablesOf (flat tops) tables.old → JudgedAs tops (top op content.now) tables.new result }
+    ensures { (tops : List Top) → (HasDataEnd tops → ⊥) → at ≡ offset_behind tops → TablesOf (flat tops) tables.old
+        → JudgedAs tops (top op content.now) tables.new result }
 {
     if at == FIRST_OFFSET {
         return judge_first(op, content);
@@ -80,7 +82,8 @@ pub(crate) fn take_record(
     at: usize,
 ) -> Result<Cut, ReadingRefused>
     requires { at ≤ length bytes.now }
-    ensures { (tops : List Top) → ReadTo bytes.now at tables.old tops → PlainRecordTaken bytes.now at tops tables.new result }
+    ensures { (tops : List Top) → ReadTo bytes.now at tables.old tops
+        → PlainRecordTaken bytes.now at tops tables.new result }
 {
     let offset = at as u64;
     if passes_limit(bytes, at) {

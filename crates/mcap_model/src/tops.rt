@@ -57,7 +57,8 @@ pub fn judge_first<'a>(op: u8, content: &'a [u8]) -> Judged<'a>
 
 // Judges a chunk.
 fn judge_chunk<'a>(alloc: Global, tables: &mut Tables, content: &'a [u8]) -> Judged<'a>
-    ensures { (first : Top) (more : List Top) → TablesOf (flat (first ∷ more)) tables.old → JudgedAs (first ∷ more) (top chunk_opcode content.now) tables.new result }
+    ensures { (first : Top) (more : List Top) → TablesOf (flat (first ∷ more)) tables.old
+        → JudgedAs (first ∷ more) (top chunk_opcode content.now) tables.new result }
 {
     let chunk = match Chunk::parse(content) {
         Ok(chunk) => chunk,
@@ -73,7 +74,8 @@ fn judge_chunk<'a>(alloc: Global, tables: &mut Tables, content: &'a [u8]) -> Jud
 
 /// Judges a record behind the Header.
 pub fn judge<'a>(alloc: Global, tables: &mut Tables, op: u8, content: &'a [u8]) -> Judged<'a>
-    ensures { (first : Top) (more : List Top) → (HasDataEnd (first ∷ more) → ⊥) → TablesOf (flat (first ∷ more)) tables.old → JudgedAs (first ∷ more) (top op content.now) tables.new result }
+    ensures { (first : Top) (more : List Top) → (HasDataEnd (first ∷ more) → ⊥)
+        → TablesOf (flat (first ∷ more)) tables.old → JudgedAs (first ∷ more) (top op content.now) tables.new result }
 {
     match op {
         SCHEMA => return of_ruling(tables.take_schema(alloc, content)),

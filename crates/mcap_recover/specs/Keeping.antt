@@ -45,22 +45,26 @@ pub record CountsSo {L : Type 0} (extras : List Top) (history : List Rec) (k : K
   pub extras_are : k.extras ≡ counted (length extras)
 
 -- The scribe stands for these extras and this history; while it goes on, so do the ids and the counts.
-pub record KeepingStandsFor {L : Type 0} (seen : L → LiveState) (options : FileOptions) (extras : List Top) (opened : LiveState) (history : List Rec) (k : Keeping L) : Type 0 where
+pub record KeepingStandsFor {L : Type 0} (seen : L → LiveState) (options : FileOptions) (extras : List Top)
+    (opened : LiveState) (history : List Rec) (k : Keeping L) : Type 0 where
   pub writes : WritesHistory seen options extras opened history k.scribe
   pub counts : phase_of k.scribe ≡ phases.Going → CountsSo extras history k
 
 -- the second one stands for these extras and these records more, but for what declares an id again
 abbrev pub AddsRecords : {L : Type 0} → (L → LiveState) → Keeping L → Keeping L → List Top → List Rec → Type 0
-AddsRecords seen before after more records = (options : FileOptions) (extras : List Top) (opened : LiveState) (history : List Rec) → KeepingStandsFor seen options extras opened history before
+AddsRecords seen before after more records = (options : FileOptions) (extras : List Top) (opened : LiveState)
+    (history : List Rec) → KeepingStandsFor seen options extras opened history before
     → KeepingStandsFor seen options (extras ++ more) opened (fold kept_with history records) after
 
 -- the same of what these records of a file show
 abbrev pub AddsFlatRecords : {L : Type 0} → (L → LiveState) → Keeping L → Keeping L → List Top → Type 0
-AddsFlatRecords seen before after flat = (records : List Rec) → AllZip IsRec flat records → AddsRecords seen before after [] records
+AddsFlatRecords seen before after flat =
+    (records : List Rec) → AllZip IsRec flat records → AddsRecords seen before after [] records
 
 -- the same of what one record shows or is, of the top level or inside a chunk
 abbrev pub AddsOneRecord : {L : Type 0} → (L → LiveState) → Keeping L → Keeping L → Top → Type 0
-AddsOneRecord seen before after t = (records : List Rec) → AllZip IsRec (filter is_flat_kind (t ∷ [])) records → AddsRecords seen before after (filter is_extra (t ∷ [])) records
+AddsOneRecord seen before after t = (records : List Rec) → AllZip IsRec (filter is_flat_kind (t ∷ [])) records
+    → AddsRecords seen before after (filter is_extra (t ∷ [])) records
 
 -- ---- records that are given
 

@@ -49,12 +49,14 @@ RefusalTold scans.Memory result = result ≡ Err lacks
 
 abbrev pub HaltTold : Reader → Over → Result (ℕ × Why) RecoverRefused → Type 0
 HaltTold reader (overs.Ended at) result = result ≡ Ok (at, whys.Complete)
-HaltTold reader overs.Refused result = (why : ReadingRefused) → reader.stage ≡ stages.Stopped why → RefusalTold why result
+HaltTold reader overs.Refused result =
+    (why : ReadingRefused) → reader.stage ≡ stages.Stopped why → RefusalTold why result
 
 -- what an end of a reading says of the records before it
 abbrev pub OverSo : Reader → SourceState → SourceState → List Top → Over → Type 0
 OverSo reader before now tops (overs.Ended at) = HaltsSo before now tops (at_end at)
-OverSo reader before now tops overs.Refused = (why : ReadingRefused) × (reader.stage ≡ stages.Stopped why) × RefusalStands why before now tops
+OverSo reader before now tops overs.Refused =
+    (why : ReadingRefused) × (reader.stage ≡ stages.Stopped why) × RefusalStands why before now tops
 
 -- ---- what is kept of it
 
@@ -73,7 +75,8 @@ pub record RepairsGiven (given : List Placed) (profile : List ℕ) (extras : Lis
 
 -- These good records were read, with which the source's bytes begin where it tells them, and what repairing makes of those that
 -- were given was kept. The source and the store were in these states before.
-pub record Repairing {L : Type 0} (seen : L → LiveState) (options : FileOptions) (before now : SourceState) (opened : LiveState) (flat : FlatReader) (k : Keeping L) : Type 0 where
+pub record Repairing {L : Type 0} (seen : L → LiveState) (options : FileOptions) (before now : SourceState)
+    (opened : LiveState) (flat : FlatReader) (k : Keeping L) : Type 0 where
   pub tops : List Top
   pub given : List Placed
   pub stands : FlatStands flat before now tops given
@@ -87,7 +90,8 @@ pub record Repairing {L : Type 0} (seen : L → LiveState) (options : FileOption
   pub keeps : KeepingStandsFor seen options extras opened history k
 
 -- these good records were read, and what repairing makes of them was kept
-pub record KeptOf {L : Type 0} (seen : L → LiveState) (options : FileOptions) (before : SourceState) (opened : LiveState) (k : Keeping L) : Type 0 where
+pub record KeptOf {L : Type 0} (seen : L → LiveState) (options : FileOptions) (before : SourceState)
+    (opened : LiveState) (k : Keeping L) : Type 0 where
   pub tops : List Top
   pub good : Good reading_limits tops
   pub read : (bytes : List ℕ) → before.left ≡ Some bytes → Begins bytes tops
@@ -108,12 +112,14 @@ abbrev pub origin : FileOptions → SourceState → LiveState → Origin
 origin options before opened = record { options = options; before = before; opened = opened }
 
 -- the reading came to its end
-pub record ReadingCameToEnd {L : Type 0} (seen : L → LiveState) (from : Origin) (now : SourceState) (reader : Reader) (k : Keeping L) (over : Over) : Type 0 where
+pub record ReadingCameToEnd {L : Type 0} (seen : L → LiveState) (from : Origin) (now : SourceState) (reader : Reader)
+    (k : Keeping L) (over : Over) : Type 0 where
   pub kept : KeptOf seen from.options from.before from.opened k
   pub over_so : OverSo reader from.before now kept.tops over
 
 -- The writer stopped at what one of these records shows or holds. Of extras it was given those before.
-pub record IsStopped {L : Type 0} (seen : L → LiveState) (options : FileOptions) (before now : SourceState) (opened : LiveState) (k : Keeping L) (stop : Stop) : Type 0 where
+pub record IsStopped {L : Type 0} (seen : L → LiveState) (options : FileOptions) (before now : SourceState)
+    (opened : LiveState) (k : Keeping L) (stop : Stop) : Type 0 where
   pub tops : List Top
   pub good : Good reading_limits tops
   pub some : tops ≡ [] → ⊥
@@ -126,7 +132,8 @@ pub record IsStopped {L : Type 0} (seen : L → LiveState) (options : FileOption
   pub keeps : KeepingStandsFor seen options earlier opened history k
   pub stopped : phase_of k.scribe ≡ phases.Stopped stop
 
-abbrev pub ReadsOn : {L : Type 0} → (L → LiveState) → Origin → SourceState → FlatReader → Keeping L → Result Over Stop → Type 0
+abbrev pub ReadsOn : {L : Type 0} → (L → LiveState) → Origin → SourceState → FlatReader → Keeping L → Result Over Stop
+    → Type 0
 ReadsOn seen from now flat k (Ok over) = ReadingCameToEnd seen from now flat.reader k over
 ReadsOn seen from now flat k (Err stop) = IsStopped seen from.options from.before now from.opened k stop
 

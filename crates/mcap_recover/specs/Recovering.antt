@@ -60,7 +60,8 @@ pub record IsRecovered (chunk : ℕ) (before now : SourceState) (opened stored :
   pub history : List Rec
   pub repairs : Repairs tops profile extras history
   pub file : Adds opened.held stored.held (file_of (recovered_options profile chunk) extras history)
-  pub within : Holds (length (blocks_in (pieces_of (Some chunk) history))) (length (file_of (recovered_options profile chunk) extras history))
+  pub within : Holds (length (blocks_in (pieces_of (Some chunk) history))) (length
+      (file_of (recovered_options profile chunk) extras history))
   pub messages : r.messages ≡ length (filter is_message history)
   pub records : r.records ≡ length history
   pub extras_are : r.extras ≡ length extras
@@ -69,8 +70,9 @@ pub record IsRecovered (chunk : ℕ) (before now : SourceState) (opened stored :
 
 -- of each file that repairing makes of the source's bytes: this holds of its options, extras and history
 abbrev pub OfRepaired : ℕ → SourceState → (FileOptions → List Top → List Rec → Type 0) → Type 0
-OfRepaired chunk before holds = (bytes : List ℕ) → before.left ≡ Some bytes → (profile : List ℕ) (extras : List Top) (history : List Rec)
-    → Repaired bytes profile extras history → holds (recovered_options profile chunk) extras history
+OfRepaired chunk before holds = (bytes : List ℕ) → before.left ≡ Some bytes
+    → (profile : List ℕ) (extras : List Top) (history : List Rec) → Repaired bytes profile extras history
+    → holds (recovered_options profile chunk) extras history
 
 -- Of good records that were read, with which the source's bytes begin where it tells them: this holds of the options, extras and
 -- history of the file that repairing makes of these.
@@ -91,7 +93,8 @@ pub record OfBoth (chunk : ℕ) (before : SourceState) (holds : FileOptions → 
 
 -- behind what the store held stands a first part of the file
 abbrev pub StandsPart : LiveState → LiveState → FileOptions → List Top → List Rec → Type 0
-StandsPart opened stored options extras history = (start : List ℕ) → opened.held ≡ Some start → (text : List ℕ) × (stored.held ≡ Some (start ++ text)) × IsPrefix text (file_of options extras history)
+StandsPart opened stored options extras history = (start : List ℕ) → opened.held ≡ Some start
+    → (text : List ℕ) × (stored.held ≡ Some (start ++ text)) × IsPrefix text (file_of options extras history)
 
 -- the source doesn't begin with the magic
 abbrev pub LacksMagic : SourceState → Type 0
@@ -109,12 +112,14 @@ pub record FaultsStill (before now : SourceState) (opened stored : LiveState) : 
 -- The source failed, its count rose by one, and it is the one which is told; or memory lacked. Nothing else that halts a reading
 -- is a refusal. The store holds a first part of the file, and its count stands still.
 abbrev pub IsUnrecovered : ℕ → SourceState → SourceState → LiveState → LiveState → ReadingRefused → Type 0
-IsUnrecovered chunk before now opened stored (scans.Fault faults) = RisesOnce before.faults now.faults × (faults ≡ now.faults) × (stored.faults ≡ opened.faults) × ChangedBehindMagic before opened stored
+IsUnrecovered chunk before now opened stored (scans.Fault faults) = RisesOnce before.faults now.faults
+    × (faults ≡ now.faults) × (stored.faults ≡ opened.faults) × ChangedBehindMagic before opened stored
     × OfBoth chunk before (StandsPart opened stored)
 IsUnrecovered chunk before now opened stored (scans.Grammar offset rule) = ⊥
 IsUnrecovered chunk before now opened stored (scans.Compressed offset name) = ⊥
 IsUnrecovered chunk before now opened stored (scans.Limit offset) = ⊥
-IsUnrecovered chunk before now opened stored scans.Memory = FaultsStill before now opened stored × ChangedBehindMagic before opened stored × OfBoth chunk before (StandsPart opened stored)
+IsUnrecovered chunk before now opened stored scans.Memory = FaultsStill before now opened stored
+    × ChangedBehindMagic before opened stored × OfBoth chunk before (StandsPart opened stored)
 
 -- The writer stopped at a piece of the file: the count of the store rose by one where it failed, and is the one which is told, and
 -- stands still else. That of the source stands still.
@@ -123,10 +128,12 @@ pub record IsUnwritten (chunk : ℕ) (before now : SourceState) (opened stored :
   pub store : StopCause opened.faults stored.faults stop
   pub magic : HasMagic before
   pub written : Written
-  pub stops : OfBoth chunk before (λ options extras history. StopsAt options extras history opened.held stored.held stop written)
+  pub stops : OfBoth chunk before (λ options extras history. StopsAt options extras history opened.held stored.held stop
+      written)
 
 abbrev pub Recovers : ℕ → SourceState → SourceState → LiveState → LiveState → Result Recovered RecoverRefused → Type 0
 Recovers chunk before now opened stored (Ok r) = IsRecovered chunk before now opened stored r
-Recovers chunk before now opened stored (Err refusals.NoMagic) = LacksMagic before × FaultsStill before now opened stored × (stored ≡ opened)
+Recovers chunk before now opened stored (Err refusals.NoMagic) =
+    LacksMagic before × FaultsStill before now opened stored × (stored ≡ opened)
 Recovers chunk before now opened stored (Err (refusals.Refused why)) = IsUnrecovered chunk before now opened stored why
 Recovers chunk before now opened stored (Err (refusals.Stopped stop)) = IsUnwritten chunk before now opened stored stop

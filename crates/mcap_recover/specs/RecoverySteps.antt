@@ -19,7 +19,9 @@ use Rattle.mcap_recover.specs.declared.answers.RecoverRefused.TheVariants as ref
 
 -- the numbers that are answered
 abbrev pub AnswersSo : List Top → List Rec → ℕ → Why → Recovered → Type 0
-AnswersSo extras history at why r = (r.at ≡ at) × (r.why ≡ why) × (r.messages ≡ counted (length (filter is_message history))) × (r.records ≡ counted (length history)) × (r.extras ≡ counted (length extras))
+AnswersSo extras history at why r = (r.at ≡ at) × (r.why ≡ why)
+    × (r.messages ≡ counted (length (filter is_message history))) × (r.records ≡ counted (length history))
+    × (r.extras ≡ counted (length extras))
 
 -- what the new file is made of
 pub record Repair : Type 0 where
@@ -31,13 +33,19 @@ abbrev pub repair : FileOptions → List Top → List Rec → Repair
 repair options extras history = record { options = options; extras = extras; history = history }
 
 abbrev pub Finished : LiveState → Repair → LiveState → LiveState → ℕ → Why → Result Recovered RecoverRefused → Type 0
-Finished last new opened stored at why (Ok r) = Adds opened.held stored.held (file_of new.options new.extras new.history) × AnswersSo new.extras new.history at why r
-    × Holds (length (blocks_in (pieces_of new.options.chunk new.history))) (length (file_of new.options new.extras new.history)) × (stored.faults ≡ last.faults) × (stored.waiting ≡ 0)
+Finished last new opened stored at why (Ok r) = Adds opened.held stored.held (file_of new.options new.extras
+    new.history) × AnswersSo new.extras new.history at why r
+    × Holds (length (blocks_in (pieces_of new.options.chunk new.history))) (length
+    (file_of new.options new.extras new.history)) × (stored.faults ≡ last.faults) × (stored.waiting ≡ 0)
 Finished last new opened stored at why (Err refusals.NoMagic) = ⊥
 Finished last new opened stored at why (Err (refusals.Refused told)) = ⊥
-Finished last new opened stored at why (Err (refusals.Stopped stop)) = (written : Written) × StopsAt new.options new.extras new.history opened.held stored.held stop written × StopCause last.faults stored.faults stop
+Finished last new opened stored at why (Err (refusals.Stopped stop)) = (written : Written)
+    × StopsAt new.options new.extras new.history opened.held stored.held stop written
+    × StopCause last.faults stored.faults stop
 
 -- The new file was ended behind extras and a history for which the writer stands, and this is answered; or the writer stopped.
-abbrev pub FinishesFile : {L : Type 0} → (L → LiveState) → Keeping L → LiveState → ℕ → Why → Result Recovered RecoverRefused → Type 0
-FinishesFile seen k stored at why result = (options : FileOptions) (extras : List Top) (opened : LiveState) (history : List Rec) → KeepingStandsFor seen options extras opened history k
+abbrev pub FinishesFile : {L : Type 0} → (L → LiveState) → Keeping L → LiveState → ℕ → Why
+    → Result Recovered RecoverRefused → Type 0
+FinishesFile seen k stored at why result = (options : FileOptions) (extras : List Top) (opened : LiveState)
+    (history : List Rec) → KeepingStandsFor seen options extras opened history k
     → Finished (seen k.scribe.store) (repair options extras history) opened stored at why result

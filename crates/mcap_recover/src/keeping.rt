@@ -42,7 +42,8 @@ fn put<L: LiveStore>(k: &mut Keeping<L>, framed: &[u8]) -> Result<(), Stop>
     requires framed { (r : Rec) × AreFramed framed.now r }
     ensures grows { (r : Rec) → AreFramed framed.now r → ScribeGrows L.state k.old.scribe k.new.scribe (r ∷ []) }
     ensures counts { phase_of k.new.scribe ≡ phases.Going → k.new.records ≡ counted (k.old.records + 1) }
-    ensures same { (k.new.schemas ≡ k.old.schemas) × (k.new.channels ≡ k.old.channels) × (k.new.messages ≡ k.old.messages) × (k.new.extras ≡ k.old.extras) }
+    ensures same { (k.new.schemas ≡ k.old.schemas) × (k.new.channels ≡ k.old.channels)
+        × (k.new.messages ≡ k.old.messages) × (k.new.extras ≡ k.old.extras) }
     ensures goes_on { OnOk result (phase_of k.new.scribe ≡ phases.Going) }
     ensures stopped { IfErr result (λ stop. phase_of k.new.scribe ≡ phases.Stopped stop) }
     ensures cause { Cause (L.state (store_of k.old.scribe)).faults (L.state (store_of k.new.scribe)).faults result }
@@ -154,7 +155,8 @@ fn keep_extra<L: LiveStore>(k: &mut Keeping<L>, op: u8, content: &[u8]) -> Resul
     requires meets { IsExtra (top op content.now) }
     ensures gathers { GathersExtra L.state k.old.scribe k.new.scribe (top op content.now) }
     ensures counts { phase_of k.new.scribe ≡ phases.Going → k.new.extras ≡ counted (k.old.extras + 1) }
-    ensures same { (k.new.schemas ≡ k.old.schemas) × (k.new.channels ≡ k.old.channels) × (k.new.messages ≡ k.old.messages) × (k.new.records ≡ k.old.records) }
+    ensures same { (k.new.schemas ≡ k.old.schemas) × (k.new.channels ≡ k.old.channels)
+        × (k.new.messages ≡ k.old.messages) × (k.new.records ≡ k.old.records) }
     ensures goes_on { OnOk result (phase_of k.new.scribe ≡ phases.Going) }
     ensures stopped { IfErr result (λ stop. phase_of k.new.scribe ≡ phases.Stopped stop) }
     ensures cause { Cause (L.state (store_of k.old.scribe)).faults (L.state (store_of k.new.scribe)).faults result }

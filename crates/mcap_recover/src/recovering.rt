@@ -84,8 +84,10 @@ fn read_on<S: Source, L: LiveStore>(
     k: &mut Keeping<L>,
 ) -> Result<Over, Stop>
     requires going { phase_of k.old.scribe ≡ phases.Going }
-    requires some { (options : Options) × (before : SourceState) × (opened : LiveState) × Repairing L.state options before (S.state source.old) opened reader.old k.old }
-    ensures reads { (options : Options) (before : SourceState) (opened : LiveState) → Repairing L.state options before (S.state source.old) opened reader.old k.old
+    requires some { (options : Options) × (before : SourceState) × (opened : LiveState)
+        × Repairing L.state options before (S.state source.old) opened reader.old k.old }
+    ensures reads { (options : Options) (before : SourceState) (opened : LiveState)
+        → Repairing L.state options before (S.state source.old) opened reader.old k.old
         → ReadsOn L.state (origin options before opened) (S.state source.new) reader.new k.new result }
     ensures goes_on { OnOk result (phase_of k.new.scribe ≡ phases.Going) }
     ensures cause { Cause (L.state (store_of k.old.scribe)).faults (L.state (store_of k.new.scribe)).faults result }
@@ -117,7 +119,8 @@ fn profile_in(alloc: Global, content: &[u8]) -> Result<Text, Memory>
 
 // The profile of the new file: that of the Header, or an empty one; or why there is no new file.
 fn profile_of(alloc: Global, reader: &FlatReader, first: FlatStep) -> Result<Text, RecoverRefused>
-    ensures { (before now : SourceState) → FlatAdvanced reader.now before now [] [] first → BeginsReading before now reader.now result }
+    ensures { (before now : SourceState) → FlatAdvanced reader.now before now [] [] first
+        → BeginsReading before now reader.now result }
 {
     match first {
         FlatStep::Record { .. } => match profile_in(alloc, reader.content()) {
@@ -223,7 +226,8 @@ pub fn recover<S: Source, L: LiveStore>(
 ) -> (L, Result<Recovered, RecoverRefused>)
     requires some { 1 ≤ chunk }
     requires within { chunk ≤ chunk_size_limit }
-    ensures recovers { Recovers chunk (S.state source.old) (S.state source.new) (L.state store) (L.state result.0) result.1 }
+    ensures recovers { Recovers chunk (S.state source.old) (S.state source.new) (L.state store) (L.state result.0)
+        result.1 }
     ensures stays { S.stays source.old source.new }
 {
     let mut reader = match FlatReader::new(alloc) {

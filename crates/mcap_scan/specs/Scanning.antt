@@ -127,12 +127,15 @@ IsOver (stages.Stopped why) = Unit {0}
 abbrev pub RefusedAt : ℕ → Judged → Option ReadingRefused → Type 0
 RefusedAt at judged.Fits why = why ≡ None
 RefusedAt at (judged.Breaks rule) why = why ≡ Some (refusals.Grammar at rule)
-RefusedAt at (judged.Compressed name) why = (why ≡ Some (refusals.Compressed at name.now)) ⊎ (why ≡ Some refusals.Memory)
+RefusedAt at (judged.Compressed name) why =
+    (why ≡ Some (refusals.Compressed at name.now)) ⊎ (why ≡ Some refusals.Memory)
 RefusedAt at judged.Memory why = why ≡ Some refusals.Memory
 
 -- What a record that was taken at that offset, or its refusal, makes of the offset and the stage.
 abbrev pub Given : ℕ → ℕ → ℕ → Stage → ℕ → Option ReadingRefused → Step → Type 0
-Given at len offset stage op None step = (step ≡ steps.Record op at) × (offset ≡ min (min (at + 9) (2 ^ 64 - 1) + len) (2 ^ 64 - 1)) × (stage ≡ (if op == data_end_opcode then stages.Ended else stages.Inside))
+Given at len offset stage op None step = (step ≡ steps.Record op at)
+    × (offset ≡ min (min (at + 9) (2 ^ 64 - 1) + len) (2 ^ 64 - 1))
+    × (stage ≡ (if op == data_end_opcode then stages.Ended else stages.Inside))
 Given at len offset stage op (Some why) step = (step ≡ steps.Refused) × (stage ≡ stages.Stopped why)
 
 -- the refusal that a reader keeps

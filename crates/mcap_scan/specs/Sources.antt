@@ -9,7 +9,8 @@ use Rattle.mcap_model.specs.declared.rules.Rule.TheVariants as rules
 
 -- where the bytes before are told, these records were taken from their front, and the rest is left
 abbrev pub ReadFromFront : SourceState → SourceState → List Top → Type 0
-ReadFromFront before now tops = (bytes : List ℕ) → before.left ≡ Some bytes → (rest : List ℕ) × (now.left ≡ Some rest) × Tops bytes tops rest
+ReadFromFront before now tops =
+    (bytes : List ℕ) → before.left ≡ Some bytes → (rest : List ℕ) × (now.left ≡ Some rest) × Tops bytes tops rest
 
 -- ---- where a reading halts
 
@@ -56,8 +57,10 @@ LacksBehind tops rest left = (is_whole rest ≡ true) × (left ≡ Some (behind_
 
 -- Nothing of the rest was read; or of a record that is due the head and a first part of the content, or all of it.
 abbrev pub LacksAt : List Top → List ℕ → Option (List ℕ) → Type 0
-LacksAt tops rest left = (left ≡ Some rest) ⊎ (IsDue reading_limits tops rest × (ReadWithin rest left ⊎ LacksBehind tops rest left))
+LacksAt tops rest left =
+    (left ≡ Some rest) ⊎ (IsDue reading_limits tops rest × (ReadWithin rest left ⊎ LacksBehind tops rest left))
 
 -- what is left where memory lacked behind these records, or already for the magic
 abbrev pub MemoryLeaves : List ℕ → List Top → Option (List ℕ) → Type 0
-MemoryLeaves bytes tops left = ((tops ≡ []) × (left ≡ Some bytes)) ⊎ ((rest : List ℕ) × Tops bytes tops rest × LacksAt tops rest left)
+MemoryLeaves bytes tops left =
+    ((tops ≡ []) × (left ≡ Some bytes)) ⊎ ((rest : List ℕ) × Tops bytes tops rest × LacksAt tops rest left)

@@ -33,7 +33,8 @@ TakingCause before now (Err why) = RefusalCause before now why
 
 abbrev pub MagicRefused : List ℕ → Option (List ℕ) → ReadingRefused → Type 0
 MagicRefused bytes left (refusals.Fault faults) = (n : ℕ) × (left ≡ Some (drop n bytes)) × (length (take n bytes) < 8)
-MagicRefused bytes left (refusals.Grammar offset rule) = (offset ≡ 0) × (rule ≡ rules.V1) × (V1 bytes → ⊥) × (left ≡ Some (drop 8 bytes))
+MagicRefused bytes left (refusals.Grammar offset rule) =
+    (offset ≡ 0) × (rule ≡ rules.V1) × (V1 bytes → ⊥) × (left ≡ Some (drop 8 bytes))
 MagicRefused bytes left (refusals.Compressed offset name) = ⊥
 MagicRefused bytes left (refusals.Limit offset) = ⊥
 MagicRefused bytes left refusals.Memory = left ≡ Some bytes
@@ -66,10 +67,13 @@ DueAny rest at = (tops : List Top) → at ≡ offset_behind tops → IsDue readi
 
 -- why no record could be taken from the front of what was left, at that offset
 abbrev pub RecordRefused : List ℕ → ℕ → Option (List ℕ) → ReadingRefused → Type 0
-RecordRefused rest at left (refusals.Fault faults) = (n : ℕ) × (left ≡ Some (drop n rest)) × HaltsAny (take n rest) at (grammar at rules.V4)
-RecordRefused rest at left (refusals.Grammar offset rule) = HaltsAny rest at (grammar offset rule) × (left ≡ Some (unread_behind rest (grammar offset rule)))
+RecordRefused rest at left (refusals.Fault faults) =
+    (n : ℕ) × (left ≡ Some (drop n rest)) × HaltsAny (take n rest) at (grammar at rules.V4)
+RecordRefused rest at left (refusals.Grammar offset rule) =
+    HaltsAny rest at (grammar offset rule) × (left ≡ Some (unread_behind rest (grammar offset rule)))
 RecordRefused rest at left (refusals.Compressed offset name) = ⊥
-RecordRefused rest at left (refusals.Limit offset) = HaltsAny rest at (beyond offset) × (left ≡ Some (unread_behind rest (beyond offset)))
+RecordRefused rest at left (refusals.Limit offset) =
+    HaltsAny rest at (beyond offset) × (left ≡ Some (unread_behind rest (beyond offset)))
 RecordRefused rest at left refusals.Memory = (left ≡ Some rest) ⊎ (DueAny rest at × ReadWithin rest left)
 
 abbrev pub HeadTaken : List ℕ → ℕ → Option (List ℕ) → Result Head ReadingRefused → Type 0

@@ -171,7 +171,8 @@ impl Reader {
     // Gives the record that was read and judged, or refuses it.
     #[inline(always)]
     fn give(&mut self, op: u8, refused: Option<ReadingRefused>) -> Step
-        ensures given { Given self.old.offset (length (held_in self.old.room)) self.new.offset self.new.stage op refused result }
+        ensures given { Given self.old.offset (length (held_in self.old.room)) self.new.offset self.new.stage op refused
+            result }
         ensures room { self.new.room ≡ self.old.room }
         ensures tables { self.new.tables ≡ self.old.tables }
     {
@@ -194,7 +195,8 @@ impl Reader {
     #[inline(never)]
     fn begin<S: Source>(&mut self, source: &mut S) -> Step
         ensures moves { Moves self.old.offset self.new.offset result }
-        ensures steps { (before : SourceState) (tops : List Top) → IsFresh self.old.tables self.old.offset before (S.state source.old) tops
+        ensures steps { (before : SourceState) (tops : List Top)
+            → IsFresh self.old.tables self.old.offset before (S.state source.old) tops
             → Advanced self.new before (S.state source.new) tops result }
         ensures stays { S.stays source.old source.new }
     {
@@ -215,7 +217,8 @@ impl Reader {
     // Reads the next record behind the Header.
     fn go_on<S: Source>(&mut self, source: &mut S) -> Step
         ensures moves { Moves self.old.offset self.new.offset result }
-        ensures steps { (before : SourceState) (tops : List Top) → IsInside self.old.tables self.old.offset before (S.state source.old) tops
+        ensures steps { (before : SourceState) (tops : List Top)
+            → IsInside self.old.tables self.old.offset before (S.state source.old) tops
             → Advanced self.new before (S.state source.new) tops result }
         ensures stays { S.stays source.old source.new }
     {

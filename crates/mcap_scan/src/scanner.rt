@@ -96,7 +96,8 @@ impl<S: Source> Scanner<S> {
     /// Reads the next record into the scanner's own room: `content` lends it, and no memory is taken for a copy. After the
     /// Data End or a refusal nothing more is read, and each later call gives the same answer.
     pub fn advance(&mut self) -> Step
-        ensures steps { (before : SourceState) (tops : List Record) → Scans S.state self.old before tops → Steps S.state self.new before tops result }
+        ensures steps { (before : SourceState) (tops : List Record) → Scans S.state self.old before tops
+            → Steps S.state self.new before tops result }
         ensures moves { Moves (scanned_offset self.old) (scanned_offset self.new) result }
         ensures over { IsScanOver self.old → (self.new ≡ self.old) × IsLast result }
         ensures stays { S.stays (source_of self.old) (source_of self.new) }

@@ -9,7 +9,8 @@ use Rattle.mcap_wire.specs.Arrays.{EntryFits, entry_texts}
 -- the first entries, of which each begins with a number of n bytes
 unfoldable pub entries_in : ℕ → ℕ → List ℕ → List (ℕ × ℕ)
 entries_in n zero bytes = []
-entries_in n (suc count) bytes = (number (take n bytes), number (take 8 (drop n bytes))) ∷ entries_in n count (drop (n + 8) bytes)
+entries_in n (suc count) bytes =
+    (number (take n bytes), number (take 8 (drop n bytes))) ∷ entries_in n count (drop (n + 8) bytes)
 
 -- these bytes are an array of so many entries
 pub record HoldsArray (n : ℕ) (bytes : List ℕ) (count : ℕ) : Type 0 where

@@ -19,7 +19,8 @@ pub record ArrayAt (n : ℕ) (content : List ℕ) (at : ℕ) (entries : List (�
 abbrev pub EntriesFail : List ℕ → ℕ → Why → Type 0
 EntriesFail content at Short = TextIsShort content at
 EntriesFail content at BadText = ⊥
-EntriesFail content at BadLength = (at + 4 + text_length content at ≤ length content) × (text_length content at % 16 ≢ 0)
+EntriesFail content at BadLength =
+    (at + 4 + text_length content at ≤ length content) × (text_length content at % 16 ≢ 0)
 EntriesFail content at DoubleKey = ⊥
 
 abbrev pub ReadsEntries : List ℕ → ℕ → Result (List (ℕ × ℕ) × ℕ) Why → Type 0

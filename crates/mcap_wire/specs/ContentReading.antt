@@ -39,8 +39,8 @@ Fails kinds content field why = FailsFrom kinds content 0 1 field why
 -- what holds of each row: a row that is written is shown, a content shows one, shows none where it is refused, and is refused in one way
 pub record RowReadsBack (kinds : List Kind) : Type 0 where
   pub shown : (values : Values kinds) → AllFit kinds values → ShowsRow kinds (row kinds values []) values
-  pub decided : (content : List ℕ) (values others : Values kinds) → ShowsRow kinds content values → ShowsRow kinds content others
-      → values ≡ others
+  pub decided : (content : List ℕ) (values others : Values kinds) → ShowsRow kinds content values
+      → ShowsRow kinds content others → values ≡ others
   pub refused : (content : List ℕ) (field : ℕ) (why : Why) (values : Values kinds) → Fails kinds content field why
       → ShowsRow kinds content values → ⊥
   pub one_fault : (content : List ℕ) (field other_field : ℕ) (why other_why : Why) → Fails kinds content field why

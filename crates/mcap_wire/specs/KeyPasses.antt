@@ -70,7 +70,8 @@ pub record IsBeyond (bytes : List ℕ) (w : Window) (key : List ℕ) : Type 0 wh
   pub above : All (λ p. IsBelow (text_bytes bytes p) key) (kept_places w)
 
 -- a window has the smallest of the keys of these pairs that are above a bound, each of which one of them has
-pub record Sifts (bytes : List ℕ) (bound : Option (Bor (List ℕ))) (seen : List (List ℕ × List ℕ)) (w : Window) : Type 0 where
+pub record Sifts (bytes : List ℕ) (bound : Option (Bor (List ℕ))) (seen : List (List ℕ × List ℕ)) (w : Window)
+    : Type 0 where
   pub seen_before : All (λ p. HasKey seen (text_bytes bytes p)) (kept_places w)
   pub above_bound : All (λ p. is_above bound (text_bytes bytes p) ≡ true) (kept_places w)
   pub smallest : All (λ s. is_above bound s.0 ≡ true → IsHeld bytes w s.0 ⊎ IsBeyond bytes w s.0) seen
@@ -89,4 +90,5 @@ OnceUpTo bound pairs = AllPairs (λ p q. is_above bound p.0 ≡ false → p.0 �
 abbrev pub PassShows : List (List ℕ × List ℕ) → Option (Bor (List ℕ)) → Pass → Type 0
 PassShows pairs bound Double = KeyTwice pairs
 PassShows pairs bound Last = AllPairs (λ p q. is_above bound p.0 ≡ true → p.0 ≢ q.0) pairs
-PassShows pairs bound (Up top) = OnceBetween bound (Some top) pairs × HasKey pairs top.now × (is_above bound top.now ≡ true)
+PassShows pairs bound (Up top) =
+    OnceBetween bound (Some top) pairs × HasKey pairs top.now × (is_above bound top.now ≡ true)

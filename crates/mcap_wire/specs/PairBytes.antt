@@ -19,7 +19,8 @@ behind_text bytes = drop (4 + text_length bytes 0) bytes
 -- the first n pairs
 unfoldable pub pairs_in : ℕ → List ℕ → List (List ℕ × List ℕ)
 pairs_in zero bytes = []
-pairs_in (suc n) bytes = (text_bytes bytes 0, text_bytes (behind_text bytes) 0) ∷ pairs_in n (behind_text (behind_text bytes))
+pairs_in (suc n) bytes =
+    (text_bytes bytes 0, text_bytes (behind_text bytes) 0) ∷ pairs_in n (behind_text (behind_text bytes))
 
 -- these bytes are n pairs, whose keys may be equal
 pub record SpellsPairs (bytes : List ℕ) (n : ℕ) : Type 0 where
@@ -45,7 +46,8 @@ IsFirstFault pairs why first = ((first ≡ DoubleKey) × KeyTwice pairs) ⊎ ((f
 
 -- the same where a key was read behind them
 abbrev pub IsFirstFaultBehind : List (List ℕ × List ℕ) → List ℕ → Why → Why → Type 0
-IsFirstFaultBehind pairs key why first = ((first ≡ DoubleKey) × KeyTwice pairs) ⊎ (KeysDiffer pairs × (((first ≡ DoubleKey) × HasKey pairs key) ⊎ ((first ≡ why) × LacksKey pairs key)))
+IsFirstFaultBehind pairs key why first = ((first ≡ DoubleKey) × KeyTwice pairs)
+    ⊎ (KeysDiffer pairs × (((first ≡ DoubleKey) × HasKey pairs key) ⊎ ((first ≡ why) × LacksKey pairs key)))
 
 -- where a key stands behind these pairs
 abbrev pub IsPlaceOf : List (List ℕ × List ℕ) → List ℕ → Place → Type 0

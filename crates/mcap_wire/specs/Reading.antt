@@ -124,7 +124,8 @@ abbrev pub CutFails : List ℕ → ℕ → CutFault → Type 0
 CutFails bytes at cut_faults.Short = HeadIsShort bytes at
     ⊎ (HasOpcodeAt bytes at × (content_length bytes at ≤ content_limit) × (length bytes < at + 9 + content_length bytes at))
 CutFails bytes at cut_faults.ZeroOp = HasZeroOpcode bytes at
-CutFails bytes at (cut_faults.TooLong len) = HasOpcodeAt bytes at × (len ≡ content_length bytes at) × (content_limit < len)
+CutFails bytes at (cut_faults.TooLong len) =
+    HasOpcodeAt bytes at × (len ≡ content_length bytes at) × (content_limit < len)
 
 -- a whole record with a valid opcode and a content within the limit
 pub record IsCut (bytes : List ℕ) (at : ℕ) (c : Cut) : Type 0 where

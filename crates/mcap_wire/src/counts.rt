@@ -147,7 +147,8 @@ fn add_list(out: &mut Vec<u8>, list: &[(u16, u64)])
 fn is_new(bytes: &[u8], count: usize, bound: u32, key: u16) -> bool
     requires counts { HoldsArray 2 bytes.now count }
     requires order { All (λ p. p.0 < bound) (entries_in 2 count bytes.now) }
-    ensures { MatchBool result (LacksKey (entries_in 2 count bytes.now) key) (HasKey (entries_in 2 count bytes.now) key) }
+    ensures { MatchBool result (LacksKey (entries_in 2 count bytes.now) key) (HasKey (entries_in 2 count bytes.now)
+        key) }
 {
     if key as u32 >= bound {
         return true;

@@ -90,8 +90,11 @@ fn offer(bytes: &[u8], window: &mut Window, bound: Option<&[u8]>, at: usize, key
     requires key { key.now ≡ text_bytes bytes.now at }
     requires window { IsWindow bytes.now window.old }
     ensures window { result ≡ true → IsWindow bytes.now window.new }
-    ensures sifts { result ≡ true → (seen : List (List ℕ × List ℕ)) → (value : List ℕ) → Sifts bytes.now bound.entry seen window.old → Sifts bytes.now bound.entry (seen ++ (key.now, value) ∷ []) window.new }
-    ensures double { result ≡ false → (seen : List (List ℕ × List ℕ)) → Sifts bytes.now bound.entry seen window.old → HasKey seen key.now }
+    ensures sifts { result ≡ true → (seen : List (List ℕ × List ℕ)) → (value : List ℕ)
+        → Sifts bytes.now bound.entry seen window.old
+        → Sifts bytes.now bound.entry (seen ++ (key.now, value) ∷ []) window.new }
+    ensures double { result ≡ false → (seen : List (List ℕ × List ℕ)) → Sifts bytes.now bound.entry seen window.old
+        → HasKey seen key.now }
 {
     if !above(key, bound) {
         return true;

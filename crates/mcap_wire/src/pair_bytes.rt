@@ -35,7 +35,8 @@ pub(crate) fn bytes_there(bytes: &[u8], at: usize) -> (&[u8], usize)
 // Whether one of the pairs has this key. No text is checked again.
 fn has_key(bytes: &[u8], count: usize, key: &[u8]) -> bool
     requires { HoldsMap bytes.now count }
-    ensures { MatchBool result (HasKey (pairs_in count bytes.now) key.now) (LacksKey (pairs_in count bytes.now) key.now) }
+    ensures { MatchBool result (HasKey (pairs_in count bytes.now) key.now) (LacksKey (pairs_in count bytes.now)
+        key.now) }
 {
     let mut at = 0;
     for i in 0..count {

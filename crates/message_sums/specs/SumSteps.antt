@@ -25,7 +25,8 @@ with_messages sums messages = fold with_message sums (fields_seen messages)
 
 -- of the records at these places the messages are added
 abbrev pub AddsToSums : List Placed → Sums → Sums → Type 0
-AddsToSums ps old new = (records : List Top) (messages : List Seen) → AllZip (IsSeen records) (filter (λ p. is_message_top p.top) ps) messages → new ≡ with_messages old messages
+AddsToSums ps old new = (records : List Top) (messages : List Seen)
+    → AllZip (IsSeen records) (filter (λ p. is_message_top p.top) ps) messages → new ≡ with_messages old messages
 
 -- all messages were summed up, or the reading was refused behind some records, for that reason
 abbrev pub SumsUp : SourceState → SourceState → Result Sums ReadingRefused → Type 0

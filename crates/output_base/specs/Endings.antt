@@ -27,7 +27,8 @@ halts_at (suc n) trouble = [] ∷ halts_at n trouble
 
 -- the input of that number can't be read, for that trouble
 abbrev pub halted : ℕ → Trouble → WritingEnding
-halted n trouble = record { text = []; halts = halts_at n trouble; passes_limit = false; lacks_memory = false; fails = false }
+halted n trouble =
+    record { text = []; halts = halts_at n trouble; passes_limit = false; lacks_memory = false; fails = false }
 
 -- the output would pass a limit
 abbrev pub limited : WritingEnding
@@ -54,7 +55,8 @@ limits_of passes outputs = if passes then map output_limit outputs else []
 
 -- what there is to tell of an ending besides faults
 abbrev pub writing_findings : Files → WritingEnding → Findings
-writing_findings files ending = record { halts = ending.halts; limits = limits_of ending.passes_limit files.outputs; lacked = ending.lacks_memory }
+writing_findings files ending =
+    record { halts = ending.halts; limits = limits_of ending.passes_limit files.outputs; lacked = ending.lacks_memory }
 
 -- ---- the status
 
@@ -63,7 +65,8 @@ abbrev pub status_besides : WritingEnding → Status
 status_besides ending = if ending.passes_limit then statuses.Limit else status_of (all_halts ending.halts)
 
 abbrev pub writing_status : WritingEnding → Status
-writing_status ending = if ending.lacks_memory then statuses.Memory else (if ending.fails then statuses.Fault else status_besides ending)
+writing_status ending =
+    if ending.lacks_memory then statuses.Memory else (if ending.fails then statuses.Fault else status_besides ending)
 
 -- all was written: no input halts, no limit is passed, no memory lacked, and nothing failed
 pub record IsWritingDone (ending : WritingEnding) : Type 0 where

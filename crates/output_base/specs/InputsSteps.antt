@@ -32,10 +32,12 @@ TellsOn old new = (told : Told) → old.told ≡ Some told → (now : Told) × (
 
 -- what was seen in a world was to be seen before the openings that led to it
 abbrev pub SeenBefore : {X : Type 0} → (WorldState → List ℕ → X → Type 0) → Type 0
-SeenBefore {X} Seen = (old new : WorldState) (name : List ℕ) (object : X) → TellsOn old new → Seen new name object → Seen old name object
+SeenBefore {X} Seen =
+    (old new : WorldState) (name : List ℕ) (object : X) → TellsOn old new → Seen new name object → Seen old name object
 
 -- so it is of sources and of stores
-pub source_before : (old new : WorldState) (name : List ℕ) (source : SourceState) → TellsOn old new → SourceSeen new name source → SourceSeen old name source
+pub source_before : (old new : WorldState) (name : List ℕ) (source : SourceState) → TellsOn old new
+    → SourceSeen new name source → SourceSeen old name source
 source_before old new name source on seen = record {
   tells = λ told here.
       let now = on told here in
@@ -44,7 +46,8 @@ source_before old new name source on seen = record {
   unused = seen.unused;
 }
 
-pub store_before : (old new : WorldState) (name : List ℕ) (store : StoreState) → TellsOn old new → StoreSeen new name store → StoreSeen old name store
+pub store_before : (old new : WorldState) (name : List ℕ) (store : StoreState) → TellsOn old new
+    → StoreSeen new name store → StoreSeen old name store
 store_before old new name store on seen = record {
   tells = λ told here.
       let now = on told here in
@@ -63,14 +66,16 @@ abbrev pub with_openings : Told → List Opening → Told
 with_openings told entries = record { names = told.names; log = told.log ++ entries }
 
 -- All were given, in their order, and this is seen of their objects.
-pub record InputsOpened {X : Type 0} (kind : ObjectKind) (Seen : WorldState → List ℕ → X → Type 0) (old new : WorldState) (inputs : List (List ℕ)) (objects : List X) : Type 0 where
+pub record InputsOpened {X : Type 0} (kind : ObjectKind) (Seen : WorldState → List ℕ → X → Type 0)
+    (old new : WorldState) (inputs : List (List ℕ)) (objects : List X) : Type 0 where
   pub told : (told : Told) → old.told ≡ Some told → new.told ≡ Some (with_openings told (map (input_given kind) inputs))
   pub stands : CountsStand old new
   pub still : new.faults ≡ old.faults
   pub seen : AllZip (Seen old) inputs objects
 
 -- The first of them were given, and then one was refused.
-pub record InputOpeningRefused {X : Type 0} (kind : ObjectKind) (Seen : WorldState → List ℕ → X → Type 0) (old new : WorldState) (inputs : List (List ℕ)) (objects : List X) (why : OutsideRefused) : Type 0 where
+pub record InputOpeningRefused {X : Type 0} (kind : ObjectKind) (Seen : WorldState → List ℕ → X → Type 0)
+    (old new : WorldState) (inputs : List (List ℕ)) (objects : List X) (why : OutsideRefused) : Type 0 where
   pub between : WorldState
   pub first : InputsOpened kind Seen old between (take (length objects) inputs) objects
   pub name : List ℕ
@@ -82,7 +87,8 @@ pub record InputOpeningRefused {X : Type 0} (kind : ObjectKind) (Seen : WorldSta
 -- ---- keepings
 
 -- An object was taken back under an input's name; that went well, or not, and the input failed, or not.
-pub record OneKept {X : Type 0} (kind : ObjectKind) (keeping : X → Bool → Keeping) (old new : WorldState) (input : List ℕ) (object : X) (failed : Bool) : Type 0 where
+pub record OneKept {X : Type 0} (kind : ObjectKind) (keeping : X → Bool → Keeping) (old new : WorldState)
+    (input : List ℕ) (object : X) (failed : Bool) : Type 0 where
   pub well : Bool
   pub keeps : (told : Told) → old.told ≡ Some told → (now : Told) × (new.told ≡ Some now) × (now.names ≡ told.names)
       × Notes told.log now.log kind input (keeping object well)
@@ -98,14 +104,18 @@ NoneOut kind entries = (name : List ℕ) → NoneIsOut kind name entries
 
 -- The objects were taken back, each under its input's name: where the openings of these inputs were the last of their kind, their
 -- entries say how. These failed.
-pub record InputsKept {X : Type 0} (kind : ObjectKind) (keeping : X → Bool → Keeping) (old new : WorldState) (names : List (List ℕ)) (objects : List X) (failed : List Bool) : Type 0 where
+pub record InputsKept {X : Type 0} (kind : ObjectKind) (keeping : X → Bool → Keeping) (old new : WorldState)
+    (names : List (List ℕ)) (objects : List X) (failed : List Bool) : Type 0 where
   pub kept : List (InputKept X)
   pub names_are : names ≡ names_kept kept
   pub backs_are : objects ≡ backs_of kept
-  pub told : (told : Told) (log behind : List Opening) → old.told ≡ Some told → told.log ≡ log ++ (map (input_given kind) names ++ behind) → NoneOut kind behind
-      → (now : Told) × (new.told ≡ Some now) × (now.names ≡ told.names) × (now.log ≡ log ++ (map (input_entry kind keeping) kept ++ behind))
+  pub told : (told : Told) (log behind : List Opening) → old.told ≡ Some told
+      → told.log ≡ log ++ (map (input_given kind) names ++ behind) → NoneOut kind behind
+      → (now : Told) × (new.told ≡ Some now) × (now.names ≡ told.names)
+      × (now.log ≡ log ++ (map (input_entry kind keeping) kept ++ behind))
   pub world : old.faults < 2 ^ 64 → new.faults ≡ added old.faults (world_faults (map (input_entry kind keeping) kept))
-  pub inputs : old.input_faults < 2 ^ 64 → new.input_faults ≡ added old.input_faults (input_faults (map (input_entry kind keeping) kept))
+  pub inputs : old.input_faults < 2 ^ 64
+      → new.input_faults ≡ added old.input_faults (input_faults (map (input_entry kind keeping) kept))
   pub outputs : new.output_faults ≡ old.output_faults
   pub watches : new.watch_faults ≡ old.watch_faults
   pub failed_are : failed ≡ map (λ (k : InputKept X). has_failed (input_entry kind keeping k)) kept

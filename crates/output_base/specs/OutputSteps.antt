@@ -27,7 +27,8 @@ InputsAreFew inputs = (1 ≤ length inputs) × (length inputs ≤ input_limit)
 -- ---- the names
 
 -- what became of all names: each was opened and taken back, or not, and failed or not
-pub record NamesKept (files : Files) (old new : WorldState) (entries : List Opening) (inputs_failed : List Bool) (out_failed : Bool) : Type 0 where
+pub record NamesKept (files : Files) (old new : WorldState) (entries : List Opening) (inputs_failed : List Bool)
+    (out_failed : Bool) : Type 0 where
   pub opened : AreOpened (wanted files) entries
   pub leaves : Leaves old new entries
   pub counts : CountsKept old new entries
@@ -35,12 +36,15 @@ pub record NamesKept (files : Files) (old new : WorldState) (entries : List Open
   pub few : length inputs_failed ≤ length files.inputs
   pub names_are : failed_names entries ≡ blamed_names files (failed_of inputs_failed out_failed)
   -- each failure shows in a count
-  pub input_cause : some_failed inputs_failed ≡ true → Rose old.faults new.faults ⊎ Rose old.input_faults new.input_faults
+  pub input_cause : some_failed inputs_failed ≡ true
+      → Rose old.faults new.faults ⊎ Rose old.input_faults new.input_faults
   pub out_cause : out_failed ≡ true → Rose old.faults new.faults ⊎ Rose old.output_faults new.output_faults
   -- and each count that rose is one of theirs
-  pub inputs_told : old.input_faults < 2 ^ 64 - 1 → Rose old.input_faults new.input_faults → some_failed inputs_failed ≡ true
+  pub inputs_told : old.input_faults < 2 ^ 64 - 1 → Rose old.input_faults new.input_faults
+      → some_failed inputs_failed ≡ true
   pub outputs_told : old.output_faults < 2 ^ 64 - 1 → Rose old.output_faults new.output_faults → out_failed ≡ true
-  pub world_told : old.faults < 2 ^ 64 - 1 → Rose old.faults new.faults → (some_failed inputs_failed ≡ true) ⊎ (out_failed ≡ true)
+  pub world_told : old.faults < 2 ^ 64 - 1 → Rose old.faults new.faults
+      → (some_failed inputs_failed ≡ true) ⊎ (out_failed ≡ true)
 
 -- ---- faults
 
@@ -55,10 +59,12 @@ flags_of inputs failed = if failed.every_input then map (λ (input : List ℕ). 
 
 -- some part failed
 abbrev pub PartFailed : FailedParts → Type 0
-PartFailed failed = (failed.every_input ≡ true) ⊎ ((some_failed failed.inputs.now ≡ true) ⊎ ((failed.out ≡ true) ⊎ (failed.printing ≡ true)))
+PartFailed failed = (failed.every_input ≡ true)
+    ⊎ ((some_failed failed.inputs.now ≡ true) ⊎ ((failed.out ≡ true) ⊎ (failed.printing ≡ true)))
 
 -- Which parts failed, where a command told that its names failed so.
-pub record PartsShow (before now : Counts) (inputs : List (List ℕ)) (inputs_failed : List Bool) (out_failed : Bool) (failed : FailedParts) : Type 0 where
+pub record PartsShow (before now : Counts) (inputs : List (List ℕ)) (inputs_failed : List Bool) (out_failed : Bool)
+    (failed : FailedParts) : Type 0 where
   pub causes : Causes before now (flags_of inputs failed) failed.out
   pub printing : (failed.printing ≡ true) ↔ Rose before.printing now.printing
   pub any : (AnyRose before now) ↔ PartFailed failed
@@ -66,22 +72,30 @@ pub record PartsShow (before now : Counts) (inputs : List (List ℕ)) (inputs_fa
   pub out_told : out_failed ≡ true → failed.out ≡ true
   pub told : failed.inputs.now ≡ inputs_failed
   -- nothing else is blamed where each count that rose shows in what was told
-  pub inputs_are : (Rose before.inputs now.inputs → some_failed inputs_failed ≡ true) → flags_of inputs failed ≡ inputs_failed
-  pub out_is : (Rose before.outputs now.outputs → out_failed ≡ true) → (Rose before.world now.world → (some_failed inputs_failed ≡ true) ⊎ (out_failed ≡ true)) → failed.out ≡ out_failed
+  pub inputs_are : (Rose before.inputs now.inputs → some_failed inputs_failed ≡ true)
+      → flags_of inputs failed ≡ inputs_failed
+  pub out_is : (Rose before.outputs now.outputs → out_failed ≡ true)
+      → (Rose before.world now.world → (some_failed inputs_failed ≡ true) ⊎ (out_failed ≡ true))
+      → failed.out ≡ out_failed
 
 -- ---- the answer
 
 -- What standard error is told, and the status, where these parts failed; the ending may turn on whether some did.
-pub record Answers (files : Files) (ending : Bool → WritingEnding) (failed : FailedParts) (before now : SinkState) (status : Status) : Type 0 where
+pub record Answers (files : Files) (ending : Bool → WritingEnding) (failed : FailedParts) (before now : SinkState)
+    (status : Status) : Type 0 where
   pub some : Bool
   pub some_is : (some ≡ true) ↔ PartFailed failed
-  pub told : Complains (troubles_of files (writing_findings files (ending some)) (failed_of (flags_of files.inputs failed) failed.out) failed.printing) before now status
+  pub told : Complains
+      (troubles_of files (writing_findings files (ending some)) (failed_of (flags_of files.inputs failed) failed.out) failed.printing)
+      before now status
 
 -- ---- the command
 
 -- what became of the names of a command whose ending may turn on whether some part failed
-pub record NamesEnd (files : Files) (old new : WorldState) (entries : List Opening) (inputs_failed : List Bool) (out_failed : Bool) (ending : Bool → WritingEnding) : Type 0 where
+pub record NamesEnd (files : Files) (old new : WorldState) (entries : List Opening) (inputs_failed : List Bool)
+    (out_failed : Bool) (ending : Bool → WritingEnding) : Type 0 where
   pub names : NamesKept files old new entries inputs_failed out_failed
   pub well : (some : Bool) → HaltsByInput files.inputs (ending some)
   -- where it ended for a failure, some part failed
-  pub sure : (some : Bool) → (ending some).fails ≡ true → (some_failed inputs_failed ≡ true) ⊎ ((out_failed ≡ true) ⊎ (some ≡ true))
+  pub sure : (some : Bool) → (ending some).fails ≡ true
+      → (some_failed inputs_failed ≡ true) ⊎ ((out_failed ≡ true) ⊎ (some ≡ true))

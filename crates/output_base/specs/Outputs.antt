@@ -31,7 +31,8 @@ IsUnasked entry = (keeping : Keeping) → entry.kept ≡ Some keeping → keepin
 
 -- what a source that was taken back has left is what stands under its name
 abbrev pub LeftUnderName : Told → Opening → Type 0
-LeftUnderName told entry = (name : List ℕ) (keeping : Keeping) → entry ≡ kept kinds.Source name keeping → keeping.left ≡ told.names name
+LeftUnderName told entry =
+    (name : List ℕ) (keeping : Keeping) → entry ≡ kept kinds.Source name keeping → keeping.left ≡ told.names name
 
 -- Nothing was read from the inputs, and nothing written.
 pub record Unread (old : WorldState) (entries : List Opening) : Type 0 where
@@ -59,7 +60,8 @@ pub record Causes (before now : Counts) (inputs : List Bool) (out : Bool) : Type
 -- ---- the command
 
 -- What a command did to the world and to both outputs that opened the inputs in their order and then the output, and that ended so.
-pub record ReadsSomeWritesOne (files : Files) (old new : Scene) (entries : List Opening) (ending : WritingEnding) (status : Status) : Type 0 where
+pub record ReadsSomeWritesOne (files : Files) (old new : Scene) (entries : List Opening) (ending : WritingEnding)
+    (status : Status) : Type 0 where
   -- standard output takes the text, and standard error the troubles, which give the status
   pub ran : Ran files old new entries ending.text (writing_findings files ending) status
   -- the names that are blamed are those whose counts rose
@@ -73,12 +75,15 @@ pub record ReadsSomeWritesOne (files : Files) (old new : Scene) (entries : List 
   pub rose : AnyRose (counts_in old) (counts_in new) → (status ≡ statuses.Fault) ⊎ (status ≡ statuses.Memory)
   pub faulted : status ≡ statuses.Fault → AnyRose (counts_in old) (counts_in new)
   -- unless a count rises, no name failed, and the ending decides the status
-  pub calm : (AnyRose (counts_in old) (counts_in new) → ⊥) → (failed_names entries ≡ []) × (ending.fails ≡ true → ⊥) × (status ≡ writing_status ending)
+  pub calm : (AnyRose (counts_in old) (counts_in new) → ⊥)
+      → (failed_names entries ≡ []) × (ending.fails ≡ true → ⊥) × (status ≡ writing_status ending)
   -- that all was done says that the output was written without a failure, and that all of the text was taken
-  pub whole : status ≡ statuses.Done → (failed_names entries ≡ []) × IsWritingDone ending × TellsAll old.out new.out ending.text
+  pub whole : status ≡ statuses.Done
+      → (failed_names entries ≡ []) × IsWritingDone ending × TellsAll old.out new.out ending.text
 
 -- what such a command did
-pub record WritesOutput (files : Files) (old new : Scene) (entries : List Opening) (ending : Bool → WritingEnding) (status : Status) : Type 0 where
+pub record WritesOutput (files : Files) (old new : Scene) (entries : List Opening) (ending : Bool → WritingEnding)
+    (status : Status) : Type 0 where
   pub some : Bool
   pub some_rose : (some ≡ true) ↔ AnyRose (counts_in old) (counts_in new)
   pub ran : ReadsSomeWritesOne files old new entries (ending some) status

@@ -44,7 +44,9 @@ pub fn failed_parts<'a>(
     inputs_failed: &'a [bool],
     out_failed: bool,
 ) -> FailedParts<'a>
-    ensures { (names : List (List ℕ)) → 1 ≤ length names → FailsWithCause before.now now.now inputs_failed.now out_failed → PartsShow before.now now.now names inputs_failed.now out_failed result }
+    ensures { (names : List (List ℕ)) → 1 ≤ length names
+        → FailsWithCause before.now now.now inputs_failed.now out_failed
+        → PartsShow before.now now.now names inputs_failed.now out_failed result }
 {
     let world = rose(before.world, now.world);
     let inputs = rose(before.inputs, now.inputs);

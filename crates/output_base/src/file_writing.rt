@@ -40,7 +40,8 @@ pub trait FileWriting {
 
     /// The complaint of where the input of that number, from 0, halts, if it does.
     fn halt<'a>(&'a self, inputs: &'a [Text], index: usize) -> Option<Complaint<'a>>
-        ensures { (some : Bool) → complained result ≡ first_halts (drop index (ending self.now inputs.now some).halts) };
+        ensures { (some : Bool)
+            → complained result ≡ first_halts (drop index (ending self.now inputs.now some).halts) };
 
     /// Whether the output would pass a limit.
     fn passes_limit(&self) -> bool
@@ -53,7 +54,8 @@ pub trait FileWriting {
 
 // Whether the input at the index failed.
 fn is_blamed(failed: FailedParts<'_>, index: usize) -> bool
-    ensures { (names : List (List ℕ)) → index + 1 ≤ length names → result ≡ first_failed (drop index (flags_of names failed.entry)) }
+    ensures { (names : List (List ℕ)) → index + 1 ≤ length names
+        → result ≡ first_failed (drop index (flags_of names failed.entry)) }
 {
     if failed.every_input {
         return true;
@@ -71,7 +73,9 @@ pub fn input_complaints<'a, K: FileWriting>(
     failed: FailedParts<'_>,
 ) -> ArrayVec<Option<Complaint<'a>>, MOST_COMPLAINTS>
     requires few { length inputs.now ≤ input_limit }
-    ensures troubles { (some : Bool) → flat_map complained result.items ≡ told_of inputs.now (K.ending what.now inputs.now some).halts (flags_of inputs.now failed.entry) [] }
+    ensures troubles { (some : Bool)
+        → flat_map complained result.items
+        ≡ told_of inputs.now (K.ending what.now inputs.now some).halts (flags_of inputs.now failed.entry) [] }
     ensures many { array_vec_len result ≡ 2 * length inputs.now }
 {
     let mut complaints = ArrayVec::new();
@@ -93,7 +97,9 @@ pub fn complain_of_writing<'a, K: FileWriting, E: Sink>(
     err: &mut E,
 ) -> Status
     requires few { length inputs.now ≤ input_limit }
-    ensures { (kind : ObjectKind) → Answers (inputs_and_output kind inputs.now out_name.now) (K.ending what.now inputs.now) failed.entry (E.state err.old) (E.state err.new) result }
+    ensures { (kind : ObjectKind)
+        → Answers (inputs_and_output kind inputs.now out_name.now) (K.ending what.now inputs.now) failed.entry
+        (E.state err.old) (E.state err.new) result }
 {
     let some_failed = is_part_failed(failed);
     let mut complaints = input_complaints(what, inputs, failed);
@@ -120,10 +126,12 @@ pub fn answer_writing<K: FileWriting, W: World, O: Sink, E: Sink>(
     err: &mut E,
 ) -> Status
     requires few { InputsAreFew inputs.now }
-    ensures { (kind : ObjectKind) (old : WorldState) (entries : List Opening) → before.now ≡ counted_faults old (O.state out.old)
-        → NamesEnd (inputs_and_output kind inputs.now out_name.now) old (W.state world.now) entries failed_names.entry.inputs.now failed_names.entry.out (K.ending what.now inputs.now)
-        → WritesOutput (inputs_and_output kind inputs.now out_name.now) (scene old (O.state out.old) (E.state err.old)) (scene (W.state world.now) (O.state out.new) (E.state err.new)) entries
-        (K.ending what.now inputs.now) result }
+    ensures { (kind : ObjectKind) (old : WorldState) (entries : List Opening)
+        → before.now ≡ counted_faults old (O.state out.old)
+        → NamesEnd (inputs_and_output kind inputs.now out_name.now) old (W.state world.now) entries
+        failed_names.entry.inputs.now failed_names.entry.out (K.ending what.now inputs.now)
+        → WritesOutput (inputs_and_output kind inputs.now out_name.now) (scene old (O.state out.old) (E.state err.old))
+        (scene (W.state world.now) (O.state out.new) (E.state err.new)) entries (K.ending what.now inputs.now) result }
 {
     what.print(inputs, out);
     let now = Counts::of(world, out);

@@ -34,7 +34,8 @@ pub trait InputKind<W: World> {
 
     /// Keeps one, and says whether it or that failed.
     fn keep(&self, world: &mut W, name: &str, it: Self::Object) -> bool
-        ensures { OneKept (kind self.now) (keeping self.now) (W.state world.old) (W.state world.new) name.now it result };
+        ensures { OneKept (kind self.now) (keeping self.now) (W.state world.old) (W.state world.new) name.now it
+            result };
 
     ghost reads: { (s : Self) → IsInput (kind s) };
 
@@ -139,10 +140,12 @@ pub fn open_inputs<W: World, K: InputKind<W>>(
 ) -> Result<(), OutsideRefused>
     requires none { objects.old.items ≡ [] }
     requires room { length inputs.now ≤ vec_capacity objects.old }
-    ensures all { OnOk result (InputsOpened (K.kind what.now) (K.seen what.now) (W.state world.old) (W.state world.new) inputs.now objects.new.items) }
+    ensures all { OnOk result (InputsOpened (K.kind what.now) (K.seen what.now) (W.state world.old) (W.state world.new)
+        inputs.now objects.new.items) }
     ensures many { OnOk result (vec_len objects.new ≡ length inputs.now) }
     ensures fewer { OnErr result (vec_len objects.new < length inputs.now) }
-    ensures some { IfErr result (InputOpeningRefused (K.kind what.now) (K.seen what.now) (W.state world.old) (W.state world.new) inputs.now objects.new.items) }
+    ensures some { IfErr result (InputOpeningRefused (K.kind what.now) (K.seen what.now) (W.state world.old)
+        (W.state world.new) inputs.now objects.new.items) }
 {
     'inputs: for input in inputs {
         match what.open(world, input.as_str()) {
@@ -165,7 +168,8 @@ pub fn keep_inputs<W: World, K: InputKind<W>>(
     requires many { vec_len objects ≡ length inputs.now }
     requires none { failed.old.items ≡ [] }
     requires room { vec_len objects ≤ vec_capacity failed.old }
-    ensures kept { InputsKept (K.kind what.now) (K.keeping what.now) (W.state world.old) (W.state world.new) inputs.now objects.items failed.new.items }
+    ensures kept { InputsKept (K.kind what.now) (K.keeping what.now) (W.state world.old) (W.state world.new) inputs.now
+        objects.items failed.new.items }
     ensures count { vec_len failed.new ≡ vec_len objects }
     ensures room { vec_capacity failed.new ≡ vec_capacity failed.old }
 {

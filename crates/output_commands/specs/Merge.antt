@@ -45,7 +45,8 @@ HoldsBytes told name bytes = told.names name ≡ Some bytes
 
 -- The file that merging makes of these files was put there, and these are the numbers of its records. Each of them is read back
 -- as itself, so its ids fit their two bytes.
-pub record HoldsMerged (chunk : ℕ) (files : List (List ℕ)) (m : Merged) (well : Bool) (before now : Option (List ℕ)) : Type 0 where
+pub record HoldsMerged (chunk : ℕ) (files : List (List ℕ)) (m : Merged) (well : Bool) (before now : Option (List ℕ))
+    : Type 0 where
   pub profile : List ℕ
   pub extras : List Top
   pub history : List Rec
@@ -54,7 +55,8 @@ pub record HoldsMerged (chunk : ℕ) (files : List (List ℕ)) (m : Merged) (wel
   pub messages : m.messages ≡ length (filter is_message history)
   pub records : m.records ≡ length history
   -- that file is within the limits of writing
-  pub within : Holds (length (blocks_in (pieces_of (Some chunk) history))) (length (file_of (merged_options profile chunk) extras history))
+  pub within : Holds (length (blocks_in (pieces_of (Some chunk) history))) (length
+      (file_of (merged_options profile chunk) extras history))
   pub placed : IsPlaced (file_of (merged_options profile chunk) extras history) well before now
 
 -- a first part of it was put there
@@ -74,7 +76,8 @@ PutsNothing well before now = IsPlaced [] well before now
 -- Of these files, by why the reading of one of them was refused: it may fail before anything is written, or while the inputs are
 -- read again for what is written.
 abbrev pub HaltedHolds : ℕ → List (List ℕ) → ReadingRefused → Bool → Option (List ℕ) → Option (List ℕ) → Type 0
-HaltedHolds chunk files (readings.Fault faults) well before now = PutsNothing well before now ⊎ HoldsFirst chunk files well before now
+HaltedHolds chunk files (readings.Fault faults) well before now =
+    PutsNothing well before now ⊎ HoldsFirst chunk files well before now
 HaltedHolds chunk files (readings.Grammar offset rule) well before now = PutsNothing well before now
 HaltedHolds chunk files (readings.Compressed offset name) well before now = PutsNothing well before now
 HaltedHolds chunk files (readings.Limit offset) well before now = PutsNothing well before now
@@ -84,12 +87,15 @@ HaltedHolds chunk files readings.Memory well before now = ⊥
 abbrev pub StoppedHolds : ℕ → List (List ℕ) → Stop → Bool → Option (List ℕ) → Option (List ℕ) → Type 0
 StoppedHolds chunk files (stops.Fault faults) well before now = HoldsFirst chunk files well before now
 StoppedHolds chunk files (stops.Limit blocks bytes) well before now = HoldsFirst chunk files well before now
-StoppedHolds chunk files stops.Memory well before now = PutsNothing well before now ⊎ HoldsFirst chunk files well before now
+StoppedHolds chunk files stops.Memory well before now =
+    PutsNothing well before now ⊎ HoldsFirst chunk files well before now
 
 -- By what a merge answered. No input that tells is found changed.
-abbrev pub MergeOutputHolds : ℕ → List (List ℕ) → Result Merged MergeRefused → Bool → Option (List ℕ) → Option (List ℕ) → Type 0
+abbrev pub MergeOutputHolds : ℕ → List (List ℕ) → Result Merged MergeRefused → Bool → Option (List ℕ) → Option (List ℕ)
+    → Type 0
 MergeOutputHolds chunk files (Ok m) well before now = HoldsMerged chunk files m well before now
-MergeOutputHolds chunk files (Err (merges.Halted input why)) well before now = HaltedHolds chunk files why well before now
+MergeOutputHolds chunk files (Err (merges.Halted input why)) well before now =
+    HaltedHolds chunk files why well before now
 MergeOutputHolds chunk files (Err (merges.Changed input offset)) well before now = ⊥
 MergeOutputHolds chunk files (Err merges.TooManySchemas) well before now = PutsNothing well before now
 MergeOutputHolds chunk files (Err merges.TooManyChannels) well before now = PutsNothing well before now
@@ -98,7 +104,8 @@ MergeOutputHolds chunk files (Err (merges.Stopped stop)) well before now = Stopp
 -- ---- the names
 
 -- what the library says of a merge of stores into a live store
-abbrev pub MergesStores : List StoreState → List StoreState → LiveState → LiveState → ℕ → Result Merged MergeRefused → Type 0
+abbrev pub MergesStores : List StoreState → List StoreState → LiveState → LiveState → ℕ → Result Merged MergeRefused
+    → Type 0
 MergesStores given back live stored chunk (Ok m) = MergesInto given back live stored chunk m
 MergesStores given back live stored chunk (Err why) = MergeFails given back live stored chunk why
 
@@ -110,7 +117,8 @@ abbrev pub store_entry : StoreKept → Opening
 store_entry k = input_entry kinds.Store store_keeping k
 
 -- All were opened. The stores under the inputs' names were merged into the one under the output's, and all were taken back.
-pub record Reached (chunk : ℕ) (inputs : List (List ℕ)) (out : List ℕ) (old new : WorldState) (entries : List Opening) (result : Result Merged MergeRefused) : Type 0 where
+pub record Reached (chunk : ℕ) (inputs : List (List ℕ)) (out : List ℕ) (old new : WorldState) (entries : List Opening)
+    (result : Result Merged MergeRefused) : Type 0 where
   -- as the world gave them and as it took them back, in the order of the words, and whether that went well
   pub given : List StoreState
   pub kept_inputs : List StoreKept
@@ -126,9 +134,12 @@ pub record Reached (chunk : ℕ) (inputs : List (List ℕ)) (out : List ℕ) (ol
   pub unused : Each IsUnused given
   pub live_unused : live.faults ≡ 0
   -- and then the output's name holds what was merged of these bytes
-  pub file : (told now : Told) (files : List (List ℕ)) → old.told ≡ Some told → new.told ≡ Some now → AllZip (HoldsBytes told) inputs files
+  pub file : (told now : Told) (files : List (List ℕ)) → old.told ≡ Some told → new.told ≡ Some now
+      → AllZip (HoldsBytes told) inputs files
       → MergeOutputHolds chunk files result live_kept (told.names out) (now.names out)
-  pub kept_are : entries ≡ map store_entry kept_inputs ++ kept kinds.Live out (record { well = live_kept; faults = stored.faults; left = None; asked = 0 }) ∷ []
+  pub kept_are : entries
+      ≡ map store_entry kept_inputs
+      ++ kept kinds.Live out (record { well = live_kept; faults = stored.faults; left = None; asked = 0 }) ∷ []
 
 -- an opening failed, or memory lacked for it
 abbrev pub unopened_so : Bool → Merging
@@ -156,7 +167,8 @@ IsMerging chunk inputs out old new entries merging = (RefusesMerge inputs entrie
 
 -- merged inputs=I messages=M records=R
 unfoldable pub merged_line : ℕ → Merged → List ℕ
-merged_line inputs m = number_after_name (codes "merged inputs=") inputs ++ (number_after_name (codes " messages=") m.messages ++ (number_after_name (codes " records=") m.records ++ codes "\n"))
+merged_line inputs m = number_after_name (codes "merged inputs=") inputs
+    ++ (number_after_name (codes " messages=") m.messages ++ (number_after_name (codes " records=") m.records ++ codes "\n"))
 
 -- how a merging ended in which the reading of the input of that number ended so
 abbrev pub ending_at : ℕ → one.Ending → WritingEnding
@@ -204,14 +216,18 @@ OfWholeFiles files P = (inputs : List (List Top)) × AreRead files inputs × P i
 -- Where nothing failed, the file of that number decides, whose reading was refused; memory lacks for the merge, not for it.
 abbrev pub HaltDecides : List (List ℕ) → ℕ → ReadingRefused → Status → Type 0
 HaltDecides files input (readings.Fault faults) status = ⊥
-HaltDecides files input (readings.Grammar offset rule) status = FirstHalts files input (λ bytes. (tops : List Top) × Halts reading_limits bytes tops (breaks offset rule)) × (status ≡ statuses.Refused)
-HaltDecides files input (readings.Compressed offset name) status = FirstHalts files input (λ bytes. (tops : List Top) × Halts reading_limits bytes tops (names offset name)) × (status ≡ statuses.Refused)
-HaltDecides files input (readings.Limit offset) status = FirstHalts files input (λ bytes. (tops : List Top) × Halts reading_limits bytes tops (beyond offset)) × (status ≡ statuses.Limit)
+HaltDecides files input (readings.Grammar offset rule) status = FirstHalts files input
+    (λ bytes. (tops : List Top) × Halts reading_limits bytes tops (breaks offset rule)) × (status ≡ statuses.Refused)
+HaltDecides files input (readings.Compressed offset name) status = FirstHalts files input
+    (λ bytes. (tops : List Top) × Halts reading_limits bytes tops (names offset name)) × (status ≡ statuses.Refused)
+HaltDecides files input (readings.Limit offset) status = FirstHalts files input (λ bytes. (tops : List Top)
+    × Halts reading_limits bytes tops (beyond offset)) × (status ≡ statuses.Limit)
 HaltDecides files input readings.Memory status = ⊥
 
 abbrev pub StopDecides : List (List ℕ) → Stop → Status → Type 0
 StopDecides files (stops.Fault faults) status = ⊥
-StopDecides files (stops.Limit blocks bytes) status = OfWholeFiles files (λ inputs. Unit {0}) × (status ≡ statuses.Limit)
+StopDecides files (stops.Limit blocks bytes) status =
+    OfWholeFiles files (λ inputs. Unit {0}) × (status ≡ statuses.Limit)
 StopDecides files stops.Memory status = status ≡ statuses.Memory
 
 -- Where nothing failed, the bytes decide, but for want of memory and for the limits of a file.
@@ -220,20 +236,25 @@ MergeDecides files mergings.Unopened status = ⊥
 MergeDecides files (mergings.Made m) status = OfWholeFiles files (λ inputs. Unit {0}) × (status ≡ statuses.Done)
 MergeDecides files (mergings.Refused (merges.Halted input why)) status = HaltDecides files input why status
 MergeDecides files (mergings.Refused (merges.Changed input offset)) status = ⊥
-MergeDecides files (mergings.Refused merges.TooManySchemas) status = OfWholeFiles files (λ inputs. MoreThan id_limit (SchemaIsUsed inputs)) × (status ≡ statuses.Limit)
-MergeDecides files (mergings.Refused merges.TooManyChannels) status = OfWholeFiles files (λ inputs. MoreThan id_limit (IsUsed inputs) × AtMost id_limit (SchemaIsUsed inputs)) × (status ≡ statuses.Limit)
+MergeDecides files (mergings.Refused merges.TooManySchemas) status =
+    OfWholeFiles files (λ inputs. MoreThan id_limit (SchemaIsUsed inputs)) × (status ≡ statuses.Limit)
+MergeDecides files (mergings.Refused merges.TooManyChannels) status = OfWholeFiles files
+    (λ inputs. MoreThan id_limit (IsUsed inputs) × AtMost id_limit (SchemaIsUsed inputs)) × (status ≡ statuses.Limit)
 MergeDecides files (mergings.Refused (merges.Stopped stop)) status = StopDecides files stop status
 
 -- ---- the command
 
 -- what `merge` does
-pub record MergesFiles (chunk : ℕ) (inputs : List (List ℕ)) (out : List ℕ) (old new : Scene) (status : Status) : Type 0 where
+pub record MergesFiles (chunk : ℕ) (inputs : List (List ℕ)) (out : List ℕ) (old new : Scene) (status : Status)
+    : Type 0 where
   -- the inputs are opened as stores, and then the output; this is what the merging came to, and what the output holds of it
   pub entries : List Opening
   pub merging : Merging
   pub comes : IsMerging chunk inputs out old.world new.world entries merging
   -- standard output takes the line of what was merged, and standard error the troubles
-  pub ran : ReadsSomeWritesOne (inputs_and_output kinds.Store inputs out) old new entries (ending_of_merging inputs merging) status
+  pub ran : ReadsSomeWritesOne (inputs_and_output kinds.Store inputs out) old new entries
+      (ending_of_merging inputs merging) status
   -- where the world tells, the bytes under the inputs' names decide, unless a count rises
-  pub decided : (told : Told) (files : List (List ℕ)) → old.world.told ≡ Some told → AllZip (HoldsBytes told) inputs files
-      → (AnyRose (counts_in old) (counts_in new) → ⊥) → MergeDecides files merging status
+  pub decided : (told : Told) (files : List (List ℕ)) → old.world.told ≡ Some told
+      → AllZip (HoldsBytes told) inputs files → (AnyRose (counts_in old) (counts_in new) → ⊥)
+      → MergeDecides files merging status

@@ -8,7 +8,9 @@ use Rattle.output_base.specs.OutputSteps.{NamesEnd}
 use Rattle.output_commands.specs.Merge.{IsMerging, ending_of_merging}
 
 -- what became of all names, and which of them failed; where the merging failed, a failure of one is told
-pub record NamesMerged (chunk : ℕ) (inputs : List (List ℕ)) (out : List ℕ) (old new : WorldState) (outcome : Outcome) : Type 0 where
+pub record NamesMerged (chunk : ℕ) (inputs : List (List ℕ)) (out : List ℕ) (old new : WorldState) (outcome : Outcome)
+    : Type 0 where
   pub entries : List Opening
   pub comes : IsMerging chunk inputs out old new entries outcome.merging
-  pub ends : NamesEnd (inputs_and_output kinds.Store inputs out) old new entries outcome.inputs_failed.items outcome.out_failed (λ some. ending_of_merging inputs outcome.merging)
+  pub ends : NamesEnd (inputs_and_output kinds.Store inputs out) old new entries outcome.inputs_failed.items
+      outcome.out_failed (λ some. ending_of_merging inputs outcome.merging)

@@ -39,7 +39,8 @@ IsPlaced text false before now = (now ≡ Some text) ⊎ (now ≡ before)
 
 -- A reading of the bytes, which begin with the magic, keeps these records and halts there; what repairing makes of them is the file
 -- that was put there, and what is answered.
-pub record HoldsRecovered (chunk : ℕ) (bytes : List ℕ) (r : Recovered) (well : Bool) (before now : Option (List ℕ)) : Type 0 where
+pub record HoldsRecovered (chunk : ℕ) (bytes : List ℕ) (r : Recovered) (well : Bool) (before now : Option (List ℕ))
+    : Type 0 where
   pub magic : V1 bytes
   pub tops : List Top
   pub halt : Halt
@@ -53,14 +54,16 @@ pub record HoldsRecovered (chunk : ℕ) (bytes : List ℕ) (r : Recovered) (well
   pub records : r.records ≡ length history
   pub extras_are : r.extras ≡ length extras
   -- that file is within the limits of writing
-  pub within : Holds (length (blocks_in (pieces_of (Some chunk) history))) (length (file_of (recovered_options profile chunk) extras history))
+  pub within : Holds (length (blocks_in (pieces_of (Some chunk) history))) (length
+      (file_of (recovered_options profile chunk) extras history))
   pub placed : IsPlaced (file_of (recovered_options profile chunk) extras history) well before now
 
 -- a first part of the file that repairing makes of the bytes was put there
 pub record HoldsPart (chunk : ℕ) (bytes : List ℕ) (well : Bool) (before now : Option (List ℕ)) : Type 0 where
   pub text : List ℕ
   pub placed : IsPlaced text well before now
-  pub part : (profile : List ℕ) (extras : List Top) (history : List Rec) → Repaired bytes profile extras history → IsPrefix text (file_of (recovered_options profile chunk) extras history)
+  pub part : (profile : List ℕ) (extras : List Top) (history : List Rec) → Repaired bytes profile extras history
+      → IsPrefix text (file_of (recovered_options profile chunk) extras history)
 
 -- nothing was put there, since the bytes don't begin with the magic
 abbrev pub NoMagicHolds : List ℕ → Bool → Option (List ℕ) → Option (List ℕ) → Type 0
@@ -75,16 +78,19 @@ UnreadHolds chunk bytes (scans.Limit offset) well before now = ⊥
 UnreadHolds chunk bytes scans.Memory well before now = HoldsPart chunk bytes well before now
 
 -- of these bytes, by what a recovery answered
-abbrev pub RecoveryOutputHolds : ℕ → List ℕ → Result Recovered RecoverRefused → Bool → Option (List ℕ) → Option (List ℕ) → Type 0
+abbrev pub RecoveryOutputHolds : ℕ → List ℕ → Result Recovered RecoverRefused → Bool → Option (List ℕ) → Option (List ℕ)
+    → Type 0
 RecoveryOutputHolds chunk bytes (Ok r) well before now = HoldsRecovered chunk bytes r well before now
 RecoveryOutputHolds chunk bytes (Err refusals.NoMagic) well before now = NoMagicHolds bytes well before now
-RecoveryOutputHolds chunk bytes (Err (refusals.Refused why)) well before now = UnreadHolds chunk bytes why well before now
+RecoveryOutputHolds chunk bytes (Err (refusals.Refused why)) well before now =
+    UnreadHolds chunk bytes why well before now
 RecoveryOutputHolds chunk bytes (Err (refusals.Stopped stop)) well before now = HoldsPart chunk bytes well before now
 
 -- ---- the names
 
 -- Both were opened. The source under the one name was recovered into the store under the other, and both were taken back.
-pub record BothReached (chunk : ℕ) (input out : List ℕ) (old new : WorldState) (entries : List Opening) (result : Result Recovered RecoverRefused) : Type 0 where
+pub record BothReached (chunk : ℕ) (input out : List ℕ) (old new : WorldState) (entries : List Opening)
+    (result : Result Recovered RecoverRefused) : Type 0 where
   -- as the world gave them and as it took them back, and whether that went well
   pub source : SourceState
   pub back : SourceState
@@ -98,15 +104,18 @@ pub record BothReached (chunk : ℕ) (input out : List ℕ) (old new : WorldStat
   pub unused : source.faults ≡ 0
   pub live_unused : live.faults ≡ 0
   -- and then the output's name holds what was recovered of these bytes
-  pub file : (told now : Told) (bytes : List ℕ) → old.told ≡ Some told → new.told ≡ Some now → told.names input ≡ Some bytes
+  pub file : (told now : Told) (bytes : List ℕ) → old.told ≡ Some told → new.told ≡ Some now
+      → told.names input ≡ Some bytes
       → RecoveryOutputHolds chunk bytes result live_kept (told.names out) (now.names out)
-  pub kept_are : entries ≡ kept kinds.Source input (record { well = source_kept; faults = back.faults; left = back.left; asked = 0 })
+  pub kept_are : entries
+      ≡ kept kinds.Source input (record { well = source_kept; faults = back.faults; left = back.left; asked = 0 })
       ∷ kept kinds.Live out (record { well = live_kept; faults = stored.faults; left = None; asked = 0 }) ∷ []
 
 -- the last opening was refused: a failure has its entry, a want of memory none
 abbrev pub RefusesRecovery : List Opening → Recovery → Type 0
 RefusesRecovery [] recovery = recovery ≡ recoveries.Refused lacks
-RefusesRecovery (entry ∷ []) recovery = ((entry.given ≡ false) × (recovery ≡ recoveries.Unopened)) ⊎ ((entry.given ≡ true) × (recovery ≡ recoveries.Refused lacks))
+RefusesRecovery (entry ∷ []) recovery = ((entry.given ≡ false) × (recovery ≡ recoveries.Unopened))
+    ⊎ ((entry.given ≡ true) × (recovery ≡ recoveries.Refused lacks))
 RefusesRecovery (entry ∷ other ∷ more) recovery = (other.given ≡ false) × (recovery ≡ recoveries.Unopened)
 
 abbrev pub recovery_of : Result Recovered RecoverRefused → Recovery
@@ -133,8 +142,9 @@ number_after_name name n = name ++ decimal n
 
 -- recovered messages=M records=R extras=X at=N WHY
 unfoldable pub recovered_line : Recovered → List ℕ
-recovered_line r = number_after_name (codes "recovered messages=") r.messages ++ (number_after_name (codes " records=") r.records ++ (number_after_name (codes " extras=") r.extras
-    ++ (number_after_name (codes " at=") r.at ++ (codes " " ++ (why_text r.why ++ codes "\n")))))
+recovered_line r = number_after_name (codes "recovered messages=") r.messages
+    ++ (number_after_name (codes " records=") r.records
+    ++ (number_after_name (codes " extras=") r.extras ++ (number_after_name (codes " at=") r.at ++ (codes " " ++ (why_text r.why ++ codes "\n")))))
 
 -- how the recovery ended: of what else a reading can be refused for none comes
 abbrev pub unread_ending : ReadingRefused → WritingEnding

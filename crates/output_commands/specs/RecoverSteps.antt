@@ -17,4 +17,5 @@ unopened_recovery false = recoveries.Refused lacks
 pub record NamesRecovered (chunk : ℕ) (input out : List ℕ) (old new : WorldState) (restored : Restored) : Type 0 where
   pub entries : List Opening
   pub comes : IsRecovery chunk input out old new entries restored.recovery
-  pub ends : NamesEnd (both_names input out) old new entries (restored.input_failed ∷ []) restored.out_failed (λ some. ending_of_recovery input restored.recovery)
+  pub ends : NamesEnd (both_names input out) old new entries (restored.input_failed ∷ []) restored.out_failed
+      (λ some. ending_of_recovery input restored.recovery)

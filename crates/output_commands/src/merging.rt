@@ -83,9 +83,10 @@ fn merge_opened<W: World>(
     requires many { vec_len room.objects ≡ length inputs.now }
     requires none { room.failed.items ≡ [] }
     requires room { length inputs.now ≤ vec_capacity room.failed }
-    ensures { (before : WorldState) → InputsOpened ObjectKind.Store StoreSeen before (W.state world.old) inputs.now (map W.Store.state room.objects.items)
-        → before.faults < 2 ^ 64 → before.input_faults < 2 ^ 64 → before.output_faults < 2 ^ 64
-        → NamesMerged chunk inputs.now out.now before (W.state world.new) result }
+    ensures { (before : WorldState)
+        → InputsOpened ObjectKind.Store StoreSeen before (W.state world.old) inputs.now
+        (map W.Store.state room.objects.items) → before.faults < 2 ^ 64 → before.input_faults < 2 ^ 64
+        → before.output_faults < 2 ^ 64 → NamesMerged chunk inputs.now out.now before (W.state world.new) result }
 {
     let Room {
         objects: mut stores,
@@ -190,7 +191,8 @@ fn print_merging<O: Sink>(out: &mut O, inputs: &[Text], merging: &Merging)
 // The input that was halted, and the complaint of it, if there is one.
 #[tactic(auto, using(crate::proofs::RefusedReadings::halted_some, crate::proofs::RefusedReadings::halted_none))]
 fn halted_at(input: u32, complaint: Option<Complaint<'_>>) -> Option<Halted<'_>>
-    ensures { (ending : OneEnding) → complained complaint.entry ≡ troubles_in ending → halted_lists result ≡ (ending_at input ending).halts }
+    ensures { (ending : OneEnding) → complained complaint.entry ≡ troubles_in ending
+        → halted_lists result ≡ (ending_at input ending).halts }
 {
     match complaint {
         Some(complaint) => Some(Halted {

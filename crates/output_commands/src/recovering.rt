@@ -114,7 +114,8 @@ fn recover_names<W: World>(
 
 // Prints the line of what was recovered, if something was. It takes no memory.
 fn print_recovery<O: Sink>(out: &mut O, recovery: &Recovery)
-    ensures { (input : List ℕ) → Takes (O.state out.old) (O.state out.new) (ending_of_recovery input recovery.now).text }
+    ensures { (input : List ℕ)
+        → Takes (O.state out.old) (O.state out.new) (ending_of_recovery input recovery.now).text }
 {
     match recovery {
         Recovery::Made { recovered } => {

@@ -29,7 +29,8 @@ IsMessageContent content = (channel_id : ℕ) × (m : MessageFields) × ShowsMes
 
 -- bytes are a Message exactly where there are enough for its fields
 abbrev pub MessagesAreLongEnough : Type 0
-MessagesAreLongEnough = (content : List ℕ) → All (λ b. b < 256) content → IsMessageContent content ↔ (22 ≤ length content)
+MessagesAreLongEnough =
+    (content : List ℕ) → All (λ b. b < 256) content → IsMessageContent content ↔ (22 ≤ length content)
 
 -- a Message with its first two bytes replaced is the same Message on another channel
 abbrev pub MessagesChangeChannel : Type 0

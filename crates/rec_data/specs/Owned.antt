@@ -19,8 +19,11 @@ rec_opcode (Message channel_id sequence log_time publish_time payload) = message
 -- the content of a record
 abbrev pub rec_text : Rec → List ℕ
 rec_text (Schema id schema) = schema_text id (def_fields schema)
-rec_text (Channel id schema topic encoding metadata) = channel_text id (record { schema = schema; topic = topic; encoding = encoding; metadata = metadata })
-rec_text (Message channel_id sequence log_time publish_time payload) = message_text channel_id (record { sequence = sequence; log_time = log_time; publish_time = publish_time; payload = payload })
+rec_text (Channel id schema topic encoding metadata) =
+    channel_text id (record { schema = schema; topic = topic; encoding = encoding; metadata = metadata })
+rec_text (Message channel_id sequence log_time publish_time payload) =
+    message_text channel_id (record
+    { sequence = sequence; log_time = log_time; publish_time = publish_time; payload = payload })
 
 -- the whole record
 abbrev pub rec_bytes : Rec → List ℕ
@@ -29,11 +32,18 @@ rec_bytes r = framed (rec_opcode r) (rec_text r)
 -- each number and length of the record fits its field, its texts are UTF-8 and the keys of its map differ
 abbrev pub RecFits : Rec → Type 0
 RecFits (Schema id schema) = AllFit schema_kinds (schema_values id (def_fields schema))
-RecFits (Channel id schema topic encoding metadata) = AllFit channel_kinds (channel_values id (record { schema = schema; topic = topic; encoding = encoding; metadata = metadata }))
-RecFits (Message channel_id sequence log_time publish_time payload) = AllFit message_kinds (message_values channel_id (record { sequence = sequence; log_time = log_time; publish_time = publish_time; payload = payload }))
+RecFits (Channel id schema topic encoding metadata) =
+    AllFit channel_kinds (channel_values id (record
+    { schema = schema; topic = topic; encoding = encoding; metadata = metadata }))
+RecFits (Message channel_id sequence log_time publish_time payload) =
+    AllFit message_kinds (message_values channel_id (record
+    { sequence = sequence; log_time = log_time; publish_time = publish_time; payload = payload }))
 
 -- a content shows this record, whatever may follow its fields
 abbrev pub ShowsRec : ℕ → List ℕ → Rec → Type 0
 ShowsRec op content (Schema id schema) = (op ≡ schema_opcode) × ShowsSchema content id (def_fields schema)
-ShowsRec op content (Channel id schema topic encoding metadata) = (op ≡ channel_opcode) × ShowsChannel content id (record { schema = schema; topic = topic; encoding = encoding; metadata = metadata })
-ShowsRec op content (Message channel_id sequence log_time publish_time payload) = (op ≡ message_opcode) × ShowsMessage content channel_id (record { sequence = sequence; log_time = log_time; publish_time = publish_time; payload = payload })
+ShowsRec op content (Channel id schema topic encoding metadata) = (op ≡ channel_opcode)
+    × ShowsChannel content id (record { schema = schema; topic = topic; encoding = encoding; metadata = metadata })
+ShowsRec op content (Message channel_id sequence log_time publish_time payload) = (op ≡ message_opcode)
+    × ShowsMessage content channel_id (record
+    { sequence = sequence; log_time = log_time; publish_time = publish_time; payload = payload })

@@ -11,8 +11,10 @@ use Rattle.rec_data.specs.Owned.{ShowsRec}
 
 -- its lengths fit in front of what they count
 abbrev pub LengthsFit : Rec → Type 0
-LengthsFit (Schema id schema) = (length schema.name < 2 ^ 32) × (length schema.encoding < 2 ^ 32) × (length schema.payload < 2 ^ 32)
-LengthsFit (Channel id schema topic encoding metadata) = (length topic < 2 ^ 32) × (length encoding < 2 ^ 32) × (length (pair_texts metadata) < 2 ^ 32)
+LengthsFit (Schema id schema) =
+    (length schema.name < 2 ^ 32) × (length schema.encoding < 2 ^ 32) × (length schema.payload < 2 ^ 32)
+LengthsFit (Channel id schema topic encoding metadata) =
+    (length topic < 2 ^ 32) × (length encoding < 2 ^ 32) × (length (pair_texts metadata) < 2 ^ 32)
 LengthsFit (Message channel_id sequence log_time publish_time payload) = Unit {0}
 
 -- what a content of that kind shows, or that it shows nothing, or that memory lacked

@@ -66,7 +66,9 @@ impl<'a> Message<'a> {
     // looks for its room.
     #[inline(always)]
     fn front(&self, len: u64) -> [u8; 31]
-        ensures { result ≡ message_opcode ∷ (le 8 len ++ (le 2 self.now.channel_id ++ (le 4 self.now.sequence ++ (le 8 self.now.log_time ++ le 8 self.now.publish_time)))) }
+        ensures { result
+            ≡ message_opcode
+            ∷ (le 8 len ++ (le 2 self.now.channel_id ++ (le 4 self.now.sequence ++ (le 8 self.now.log_time ++ le 8 self.now.publish_time)))) }
     {
         let mut front = [MESSAGE; 31];
         set_u64(&mut front, 1, len);

@@ -64,7 +64,8 @@ abbrev pub attachment_index_kinds : List Kind
 attachment_index_kinds = a_number 8 ∷ a_number 8 ∷ a_number 8 ∷ a_number 8 ∷ a_number 8 ∷ a_text ∷ a_text ∷ []
 
 abbrev pub attachment_index_values : AttachmentIndexFields → Values attachment_index_kinds
-attachment_index_values f = (f.offset, (f.size, (f.log_time, (f.create_time, (f.payload_size, (f.name, (f.media_type, tt)))))))
+attachment_index_values f =
+    (f.offset, (f.size, (f.log_time, (f.create_time, (f.payload_size, (f.name, (f.media_type, tt)))))))
 
 -- the content of an Attachment Index
 abbrev pub attachment_index_text : AttachmentIndexFields → List ℕ
@@ -113,10 +114,12 @@ ShowsMessageIndex content channel_id entries =
 -- ---- Chunk Index
 
 abbrev pub chunk_index_kinds : List Kind
-chunk_index_kinds = a_number 8 ∷ a_number 8 ∷ a_number 8 ∷ a_number 8 ∷ a_count_map ∷ a_number 8 ∷ a_text ∷ a_number 8 ∷ a_number 8 ∷ []
+chunk_index_kinds =
+    a_number 8 ∷ a_number 8 ∷ a_number 8 ∷ a_number 8 ∷ a_count_map ∷ a_number 8 ∷ a_text ∷ a_number 8 ∷ a_number 8 ∷ []
 
 abbrev pub chunk_index_values : ChunkIndexFields → Values chunk_index_kinds
-chunk_index_values f = (f.start, (f.end, (f.offset, (f.size, (f.indexes, (f.indexes_size, (f.compression, (f.compressed, (f.uncompressed, tt)))))))))
+chunk_index_values f =
+    (f.start, (f.end, (f.offset, (f.size, (f.indexes, (f.indexes_size, (f.compression, (f.compressed, (f.uncompressed, tt)))))))))
 
 -- the content of a Chunk Index
 abbrev pub chunk_index_text : ChunkIndexFields → List ℕ
@@ -129,10 +132,12 @@ ShowsChunkIndex content f = ShowsRow chunk_index_kinds content (chunk_index_valu
 -- ---- Statistics
 
 abbrev pub statistics_kinds : List Kind
-statistics_kinds = a_number 8 ∷ a_number 2 ∷ a_number 4 ∷ a_number 4 ∷ a_number 4 ∷ a_number 4 ∷ a_number 8 ∷ a_number 8 ∷ a_count_map ∷ []
+statistics_kinds = a_number 8 ∷ a_number 2 ∷ a_number 4 ∷ a_number 4 ∷ a_number 4 ∷ a_number 4 ∷ a_number 8 ∷ a_number 8
+    ∷ a_count_map ∷ []
 
 abbrev pub statistics_values : StatisticsFields → Values statistics_kinds
-statistics_values f = (f.messages, (f.schemas, (f.channels, (f.attachments, (f.metadata, (f.chunks, (f.start, (f.end, (f.counts, tt)))))))))
+statistics_values f =
+    (f.messages, (f.schemas, (f.channels, (f.attachments, (f.metadata, (f.chunks, (f.start, (f.end, (f.counts, tt)))))))))
 
 -- the content of a Statistics
 abbrev pub statistics_text : StatisticsFields → List ℕ

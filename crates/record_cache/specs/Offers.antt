@@ -32,7 +32,8 @@ pub record StandsThere (records : List Rec) (n : ℕ) (framed : List ℕ) (next 
   pub behind : next ≡ length (history_bytes (take (suc n) records))
 
 abbrev pub RecordAt : List Rec → ℕ → List ℕ → ℕ → Type 0
-RecordAt records at framed next = (n : ℕ) → n < length records → at ≡ length (history_bytes (take n records)) → StandsThere records n framed next
+RecordAt records at framed next =
+    (n : ℕ) → n < length records → at ≡ length (history_bytes (take n records)) → StandsThere records n framed next
 
 -- the n-th record, read back, and where the next one begins
 pub record IsNth (records : List Rec) (n : ℕ) (rec : Rec) (next : ℕ) : Type 0 where
@@ -40,4 +41,5 @@ pub record IsNth (records : List Rec) (n : ℕ) (rec : Rec) (next : ℕ) : Type 
   pub behind : next ≡ length (history_bytes (take (suc n) records))
 
 abbrev pub OwnedAt : List Rec → ℕ → Rec → ℕ → Type 0
-OwnedAt records at rec next = (n : ℕ) → n < length records → at ≡ length (history_bytes (take n records)) → IsNth records n rec next
+OwnedAt records at rec next =
+    (n : ℕ) → n < length records → at ≡ length (history_bytes (take n records)) → IsNth records n rec next

@@ -16,7 +16,8 @@ bytes_behind_text bytes = drop (number (take 4 bytes)) (drop 4 bytes)
 unfoldable pub pairs_within : ℕ → List ℕ → List (List ℕ × List ℕ)
 pairs_within zero bytes = []
 pairs_within (suc n) [] = []
-pairs_within (suc n) (b ∷ bs) = (first_text (b ∷ bs), first_text (bytes_behind_text (b ∷ bs))) ∷ pairs_within n (bytes_behind_text (bytes_behind_text (b ∷ bs)))
+pairs_within (suc n) (b ∷ bs) = (first_text (b ∷ bs), first_text (bytes_behind_text (b ∷ bs)))
+    ∷ pairs_within n (bytes_behind_text (bytes_behind_text (b ∷ bs)))
 
 unfoldable pub schema_read : List ℕ → Rec
 schema_read content = Schema (number (take 2 content)) (record {
@@ -31,7 +32,8 @@ map_read bytes = pairs_within (length bytes) bytes
 unfoldable pub channel_read : List ℕ → Rec
 channel_read content =
     Channel (number (take 2 content)) (number (take 2 (drop 2 content))) (first_text (drop 2 (drop 2 content)))
-    (first_text (bytes_behind_text (drop 2 (drop 2 content)))) (map_read (first_text (bytes_behind_text (bytes_behind_text (drop 2 (drop 2 content))))))
+    (first_text (bytes_behind_text (drop 2 (drop 2 content)))) (map_read (first_text
+    (bytes_behind_text (bytes_behind_text (drop 2 (drop 2 content))))))
 
 unfoldable pub message_read : List ℕ → Rec
 message_read content =
@@ -39,13 +41,15 @@ message_read content =
     (number (take 8 (drop 8 (drop 4 (drop 2 content))))) (drop 8 (drop 8 (drop 4 (drop 2 content))))
 
 unfoldable pub record_read : ℕ → List ℕ → Rec
-record_read op content = if op == schema_opcode then schema_read content else (if op == channel_opcode then channel_read content else message_read content)
+record_read op content = if op == schema_opcode then schema_read content
+    else (if op == channel_opcode then channel_read content else message_read content)
 
 -- at most so many records
 unfoldable pub records_within : ℕ → List ℕ → List Rec
 records_within zero bytes = []
 records_within (suc n) [] = []
-records_within (suc n) (op ∷ rest) = record_read op (take (number (take 8 rest)) (drop 8 rest)) ∷ records_within n (drop (number (take 8 rest)) (drop 8 rest))
+records_within (suc n) (op ∷ rest) = record_read op (take (number (take 8 rest)) (drop 8 rest))
+    ∷ records_within n (drop (number (take 8 rest)) (drop 8 rest))
 
 -- the records that stand one behind the other in some bytes
 unfoldable pub records_shown : List ℕ → List Rec

@@ -38,7 +38,8 @@ use Rattle.command_base.specs.Ran.{Scene, counts_in, AnyRose, kept, input_faults
 -- What stands under the output's name: the file of the history, where the writer closed it and it was kept; else that or a
 -- first part of it, with all that was taken in whole appends; or what stood there, where the keeping failed. Where a record was
 -- accepted, and the output kept, the front of a file stands there.
-pub record OutputHolds (options : FileOptions) (history : List Rec) (w : WriterReport) (well : Bool) (before now : Option (List ℕ)) : Type 0 where
+pub record OutputHolds (options : FileOptions) (history : List Rec) (w : WriterReport) (well : Bool)
+    (before now : Option (List ℕ)) : Type 0 where
   pub whole : w.end ≡ ends.Closed → well ≡ true → now ≡ Some (file_of options [] history)
   pub part : ((text : List ℕ) × (now ≡ Some text) × (w.bytes ≤ length text) × IsPrefix text (file_of options [] history))
       ⊎ ((now ≡ before) × (well ≡ false))
@@ -52,7 +53,8 @@ pub record FeedKept : Type 0 where
 
 -- its entry
 abbrev pub feed_entry : FeedKept → Opening
-feed_entry f = kept kinds.Source f.name (record { well = f.well; faults = f.back.faults; left = f.back.left; asked = 0 })
+feed_entry f =
+    kept kinds.Source f.name (record { well = f.well; faults = f.back.faults; left = f.back.left; asked = 0 })
 
 abbrev pub live_entry : List ℕ → LiveState → Bool → Opening
 live_entry out live well = kept kinds.Live out (record { well = well; faults = live.faults; left = None; asked = 0 })
@@ -64,7 +66,8 @@ abbrev pub back_sources : List FeedKept → List SourceState
 back_sources feeds = map (λ (f : FeedKept). f.back) feeds
 
 -- The feeds' sources were recorded into the output's store.
-pub record Reported (options : RecordOptions) (out : List ℕ) (feeds : List (List ℕ)) (old new : WorldState) (entries : List Opening) (r : Report) : Type 0 where
+pub record Reported (options : RecordOptions) (out : List ℕ) (feeds : List (List ℕ)) (old new : WorldState)
+    (entries : List Opening) (r : Report) : Type 0 where
   -- as the world gave them and as it took them back, in the order of the words, and whether that went well
   pub given : List SourceState
   pub kept_feeds : List FeedKept
@@ -90,7 +93,8 @@ pub record Unreported (out : List ℕ) (old new : WorldState) (entries : List Op
   pub inputs : input_faults entries ≡ 0
   pub outputs : output_faults entries ≡ 0
   pub left : (told : Told) → old.told ≡ Some told → Each (LeftUnderName told) entries
-  pub file : (told now : Told) → old.told ≡ Some told → new.told ≡ Some now → (now.names out ≡ told.names out) ⊎ (now.names out ≡ Some [])
+  pub file : (told now : Told) → old.told ≡ Some told → new.told ≡ Some now
+      → (now.names out ≡ told.names out) ⊎ (now.names out ≡ Some [])
 
 -- where one of the feeds isn't there, the output's name holds what it held
 abbrev pub SparesOutput : List ℕ → List (List ℕ) → WorldState → WorldState → Type 0
@@ -157,7 +161,8 @@ ending_of_recording feeds report some = record {
 
 -- a limit, or else a refusal, if it stands among the statuses; or else that all was done
 abbrev pub worst : List Status → Status
-worst asked = if list_any (is_status statuses.Limit) asked then statuses.Limit else (if list_any (is_status statuses.Refused) asked then statuses.Refused else statuses.Done)
+worst asked = if list_any (is_status statuses.Limit) asked then statuses.Limit
+    else (if list_any (is_status statuses.Refused) asked then statuses.Refused else statuses.Done)
 
 abbrev pub ends_status : Report → Status
 ends_status r = worst (map (λ (f : FeedReport). end_status f.end) r.feeds.items)
@@ -197,7 +202,8 @@ pub record FeedHalts (told : Told) (feed : List ℕ) (halt : Halt) : Type 0 wher
 -- ---- the command
 
 -- what `record` does
-pub record Records (options : RecordOptions) (out : List ℕ) (feeds : List (List ℕ)) (old new : Scene) (report : Option Report) (status : Status) : Type 0 where
+pub record Records (options : RecordOptions) (out : List ℕ) (feeds : List (List ℕ)) (old new : Scene)
+    (report : Option Report) (status : Status) : Type 0 where
   pub entries : List Opening
   -- with a report the feeds were recorded, and the output holds the file
   pub reported : (r : Report) → report ≡ Some r → Reported options out feeds old.world new.world entries r
@@ -205,12 +211,14 @@ pub record Records (options : RecordOptions) (out : List ℕ) (feeds : List (Lis
   pub unreported : report ≡ None → Unreported out old.world new.world entries
   pub spares : SparesOutput out feeds old.world new.world
   -- these names are opened; both outputs are told of the report, of its troubles, and of which part failed
-  pub wrote : WritesOutput (inputs_and_output kinds.Source feeds out) old new entries (ending_of_recording feeds report) status
+  pub wrote : WritesOutput (inputs_and_output kinds.Source feeds out) old new entries (ending_of_recording feeds report)
+      status
   -- the status says what became of it
   pub ended : StatusFollows (counts_in old) (counts_in new) report (report_lack report wrote.some) status
   -- where the world tells, the bytes under the feeds' names decide the status, unless a count rises, memory lacks, or a limit
   -- would be passed
   pub decided : (told : Told) (halts : List Halt) → old.world.told ≡ Some told → AllZip (FeedHalts told) feeds halts
-      → (AnyRose (counts_in old) (counts_in new) → ⊥) → report_lack report wrote.some ≡ false → limit_passed report ≡ false → status ≡ worst (map halt_status halts)
+      → (AnyRose (counts_in old) (counts_in new) → ⊥) → report_lack report wrote.some ≡ false
+      → limit_passed report ≡ false → status ≡ worst (map halt_status halts)
   -- that all was done says that all of the feeds was recorded
   pub whole : status ≡ statuses.Done → (r : Report) × (report ≡ Some r) × RecordsAll options r

@@ -33,7 +33,8 @@ abbrev pub first_end : List ℕ → List FeedReport → List Trouble
 first_end feed [] = []
 first_end feed (f ∷ fs) = end_troubles feed f.end
 
-pub record NamesRecorded (options : RecordOptions) (out : List ℕ) (feeds : List (List ℕ)) (old new : WorldState) (outcome : Outcome) : Type 0 where
+pub record NamesRecorded (options : RecordOptions) (out : List ℕ) (feeds : List (List ℕ)) (old new : WorldState)
+    (outcome : Outcome) : Type 0 where
   pub entries : List Opening
   pub opened : AreOpened (wanted (inputs_and_output kinds.Source feeds out)) entries
   pub leaves : Leaves old new entries
@@ -50,4 +51,6 @@ pub record NamesRecorded (options : RecordOptions) (out : List ℕ) (feeds : Lis
   pub stores : Each (λ (entry : Opening). entry.kind ≡ kinds.Live) outputs
   pub feeds_failed : outcome.feeds_failed.items ≡ map has_failed inputs
   pub out_failed : outcome.out_failed ≡ list_any has_failed outputs
-  pub failed : failed_names entries ≡ blamed_names (inputs_and_output kinds.Source feeds out) (failed_of outcome.feeds_failed.items outcome.out_failed)
+  pub failed : failed_names entries
+      ≡ blamed_names (inputs_and_output kinds.Source feeds out) (failed_of outcome.feeds_failed.items
+      outcome.out_failed)

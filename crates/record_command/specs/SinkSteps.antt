@@ -27,7 +27,8 @@ pub record CountsFit (w : WorldState) : Type 0 where
 -- ---- openings
 
 -- The feeds' sources and then the output's store were given, and this is seen of the store.
-pub record OutOpened (old new : WorldState) (out : List ℕ) (feeds : List (List ℕ)) (sources : List SourceState) (live : LiveState) : Type 0 where
+pub record OutOpened (old new : WorldState) (out : List ℕ) (feeds : List (List ℕ)) (sources : List SourceState)
+    (live : LiveState) : Type 0 where
   pub between : WorldState
   pub feeds_opened : FeedsOpened old between feeds sources
   pub opens : new.told ≡ option_map (λ (told : Told). with_opening told (opened kinds.Live out true)) between.told
@@ -54,7 +55,8 @@ pub record SinksOpened (old new : WorldState) (names : List (List ℕ)) (sinks :
   pub unused : Each (λ (s : SinkState). s.faults ≡ 0) sinks
 
 -- The first of them were given, and then one was refused.
-pub record SinkRefused (old new : WorldState) (names : List (List ℕ)) (sinks : List SinkState) (why : OutsideRefused) : Type 0 where
+pub record SinkRefused (old new : WorldState) (names : List (List ℕ)) (sinks : List SinkState) (why : OutsideRefused)
+    : Type 0 where
   pub between : WorldState
   pub first : SinksOpened old between (take (length sinks) names) sinks
   pub name : List ℕ
@@ -68,12 +70,14 @@ pub record SinkRefused (old new : WorldState) (names : List (List ℕ)) (sinks :
 -- what a keeping does to the names, where the world tells
 pub record PlacesSink (all now : Names) (name : List ℕ) (sink : SinkState) (well : Bool) : Type 0 where
   pub others : OthersSame all now name
-  pub placed : (bytes : List ℕ) → sink.took ≡ Some bytes → (now name ≡ Some bytes) ⊎ ((well ≡ false) × (now name ≡ all name))
+  pub placed : (bytes : List ℕ) → sink.took ≡ Some bytes
+      → (now name ≡ Some bytes) ⊎ ((well ≡ false) × (now name ≡ all name))
 
 -- A sink was taken back under its name; that went well, or not, and the sink or that failed, or not.
 pub record OneSinkKept (old new : WorldState) (name : List ℕ) (sink : SinkState) (failed : Bool) : Type 0 where
   pub well : Bool
-  pub keeps : (told : Told) → old.told ≡ Some told → (now : Told) × (new.told ≡ Some now) × PlacesSink told.names now.names name sink well
+  pub keeps : (told : Told) → old.told ≡ Some told
+      → (now : Told) × (new.told ≡ Some now) × PlacesSink told.names now.names name sink well
       × Notes told.log now.log kinds.Sink name (sink_keeping sink well)
   pub world : old.faults < 2 ^ 64 → new.faults ≡ added old.faults (if well then 0 else 1)
   pub inputs : new.input_faults ≡ old.input_faults
@@ -83,18 +87,21 @@ pub record OneSinkKept (old new : WorldState) (name : List ℕ) (sink : SinkStat
 
 -- The sinks were taken back, each under its name: where their openings were the last, their entries say how, and the names
 -- hold what they took. These failed.
-pub record SinksKept (old new : WorldState) (names : List (List ℕ)) (sinks : List SinkState) (failed : List Bool) : Type 0 where
+pub record SinksKept (old new : WorldState) (names : List (List ℕ)) (sinks : List SinkState) (failed : List Bool)
+    : Type 0 where
   pub kept : List SinkKept
   pub names_are : names ≡ sink_names kept
   pub sinks_are : sinks ≡ back_sinks kept
-  pub told : (told : Told) (log behind : List Opening) → old.told ≡ Some told → told.log ≡ log ++ (map given_sink names ++ behind) → NoSinkOut behind
+  pub told : (told : Told) (log behind : List Opening) → old.told ≡ Some told
+      → told.log ≡ log ++ (map given_sink names ++ behind) → NoSinkOut behind
       → (now : Told) × (new.told ≡ Some now) × (now.log ≡ log ++ (map sink_entry kept ++ behind))
       × ((other : List ℕ) → (Has names other → ⊥) → now.names other ≡ told.names other)
       × (AreOnce names → Each (SinkHolds told.names now.names) kept)
   pub world : old.faults < 2 ^ 64 → new.faults ≡ added old.faults (world_faults (map sink_entry kept))
   pub inputs : new.input_faults ≡ old.input_faults
   pub outputs : new.output_faults ≡ old.output_faults
-  pub watches : old.watch_faults < 2 ^ 64 → new.watch_faults ≡ added old.watch_faults (watch_faults (map sink_entry kept))
+  pub watches : old.watch_faults < 2 ^ 64
+      → new.watch_faults ≡ added old.watch_faults (watch_faults (map sink_entry kept))
   pub failed_are : failed ≡ map (λ (k : SinkKept). has_failed (sink_entry k)) kept
 
 -- The views were let go, whose faults were so many: nothing is seen of that but in their count.

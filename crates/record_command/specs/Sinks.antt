@@ -41,4 +41,5 @@ watch_faults (entry ∷ entries) = sink_faults entry.kind (object_faults entry.k
 
 -- what was left under the name of a sink that was kept: the bytes that it took, or what stood there, if the keeping failed
 abbrev pub SinkHolds : Names → Names → SinkKept → Type 0
-SinkHolds all now k = (bytes : List ℕ) → k.back.took ≡ Some bytes → (now k.name ≡ Some bytes) ⊎ ((k.well ≡ false) × (now k.name ≡ all k.name))
+SinkHolds all now k = (bytes : List ℕ) → k.back.took ≡ Some bytes
+    → (now k.name ≡ Some bytes) ⊎ ((k.well ≡ false) × (now k.name ≡ all k.name))

@@ -29,7 +29,8 @@ pub record FeedsOpened (old new : WorldState) (feeds : List (List ℕ)) (sources
   pub unused : Each (λ (s : SourceState). s.faults ≡ 0) sources
 
 -- The first of them were given, and then one was refused.
-pub record FeedRefused (old new : WorldState) (feeds : List (List ℕ)) (sources : List SourceState) (why : OutsideRefused) : Type 0 where
+pub record FeedRefused (old new : WorldState) (feeds : List (List ℕ)) (sources : List SourceState)
+    (why : OutsideRefused) : Type 0 where
   pub between : WorldState
   pub first : FeedsOpened old between (take (length sources) feeds) sources
   pub name : List ℕ
@@ -55,14 +56,18 @@ NoSourceOut entries = (name : List ℕ) → NoneIsOut kinds.Source name entries
 
 -- The sources were taken back, each under its feed's name: where the openings of these feeds were the last of sources, their
 -- entries say how. These failed.
-pub record FeedsKept (old new : WorldState) (feeds : List (List ℕ)) (sources : List SourceState) (failed : List Bool) : Type 0 where
+pub record FeedsKept (old new : WorldState) (feeds : List (List ℕ)) (sources : List SourceState) (failed : List Bool)
+    : Type 0 where
   pub kept : List FeedKept
   pub names_are : feeds ≡ feed_names_kept kept
   pub sources_are : sources ≡ back_sources kept
-  pub told : (told : Told) (log behind : List Opening) → old.told ≡ Some told → told.log ≡ log ++ (map feed_given feeds ++ behind) → NoSourceOut behind
-      → (now : Told) × (new.told ≡ Some now) × (now.names ≡ told.names) × (now.log ≡ log ++ (map feed_entry kept ++ behind))
+  pub told : (told : Told) (log behind : List Opening) → old.told ≡ Some told
+      → told.log ≡ log ++ (map feed_given feeds ++ behind) → NoSourceOut behind
+      → (now : Told) × (new.told ≡ Some now) × (now.names ≡ told.names)
+      × (now.log ≡ log ++ (map feed_entry kept ++ behind))
   pub world : old.faults < 2 ^ 64 → new.faults ≡ added old.faults (world_faults (map feed_entry kept))
-  pub inputs : old.input_faults < 2 ^ 64 → new.input_faults ≡ added old.input_faults (input_faults (map feed_entry kept))
+  pub inputs : old.input_faults < 2 ^ 64
+      → new.input_faults ≡ added old.input_faults (input_faults (map feed_entry kept))
   pub outputs : new.output_faults ≡ old.output_faults
   pub watches : new.watch_faults ≡ old.watch_faults
   pub failed_are : failed ≡ map (λ (k : FeedKept). has_failed (feed_entry k)) kept

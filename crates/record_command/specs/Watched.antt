@@ -52,7 +52,8 @@ reported_with report sealed watches = record { report = report; sealed = sealed;
 
 -- the feeds, then the output, and then the watch files
 abbrev pub wanted_names : List ℕ → List (List ℕ) → List (List ℕ) → List Wanted
-wanted_names out watches feeds = wanted (inputs_and_output kinds.Source feeds out) ++ map (λ (name : List ℕ). (kinds.Sink, name)) watches
+wanted_names out watches feeds =
+    wanted (inputs_and_output kinds.Source feeds out) ++ map (λ (name : List ℕ). (kinds.Sink, name)) watches
 
 -- a live store or a sink was given under that name
 pub record IsWrittenBeside (entries : List Opening) (name : List ℕ) : Type 0 where
@@ -65,7 +66,8 @@ pub record IsWrittenBeside (entries : List Opening) (name : List ℕ) : Type 0 w
 -- Where the world tells, it goes on telling: these openings stand behind those before, and a name that isn't written holds
 -- what it held.
 abbrev pub LeavesBeside : WorldState → WorldState → List Opening → Type 0
-LeavesBeside old new entries = (told : Told) → old.told ≡ Some told → (now : Told) × (new.told ≡ Some now) × (now.log ≡ told.log ++ entries)
+LeavesBeside old new entries = (told : Told) → old.told ≡ Some told
+    → (now : Told) × (new.told ≡ Some now) × (now.log ≡ told.log ++ entries)
     × ((name : List ℕ) → (IsWrittenBeside entries name → ⊥) → now.names name ≡ told.names name)
 
 -- the world counted its own failures, the faults of what it took back, and those of the views that were let go
@@ -139,7 +141,8 @@ watch_flags entries reports = with_ends (map has_failed entries) reports
 -- ---- with a report
 
 -- The feeds' sources were recorded into the output's store, beside watchers.
-pub record ReportedBeside (request : Requested) (old new : WorldState) (entries : List Opening) (failures : ℕ) (did : Reporting) : Type 0 where
+pub record ReportedBeside (request : Requested) (old new : WorldState) (entries : List Opening) (failures : ℕ)
+    (did : Reporting) : Type 0 where
   -- as the world gave them and as it took them back, in the order of the words, and whether that went well
   pub given : List SourceState
   pub kept_feeds : List FeedKept
@@ -168,23 +171,30 @@ pub record ReportedBeside (request : Requested) (old new : WorldState) (entries 
   -- each watcher ended with its cause
   pub ends : Each (λ (w : Watch). EndsSo live viewed did.sealed w w.report.end) seen
   pub sealed_ends : did.sealed ≡ true → Each (λ (w : Watch). w.report.end ≡ watch_ends.Unsealed → ⊥) seen
-  pub fault_cause : Each (λ (w : Watch). is_watch_fault w.report.end ≡ true → Rose old.output_faults new.output_faults ⊎ Rose old.watch_faults new.watch_faults) seen
+  pub fault_cause : Each
+      (λ (w : Watch). is_watch_fault w.report.end ≡ true → Rose old.output_faults new.output_faults ⊎ Rose old.watch_faults new.watch_faults)
+      seen
   -- and then the output's name holds the file of that history
   pub file : (told now : Told) → old.told ≡ Some told → new.told ≡ Some now
-      → OutputHolds request.options.file recorded.history did.report.writer live_kept (told.names request.names.out) (now.names request.names.out)
+      → OutputHolds request.options.file recorded.history did.report.writer live_kept (told.names request.names.out)
+      (now.names request.names.out)
   -- and the watch files what the watchers' sinks took: where the directory was sealed, the text of that history's blocks
-  pub placed : (told now : Told) → old.told ≡ Some told → new.told ≡ Some now → Each (SinkHolds told.names now.names) kept_sinks
+  pub placed : (told now : Told) → old.told ≡ Some told → new.told ≡ Some now
+      → Each (SinkHolds told.names now.names) kept_sinks
   pub texts : (told : Told) → old.told ≡ Some told → AreReadable request.options.file → did.sealed ≡ true
       → Each (IsWatchedFile request.options.file request.range recorded.history did.report.writer) seen
   -- there no watcher finds a flaw; and where it wasn't sealed, each wrote the same of blocks of its own
-  pub unflawed : (told : Told) → old.told ≡ Some told → did.sealed ≡ true → Each (λ (w : Watch). is_flaw w.report.end ≡ false) seen
+  pub unflawed : (told : Told) → old.told ≡ Some told → did.sealed ≡ true
+      → Each (λ (w : Watch). is_flaw w.report.end ≡ false) seen
   pub texts_alone : did.sealed ≡ false → Each (IsWatchedAlone request.range) seen
-  pub kept_are : entries ≡ map feed_entry kept_feeds ++ live_entry request.names.out live_now live_kept ∷ map sink_entry kept_sinks
+  pub kept_are : entries
+      ≡ map feed_entry kept_feeds ++ live_entry request.names.out live_now live_kept ∷ map sink_entry kept_sinks
 
 -- ---- without a report
 
 -- Nothing was read from the feeds and nothing written: the watch files hold what they held, or nothing, as the output does.
-pub record UnreportedBeside (out : List ℕ) (watches : List (List ℕ)) (old new : WorldState) (entries : List Opening) (failures : ℕ) : Type 0 where
+pub record UnreportedBeside (out : List ℕ) (watches : List (List ℕ)) (old new : WorldState) (entries : List Opening)
+    (failures : ℕ) : Type 0 where
   pub same : Unreported out old new entries
   pub sinks : watch_faults entries ≡ 0
   pub views : failures ≡ 0

@@ -65,7 +65,8 @@ flaws_of (name ∷ names) (report ∷ reports) = watch_troubles name report.end 
 
 -- memory lacked for the recording, for telling the watchers of the end, or for a watcher
 abbrev pub lacks_beside : Report → Bool → List WatchReport → Bool
-lacks_beside r sealed reports = lacks_memory r || (not sealed || list_any (λ (w : WatchReport). is_memory_watch w.end) reports)
+lacks_beside r sealed reports =
+    lacks_memory r || (not sealed || list_any (λ (w : WatchReport). is_memory_watch w.end) reports)
 
 -- memory lacked exactly where the reports name that; or there are none though no count rose
 abbrev pub LackIsToldBeside : WatchedCounts → WatchedCounts → Option Report → Bool → List WatchReport → Bool → Type 0
@@ -83,17 +84,22 @@ pub record Blamed : Type 0 where
 -- As the counts tell: each that is blamed has its cause, and for each count that rose some name is blamed. A watcher that the
 -- store refused a view has the store's count as its cause.
 pub record CausesBeside (before now : WatchedCounts) (b : Blamed) : Type 0 where
-  pub feed_cause : some_failed b.feeds ≡ true → Rose before.seen.world now.seen.world ⊎ Rose before.seen.inputs now.seen.inputs
+  pub feed_cause : some_failed b.feeds ≡ true
+      → Rose before.seen.world now.seen.world ⊎ Rose before.seen.inputs now.seen.inputs
   pub out_cause : b.out ≡ true → Rose before.seen.world now.seen.world ⊎ Rose before.seen.outputs now.seen.outputs
-  pub watch_cause : some_failed b.watches ≡ true → Rose before.seen.world now.seen.world ⊎ (Rose before.seen.outputs now.seen.outputs ⊎ Rose before.watches now.watches)
+  pub watch_cause : some_failed b.watches ≡ true
+      → Rose before.seen.world now.seen.world
+      ⊎ (Rose before.seen.outputs now.seen.outputs ⊎ Rose before.watches now.watches)
   pub inputs_told : Rose before.seen.inputs now.seen.inputs → some_failed b.feeds ≡ true
   pub outputs_told : Rose before.seen.outputs now.seen.outputs → b.out ≡ true
   pub watches_told : Rose before.watches now.watches → some_failed b.watches ≡ true
-  pub world_told : Rose before.seen.world now.seen.world → (some_failed b.feeds ≡ true) ⊎ ((b.out ≡ true) ⊎ (some_failed b.watches ≡ true))
+  pub world_told : Rose before.seen.world now.seen.world
+      → (some_failed b.feeds ≡ true) ⊎ ((b.out ≡ true) ⊎ (some_failed b.watches ≡ true))
 
 -- These are the entries of the feeds, of the output and of the watchers that were reached, and exactly those are blamed that
 -- failed, but where a count stands at the end of its type and so can't tell.
-pub record BlamesExactly (old : WorldState) (watches feeds : List (List ℕ)) (entries : List Opening) (reports : List WatchReport) (b : Blamed) : Type 0 where
+pub record BlamesExactly (old : WorldState) (watches feeds : List (List ℕ)) (entries : List Opening)
+    (reports : List WatchReport) (b : Blamed) : Type 0 where
   pub inputs : List Opening
   pub outputs : List Opening
   pub sinks : List Opening
@@ -112,8 +118,10 @@ pub record BlamesExactly (old : WorldState) (watches feeds : List (List ℕ)) (e
 -- all troubles, in their order: those of the feeds, of the output, of the watchers, and the others
 abbrev pub watched_troubles : Named → Option Report → List WatchReport → Bool → Blamed → Bool → List Trouble
 watched_troubles names report reports lacked b printing =
-    told_of names.feeds (ends_of names.feeds (reports_in report)) b.feeds (when b.out (fault names.out) ++ (when (limit_passed report) (output_limit names.out)
-    ++ told_of names.watches (flaws_of names.watches reports) b.watches (when printing output_fault ++ when lacked no_memory)))
+    told_of names.feeds (ends_of names.feeds (reports_in report)) b.feeds (when b.out (fault names.out)
+    ++ (when (limit_passed report) (output_limit names.out)
+    ++ told_of names.watches (flaws_of names.watches reports) b.watches (when printing output_fault
+    ++ when lacked no_memory)))
 
 -- ---- the status
 
@@ -126,18 +134,21 @@ watch_status watch_ends.Memory = statuses.Done
 
 -- that of the ends of the feeds and of the watchers
 abbrev pub ends_status_beside : List FeedReport → List WatchReport → Status
-ends_status_beside feeds reports = worst (map (λ (f : FeedReport). end_status f.end) feeds ++ map (λ (w : WatchReport). watch_status w.end) reports)
+ends_status_beside feeds reports =
+    worst (map (λ (f : FeedReport). end_status f.end) feeds ++ map (λ (w : WatchReport). watch_status w.end) reports)
 
 -- a want of memory where memory lacked; else a fault where a count rose; else a limit where one would be passed; else that of the
 -- ends
-pub record EndsBeside (before now : WatchedCounts) (report : Option Report) (reports : List WatchReport) (lacked : Bool) (status : Status) : Type 0 where
+pub record EndsBeside (before now : WatchedCounts) (report : Option Report) (reports : List WatchReport) (lacked : Bool)
+    (status : Status) : Type 0 where
   pub memory : lacked ≡ true → status ≡ statuses.Memory
   pub rose : lacked ≡ false → AnyCountRose before now → status ≡ statuses.Fault
   pub calm : lacked ≡ false → (AnyCountRose before now → ⊥) → (r : Report) → report ≡ Some r
       → status ≡ (if passes_limit r then statuses.Limit else ends_status_beside r.feeds.items reports)
 
 -- all of the feeds was recorded, the file was closed, the watchers were told of that, and each wrote all that it had to
-pub record RecordsAllBeside (options : RecordOptions) (r : Report) (sealed : Bool) (reports : List WatchReport) : Type 0 where
+pub record RecordsAllBeside (options : RecordOptions) (r : Report) (sealed : Bool) (reports : List WatchReport)
+    : Type 0 where
   pub all : RecordsAll options r
   pub sealed_is : sealed ≡ true
   pub whole : Each (λ (w : WatchReport). w.end ≡ watch_ends.Whole) reports
@@ -145,7 +156,8 @@ pub record RecordsAllBeside (options : RecordOptions) (r : Report) (sealed : Boo
 -- ---- the command
 
 -- what `record` with watchers does
-pub record RecordsWatched (request : Requested) (old new : Scene) (report : Option Report) (status : Status) : Type 0 where
+pub record RecordsWatched (request : Requested) (old new : Scene) (report : Option Report) (status : Status)
+    : Type 0 where
   -- these names were opened, and nothing else; all failures are counted
   pub entries : List Opening
   pub opened : AreOpened (wanted_names request.names.out request.names.watches request.names.feeds) entries
@@ -155,9 +167,11 @@ pub record RecordsWatched (request : Requested) (old new : Scene) (report : Opti
   -- with a report the feeds were recorded, the output holds the file, and the watchers' names hold what these reported
   pub sealed : Bool
   pub reports : List WatchReport
-  pub reported : (r : Report) → report ≡ Some r → ReportedBeside request old.world new.world entries failures (reported_with r sealed reports)
+  pub reported : (r : Report) → report ≡ Some r
+      → ReportedBeside request old.world new.world entries failures (reported_with r sealed reports)
   -- without one nothing was read or written
-  pub unreported : report ≡ None → UnreportedBeside request.names.out request.names.watches old.world new.world entries failures
+  pub unreported : report ≡ None
+      → UnreportedBeside request.names.out request.names.watches old.world new.world entries failures
   pub none : report ≡ None → reports ≡ []
   pub spares : SparesOutput request.names.out request.names.feeds old.world new.world
   pub lacked : Bool
@@ -175,8 +189,10 @@ pub record RecordsWatched (request : Requested) (old new : Scene) (report : Opti
   pub ended : EndsBeside (watched_counts_in old) (watched_counts_in new) report reports lacked status
   -- where the world tells, the bytes under the feeds' names decide the status, unless a count rises, memory lacks, or a limit
   -- would be passed
-  pub decided : (told : Told) (halts : List Halt) → old.world.told ≡ Some told → AllZip (FeedHalts told) request.names.feeds halts
-      → (AnyCountRose (watched_counts_in old) (watched_counts_in new) → ⊥) → lacked ≡ false → limit_passed report ≡ false
-      → status ≡ worst (map halt_status halts)
+  pub decided : (told : Told) (halts : List Halt) → old.world.told ≡ Some told
+      → AllZip (FeedHalts told) request.names.feeds halts
+      → (AnyCountRose (watched_counts_in old) (watched_counts_in new) → ⊥) → lacked ≡ false
+      → limit_passed report ≡ false → status ≡ worst (map halt_status halts)
   -- that all was done says that all of the feeds was recorded, and that each watcher wrote all that it had to
-  pub whole : status ≡ statuses.Done → (r : Report) × (report ≡ Some r) × RecordsAllBeside request.options r sealed reports
+  pub whole : status ≡ statuses.Done
+      → (r : Report) × (report ≡ Some r) × RecordsAllBeside request.options r sealed reports

@@ -38,7 +38,8 @@ pub record NamesWatched (request : Requested) (old new : WorldState) (outcome : 
   pub counts : CountsBeside old new entries failures
   pub reported : (r : Report) → outcome.report ≡ Some r
       → ReportedBeside request old new entries failures (reported_with r outcome.sealed outcome.watches.items)
-  pub unreported : outcome.report ≡ None → UnreportedBeside request.names.out request.names.watches old new entries failures
+  pub unreported : outcome.report ≡ None
+      → UnreportedBeside request.names.out request.names.watches old new entries failures
   pub none : outcome.report ≡ None → outcome.watches.items ≡ []
   pub spares : SparesOutput request.names.out request.names.feeds old new
   -- the entries of the feeds failed so, then that of the output, if it was reached, and then those of the watch files
@@ -55,11 +56,14 @@ pub record NamesWatched (request : Requested) (old new : WorldState) (outcome : 
   pub feeds_failed : outcome.feeds_failed.items ≡ map has_failed inputs
   pub out_failed : outcome.out_failed ≡ list_any has_failed outputs
   pub watches_failed : outcome.watches_failed.items ≡ watch_flags sinks outcome.watches.items
-  pub failed : failed_names (inputs ++ outputs) ≡ blamed_names (inputs_and_output kinds.Source request.names.feeds request.names.out) (failed_of outcome.feeds_failed.items outcome.out_failed)
+  pub failed : failed_names (inputs ++ outputs)
+      ≡ blamed_names (inputs_and_output kinds.Source request.names.feeds request.names.out)
+      (failed_of outcome.feeds_failed.items outcome.out_failed)
   -- a watch file is blamed only with a cause, and one is where its count rose
   pub watch_cause : some_failed outcome.watches_failed.items ≡ true
       → Rose old.faults new.faults ⊎ (Rose old.output_faults new.output_faults ⊎ Rose old.watch_faults new.watch_faults)
-  pub watch_told : old.watch_faults < 2 ^ 64 - 1 → Rose old.watch_faults new.watch_faults → some_failed outcome.watches_failed.items ≡ true
+  pub watch_told : old.watch_faults < 2 ^ 64 - 1 → Rose old.watch_faults new.watch_faults
+      → some_failed outcome.watches_failed.items ≡ true
 
 -- ---- the answer
 
@@ -77,24 +81,30 @@ abbrev pub watch_flags_of : List (List ℕ) → WatchedFailures → List Bool
 watch_flags_of watches failed = if failed.every_watch then map (λ (name : List ℕ). true) watches else failed.watches.now
 
 abbrev pub blamed_in : List (List ℕ) → List (List ℕ) → WatchedFailures → Blamed
-blamed_in watches feeds failed = record { feeds = flags_of feeds failed.parts; out = failed.parts.out; watches = watch_flags_of watches failed }
+blamed_in watches feeds failed =
+    record { feeds = flags_of feeds failed.parts; out = failed.parts.out; watches = watch_flags_of watches failed }
 
 -- some part failed
 abbrev pub AnyPartFailed : WatchedFailures → Type 0
 AnyPartFailed failed = PartFailed failed.parts ⊎ ((failed.every_watch ≡ true) ⊎ (some_failed failed.watches.now ≡ true))
 
 -- what a recording told of failures and what the counts tell: which parts failed
-pub record WatchedPartsShow (before now : WatchedCounts) (watches feeds : List (List ℕ)) (outcome : WatchedOutcome) (failed : WatchedFailures) : Type 0 where
+pub record WatchedPartsShow (before now : WatchedCounts) (watches feeds : List (List ℕ)) (outcome : WatchedOutcome)
+    (failed : WatchedFailures) : Type 0 where
   pub causes : CausesBeside before now (blamed_in watches feeds failed)
   pub printing : (failed.parts.printing ≡ true) ↔ Rose before.seen.printing now.seen.printing
   pub any : AnyCountRose before now → AnyPartFailed failed
   pub feeds_told : failed.parts.inputs.now ≡ outcome.feeds_failed.items
   pub watches_told : failed.watches.now ≡ outcome.watches_failed.items
   -- nothing else is blamed where each count that rose shows in what the recording told
-  pub feeds_are : (Rose before.seen.inputs now.seen.inputs → some_failed outcome.feeds_failed.items ≡ true) → flags_of feeds failed.parts ≡ outcome.feeds_failed.items
-  pub watches_are : (Rose before.watches now.watches → some_failed outcome.watches_failed.items ≡ true) → watch_flags_of watches failed ≡ outcome.watches_failed.items
+  pub feeds_are : (Rose before.seen.inputs now.seen.inputs → some_failed outcome.feeds_failed.items ≡ true)
+      → flags_of feeds failed.parts ≡ outcome.feeds_failed.items
+  pub watches_are : (Rose before.watches now.watches → some_failed outcome.watches_failed.items ≡ true)
+      → watch_flags_of watches failed ≡ outcome.watches_failed.items
   pub out_is : (Rose before.seen.outputs now.seen.outputs → outcome.out_failed ≡ true)
-      → (Rose before.seen.world now.seen.world → (some_failed outcome.feeds_failed.items ≡ true) ⊎ ((outcome.out_failed ≡ true) ⊎ (some_failed outcome.watches_failed.items ≡ true)))
+      → (Rose before.seen.world now.seen.world
+      → (some_failed outcome.feeds_failed.items ≡ true)
+      ⊎ ((outcome.out_failed ≡ true) ⊎ (some_failed outcome.watches_failed.items ≡ true)))
       → failed.parts.out ≡ outcome.out_failed
 
 -- memory lacked exactly where the reports name that, or where there are none though no part failed
@@ -103,7 +113,10 @@ LacksMemoryBeside None sealed reports failed lacked = (AnyPartFailed failed → 
 LacksMemoryBeside (Some r) sealed reports failed lacked = lacked ≡ lacks_beside r sealed reports
 
 -- what standard error is told of a recording with watchers, and the status
-pub record AnswersBeside (names : Named) (outcome : WatchedOutcome) (failed : WatchedFailures) (before now : SinkState) (status : Status) : Type 0 where
+pub record AnswersBeside (names : Named) (outcome : WatchedOutcome) (failed : WatchedFailures) (before now : SinkState)
+    (status : Status) : Type 0 where
   pub lacked : Bool
   pub lacks : LacksMemoryBeside outcome.report outcome.sealed outcome.watches.items failed lacked
-  pub told : Complains (watched_troubles names outcome.report outcome.watches.items lacked (blamed_in names.watches names.feeds failed) failed.parts.printing) before now status
+  pub told : Complains
+      (watched_troubles names outcome.report outcome.watches.items lacked (blamed_in names.watches names.feeds failed) failed.parts.printing)
+      before now status

@@ -76,10 +76,12 @@ pub(crate) fn open_feeds<W: World>(
 ) -> Result<(), OutsideRefused>
     requires none { sources.old.items ≡ [] }
     requires room { length feeds.now ≤ vec_capacity sources.old }
-    ensures all { OnOk result (FeedsOpened (W.state world.old) (W.state world.new) feeds.now (map W.Source.state sources.new.items)) }
+    ensures all { OnOk result (FeedsOpened (W.state world.old) (W.state world.new) feeds.now
+        (map W.Source.state sources.new.items)) }
     ensures many { OnOk result (vec_len sources.new ≡ length feeds.now) }
     ensures fewer { OnErr result (vec_len sources.new < length feeds.now) }
-    ensures some { IfErr result (FeedRefused (W.state world.old) (W.state world.new) feeds.now (map W.Source.state sources.new.items)) }
+    ensures some { IfErr result (FeedRefused (W.state world.old) (W.state world.new) feeds.now
+        (map W.Source.state sources.new.items)) }
 {
     'feeds: for feed in feeds {
         match world.source(feed.as_str()) {
@@ -110,7 +112,8 @@ pub(crate) fn keep_feeds<W: World>(
     requires many { vec_len sources ≡ length feeds.now }
     requires none { failed.old.items ≡ [] }
     requires room { vec_len sources ≤ vec_capacity failed.old }
-    ensures kept { FeedsKept (W.state world.old) (W.state world.new) feeds.now (map W.Source.state sources.items) failed.new.items }
+    ensures kept { FeedsKept (W.state world.old) (W.state world.new) feeds.now (map W.Source.state sources.items)
+        failed.new.items }
     ensures count { vec_len failed.new ≡ vec_len sources }
     ensures room { vec_capacity failed.new ≡ vec_capacity failed.old }
 {
@@ -151,7 +154,8 @@ fn record_opened<R: Threads + Wait + Sync, W: World>(
     requires many { vec_len room.sources ≡ length feeds.now }
     requires none { room.failed.items ≡ [] }
     requires room { length feeds.now ≤ vec_capacity room.failed }
-    ensures recorded { (before : WorldState) → FeedsOpened before (W.state world.old) feeds.now (map W.Source.state room.sources.items)
+    ensures recorded { (before : WorldState)
+        → FeedsOpened before (W.state world.old) feeds.now (map W.Source.state room.sources.items)
         → before.faults < 2 ^ 64 → before.input_faults < 2 ^ 64 → before.output_faults < 2 ^ 64
         → NamesRecorded options.now out.now feeds.now before (W.state world.new) result }
     ensures listed { (r : _) → result.report ≡ Some r → Each (λ f. ListsMessages f listed) r.feeds.items }

@@ -14,10 +14,12 @@ pub(crate) fn open_sinks<W: World>(
 ) -> Result<(), OutsideRefused>
     requires none { sinks.old.items ≡ [] }
     requires room { length names.now ≤ vec_capacity sinks.old }
-    ensures all { OnOk result (SinksOpened (W.state world.old) (W.state world.new) names.now (map W.Sink.state sinks.new.items)) }
+    ensures all { OnOk result (SinksOpened (W.state world.old) (W.state world.new) names.now
+        (map W.Sink.state sinks.new.items)) }
     ensures many { OnOk result (vec_len sinks.new ≡ length names.now) }
     ensures fewer { OnErr result (vec_len sinks.new < length names.now) }
-    ensures some { IfErr result (SinkRefused (W.state world.old) (W.state world.new) names.now (map W.Sink.state sinks.new.items)) }
+    ensures some { IfErr result (SinkRefused (W.state world.old) (W.state world.new) names.now
+        (map W.Sink.state sinks.new.items)) }
 {
     'names: for name in names {
         match world.sink(name.as_str()) {
@@ -47,7 +49,8 @@ pub(crate) fn keep_sinks<W: World>(
     requires many { vec_len sinks ≡ length names.now }
     requires none { failed.old.items ≡ [] }
     requires room { vec_len sinks ≤ vec_capacity failed.old }
-    ensures kept { SinksKept (W.state world.old) (W.state world.new) names.now (map W.Sink.state sinks.items) failed.new.items }
+    ensures kept { SinksKept (W.state world.old) (W.state world.new) names.now (map W.Sink.state sinks.items)
+        failed.new.items }
     ensures count { vec_len failed.new ≡ vec_len sinks }
     ensures room { vec_capacity failed.new ≡ vec_capacity failed.old }
 {

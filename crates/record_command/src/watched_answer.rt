@@ -74,10 +74,15 @@ pub fn failed_watched_parts<'a>(
     now: &WatchedCounts,
     outcome: &'a WatchedOutcome,
 ) -> WatchedFailures<'a>
-    requires feed_cause { some_failed outcome.now.feeds_failed.items ≡ true → Rose before.now.seen.world now.now.seen.world ⊎ Rose before.now.seen.inputs now.now.seen.inputs }
-    requires out_cause { outcome.now.out_failed ≡ true → Rose before.now.seen.world now.now.seen.world ⊎ Rose before.now.seen.outputs now.now.seen.outputs }
-    requires watch_cause { some_failed outcome.now.watches_failed.items ≡ true → Rose before.now.seen.world now.now.seen.world ⊎ (Rose before.now.seen.outputs now.now.seen.outputs ⊎ Rose before.now.watches now.now.watches) }
-    ensures { (watches feeds : List (List ℕ)) → 1 ≤ length watches → 1 ≤ length feeds → WatchedPartsShow before.now now.now watches feeds outcome.now result }
+    requires feed_cause { some_failed outcome.now.feeds_failed.items ≡ true
+        → Rose before.now.seen.world now.now.seen.world ⊎ Rose before.now.seen.inputs now.now.seen.inputs }
+    requires out_cause { outcome.now.out_failed ≡ true
+        → Rose before.now.seen.world now.now.seen.world ⊎ Rose before.now.seen.outputs now.now.seen.outputs }
+    requires watch_cause { some_failed outcome.now.watches_failed.items ≡ true
+        → Rose before.now.seen.world now.now.seen.world
+        ⊎ (Rose before.now.seen.outputs now.now.seen.outputs ⊎ Rose before.now.watches now.now.watches) }
+    ensures { (watches feeds : List (List ℕ)) → 1 ≤ length watches → 1 ≤ length feeds
+        → WatchedPartsShow before.now now.now watches feeds outcome.now result }
 {
     let world = rose(before.seen.world, now.seen.world);
     let inputs = rose(before.seen.inputs, now.seen.inputs);
@@ -132,7 +137,8 @@ fn flaw_complaint<'a>(
 
 // Whether the watcher at the index failed.
 fn is_watch_blamed(failed: WatchedFailures<'_>, index: usize) -> bool
-    ensures { (watches : List (List ℕ)) → index + 1 ≤ length watches → result ≡ first_failed (drop index (watch_flags_of watches failed.entry)) }
+    ensures { (watches : List (List ℕ)) → index + 1 ≤ length watches
+        → result ≡ first_failed (drop index (watch_flags_of watches failed.entry)) }
 {
     if failed.every_watch {
         return true;
@@ -152,7 +158,9 @@ fn put_watch_complaints<'a>(
 )
     requires few { length watches.now ≤ watcher_limit }
     requires room { array_vec_len complaints.old + 2 * length watches.now ≤ MOST_COMPLAINTS }
-    ensures troubles { flat_map complained complaints.new.items ≡ flat_map complained complaints.old.items ++ told_of watches.now (flaws_of watches.now reports.now) (watch_flags_of watches.now failed.entry) [] }
+    ensures troubles { flat_map complained complaints.new.items
+        ≡ flat_map complained complaints.old.items
+        ++ told_of watches.now (flaws_of watches.now reports.now) (watch_flags_of watches.now failed.entry) [] }
     ensures many { array_vec_len complaints.new ≡ array_vec_len complaints.old + 2 * length watches.now }
 {
     'watches: for (i, watch) in watches.iter().enumerate() {
@@ -218,7 +226,8 @@ pub fn answer_watched<'a, E: Sink>(
 ) -> Status
     requires few { length feeds.now ≤ feed_limit }
     requires watched { length watches.now ≤ watcher_limit }
-    ensures { AnswersBeside (named out.now watches.now feeds.now) outcome.now failed.entry (E.state err.old) (E.state err.new) result }
+    ensures { AnswersBeside (named out.now watches.now feeds.now) outcome.now failed.entry (E.state err.old)
+        (E.state err.new) result }
 {
     let lacked = lacks_memory_beside(outcome, failed);
     let telling = Telling {

@@ -56,9 +56,11 @@ fn make_rooms<S: Drop, K: Drop>(
     watches: usize,
 ) -> Result<Rooms<S, K>, Memory>
     ensures sources { IfOk result (λ rooms. (rooms.sources.items ≡ []) × (feeds ≤ vec_capacity rooms.sources)) }
-    ensures feeds_failed { IfOk result (λ rooms. (rooms.feeds_failed.items ≡ []) × (feeds ≤ vec_capacity rooms.feeds_failed)) }
+    ensures feeds_failed { IfOk result (λ rooms. (rooms.feeds_failed.items ≡ [])
+        × (feeds ≤ vec_capacity rooms.feeds_failed)) }
     ensures sinks { IfOk result (λ rooms. (rooms.sinks.items ≡ []) × (watches ≤ vec_capacity rooms.sinks)) }
-    ensures watches_failed { IfOk result (λ rooms. (rooms.watches_failed.items ≡ []) × (watches ≤ vec_capacity rooms.watches_failed)) }
+    ensures watches_failed { IfOk result (λ rooms. (rooms.watches_failed.items ≡ [])
+        × (watches ≤ vec_capacity rooms.watches_failed)) }
 {
     let Room {
         sources,
@@ -90,7 +92,8 @@ fn unwatched(
 ) -> WatchedOutcome
     ensures report { result.report ≡ None }
     ensures watches { result.watches.items ≡ [] }
-    ensures failed { (result.feeds_failed ≡ feeds_failed) × (result.out_failed ≡ out_failed) × (result.watches_failed ≡ watches_failed) }
+    ensures failed { (result.feeds_failed ≡ feeds_failed) × (result.out_failed ≡ out_failed)
+        × (result.watches_failed ≡ watches_failed) }
 {
     WatchedOutcome {
         report: None,
@@ -166,9 +169,11 @@ fn record_beside<R: Threads + Wait + Sync, W: World>(
     requires many_sinks { vec_len rooms.sinks ≡ length watch_names.now }
     requires no_sinks { rooms.watches_failed.items ≡ [] }
     requires sink_room { length watch_names.now ≤ vec_capacity rooms.watches_failed }
-    ensures recorded { (before between : WorldState) → OutOpened before between out.now feeds.now (map W.Source.state rooms.sources.items) (W.Live.state live)
+    ensures recorded { (before between : WorldState)
+        → OutOpened before between out.now feeds.now (map W.Source.state rooms.sources.items) (W.Live.state live)
         → SinksOpened between (W.state world.old) watch_names.now (map W.Sink.state rooms.sinks.items)
-        → NamesWatched (requested options.now range out.now watch_names.now feeds.now) before (W.state world.new) result }
+        → NamesWatched (requested options.now range out.now watch_names.now feeds.now) before (W.state world.new)
+        result }
     ensures listed { (r : _) → result.report ≡ Some r → Each (λ f. ListsMessages f listed) r.feeds.items }
 {
     let Rooms {
@@ -231,8 +236,11 @@ fn open_watches<R: Threads + Wait + Sync, W: World>(
     requires no_sinks { (rooms.sinks.items ≡ []) × (rooms.watches_failed.items ≡ []) }
     requires sinks { length watch_names.now ≤ vec_capacity rooms.sinks }
     requires sink_room { length watch_names.now ≤ vec_capacity rooms.watches_failed }
-    ensures recorded { (before : WorldState) → OutOpened before (W.state world.old) out.now feeds.now (map W.Source.state rooms.sources.items) (W.Live.state live)
-        → NamesWatched (requested options.now range out.now watch_names.now feeds.now) before (W.state world.new) result }
+    ensures recorded { (before : WorldState)
+        → OutOpened before (W.state world.old) out.now feeds.now (map W.Source.state rooms.sources.items)
+        (W.Live.state live)
+        → NamesWatched (requested options.now range out.now watch_names.now feeds.now) before (W.state world.new)
+        result }
     ensures listed { (r : _) → result.report ≡ Some r → Each (λ f. ListsMessages f listed) r.feeds.items }
 {
     let mut rooms = rooms;
@@ -302,8 +310,10 @@ fn open_output<R: Threads + Wait + Sync, W: World>(
     requires no_sinks { (rooms.sinks.items ≡ []) × (rooms.watches_failed.items ≡ []) }
     requires sinks { length watch_names.now ≤ vec_capacity rooms.sinks }
     requires sink_room { length watch_names.now ≤ vec_capacity rooms.watches_failed }
-    ensures recorded { (before : WorldState) → FeedsOpened before (W.state world.old) feeds.now (map W.Source.state rooms.sources.items) → CountsFit before
-        → NamesWatched (requested options.now range out.now watch_names.now feeds.now) before (W.state world.new) result }
+    ensures recorded { (before : WorldState)
+        → FeedsOpened before (W.state world.old) feeds.now (map W.Source.state rooms.sources.items) → CountsFit before
+        → NamesWatched (requested options.now range out.now watch_names.now feeds.now) before (W.state world.new)
+        result }
     ensures listed { (r : _) → result.report ≡ Some r → Each (λ f. ListsMessages f listed) r.feeds.items }
 {
     match world.live(out) {
@@ -359,7 +369,8 @@ pub(crate) fn record_watched_names<R: Threads + Wait + Sync, W: World>(
     requires inputs_fit { (W.state world.old).input_faults < 2 ^ 64 }
     requires outputs_fit { (W.state world.old).output_faults < 2 ^ 64 }
     requires watches_fit { (W.state world.old).watch_faults < 2 ^ 64 }
-    ensures recorded { NamesWatched (requested options.now range out.now watch_names.now feeds.now) (W.state world.old) (W.state world.new) result }
+    ensures recorded { NamesWatched (requested options.now range out.now watch_names.now feeds.now) (W.state world.old)
+        (W.state world.new) result }
     ensures listed { (r : _) → result.report ≡ Some r → Each (λ f. ListsMessages f listed) r.feeds.items }
 {
     let mut rooms = match make_rooms(alloc, feeds.len(), watch_names.len()) {

@@ -75,14 +75,16 @@ publish_ended (Some (Stopped reason, at)) d channel = Some (refusing.Stopped at 
 
 -- the first reason to refuse a message with so many bytes of data
 abbrev pub publish_refusal : DeskView → ℕ → ℕ → Option CallRefused
-publish_refusal d channel len = if nat_lt data_limit len then Some (refusing.TooLarge len) else publish_ended d.end d channel
+publish_refusal d channel len =
+    if nat_lt data_limit len then Some (refusing.TooLarge len) else publish_ended d.end d channel
 
 -- ---- declaring
 
 abbrev pub declare_new : DeskView → ChannelDef → Option CallRefused
 declare_new d c =
     if nat_le record_count_limit (accepted d) then Some (refusing.TooManyRecords (accepted d))
-    else (if nat_le d.limit (bytes_held d) then Some (refusing.Full (bytes_held d) d.taken (accepted d)) else ids_lack d.ids c)
+    else (if nat_le d.limit (bytes_held d) then Some (refusing.Full (bytes_held d) d.taken (accepted d))
+    else ids_lack d.ids c)
 
 abbrev pub declare_at : Option ℕ → DeskView → ChannelDef → Option CallRefused
 declare_at (Some place) d c = None
@@ -95,7 +97,8 @@ declare_ended (Some (Stopped reason, at)) d c = Some (refusing.Stopped at reason
 
 -- the first reason to refuse a declaration
 abbrev pub declare_refusal : DeskView → ChannelDef → Option CallRefused
-declare_refusal d c = if nat_lt declaration_limit (declared_size c) then Some (refusing.TooLarge (declared_size c)) else declare_ended d.end d c
+declare_refusal d c = if nat_lt declaration_limit (declared_size c) then Some (refusing.TooLarge (declared_size c))
+    else declare_ended d.end d c
 
 -- ---- what the calls answer
 
@@ -112,18 +115,21 @@ IsForDeclaration refusing.UnknownChannel = ⊥
 IsForDeclaration refusal = Unit {0}
 
 abbrev pub fields_of_message : NewMessage → MessageFields
-fields_of_message m = record { sequence = m.sequence; log_time = m.log_time; publish_time = m.publish_time; payload = m.payload.now }
+fields_of_message m =
+    record { sequence = m.sequence; log_time = m.log_time; publish_time = m.publish_time; payload = m.payload.now }
 
 -- A message is refused for the first reason that there is, and then nothing changes, or it is added and its place answered.
 abbrev pub Published : DeskView → ℕ → MessageFields → Result ℕ CallRefused → DeskView → Type 0
-Published d channel m (Ok place) after = (publish_refusal d channel (length m.payload) ≡ None) × (place ≡ accepted d) × (after ≡ with_more_records d (message_of channel m ∷ []))
+Published d channel m (Ok place) after = (publish_refusal d channel (length m.payload) ≡ None) × (place ≡ accepted d)
+    × (after ≡ with_more_records d (message_of channel m ∷ []))
 Published d channel m (Err refusal) after = (publish_refusal d channel (length m.payload) ≡ Some refusal) × (after ≡ d)
 
 -- The same of a declaration, which answers the channel's id and the places of the records that are added. Memory for the ids
 -- of a new content may lack, only where there is no other reason, and then too nothing changes.
 abbrev pub DeclaredBy : DeskView → ChannelDef → Result Declared CallRefused → DeskView → Type 0
-DeclaredBy d c (Ok given) after = (declare_refusal d c ≡ None) × (given.channel ≡ channel_id d.ids c) × (given.first ≡ accepted d)
-    × (given.count ≡ length (new_records d.ids c)) × (after ≡ with_more_records d (new_records d.ids c))
+DeclaredBy d c (Ok given) after = (declare_refusal d c ≡ None) × (given.channel ≡ channel_id d.ids c)
+    × (given.first ≡ accepted d) × (given.count ≡ length (new_records d.ids c))
+    × (after ≡ with_more_records d (new_records d.ids c))
 DeclaredBy d c (Err refusing.Memory) after = (declare_refusal d c ≡ None) × (channel_place d.ids c ≡ None) × (after ≡ d)
 DeclaredBy d c (Err refusal) after = (declare_refusal d c ≡ Some refusal) × (after ≡ d)
 
@@ -151,8 +157,11 @@ IsCause Memory = Unit {0}
 
 -- the buffer that is given away, or nothing where it holds nothing
 abbrev pub SwapAnswered : DeskView → Result Buffer Empty → DeskView → Type 0
-SwapAnswered d (Ok full) after = (full ≡ record { limit = d.limit; records = d.primary }) × (d.primary ≡ [] → ⊥) × (after ≡ swapped d)
-SwapAnswered d (Err empty) after = (d.primary ≡ []) × (empty.cache ≡ record { limit = d.limit; records = [] }) × (empty.end ≡ desk_end d) × (empty.at ≡ accepted d) × (after ≡ d)
+SwapAnswered d (Ok full) after =
+    (full ≡ record { limit = d.limit; records = d.primary }) × (d.primary ≡ [] → ⊥) × (after ≡ swapped d)
+SwapAnswered d (Err empty) after = (d.primary ≡ []) × (empty.cache ≡ record { limit = d.limit; records = [] })
+    × (empty.end ≡ desk_end d) × (empty.at ≡ accepted d) × (after ≡ d)
 
 abbrev pub found_of : DeskView → Found
-found_of d = record { taken = d.taken; count = accepted d; held = bytes_held d; schemas = length d.ids.schemas; channels = length d.ids.channels; end = desk_end d }
+found_of d = record
+    { taken = d.taken; count = accepted d; held = bytes_held d; schemas = length d.ids.schemas; channels = length d.ids.channels; end = desk_end d }

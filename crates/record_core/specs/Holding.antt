@@ -6,7 +6,8 @@ use Rattle.record_core.specs.Desk.{DeskView, EndIsLast}
 use Rattle.record_core.specs.Tables.{ids_in, HasSchemas}
 
 abbrev pub desk_seen : Inside → DeskView
-desk_seen d = record { limit = d.primary.limit; taken = d.taken; primary = d.primary.records; end = d.end; ids = ids_in d.ids }
+desk_seen d =
+    record { limit = d.primary.limit; taken = d.taken; primary = d.primary.records; end = d.end; ids = ids_in d.ids }
 
 pub record IsDesk (d : Inside) : Type 0 where
   pub few : d.taken + length d.primary.records ≤ record_count_limit + 1

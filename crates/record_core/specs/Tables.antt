@@ -26,7 +26,8 @@ content_in schemas c = fields_of_channel (record { schemas = schemas; channels =
 
 -- the ids that a table gives, as those of a history
 abbrev pub ids_in : tables.IdContents → Ids
-ids_in t = record { schemas = map fields_of_schema t.schemas; channels = map (content_in (map fields_of_schema t.schemas)) t.channels }
+ids_in t = record
+    { schemas = map fields_of_schema t.schemas; channels = map (content_in (map fields_of_schema t.schemas)) t.channels }
 
 -- the schema has an id, if there is one
 abbrev pub SchemaHasId : List SchemaDef → Option SchemaDef → Type 0
@@ -75,7 +76,8 @@ ids_lack ids c =
 
 -- ids are given to a channel that is new, or nothing changes
 abbrev pub IdsDeclared : Ids → ChannelDef → Result GivenIds IdRefused → Ids → Type 0
-IdsDeclared ids c (Ok given) after = (ids_lack ids c ≡ None) × GivesIds ids c given × (after ≡ with_ids ids (new_records ids c))
+IdsDeclared ids c (Ok given) after =
+    (ids_lack ids c ≡ None) × GivesIds ids c given × (after ≡ with_ids ids (new_records ids c))
 IdsDeclared ids c (Err Memory) after = (ids_lack ids c ≡ None) × (after ≡ ids)
 IdsDeclared ids c (Err TooManySchemas) after = (ids_lack ids c ≡ Some refusing.TooManySchemas) × (after ≡ ids)
 IdsDeclared ids c (Err TooManyChannels) after = (ids_lack ids c ≡ Some refusing.TooManyChannels) × (after ≡ ids)

@@ -116,7 +116,9 @@ pub(crate) fn offer_declared(
 ) -> Result<u8, Full>
     requires fits { DefFits channel.now }
     requires small { declared_size channel.now ≤ declaration_limit }
-    ensures { CountedOffer buffer.old (schema_with channel.now.schema schema.now ++ channel_of id (fields_with channel.now (id_of schema.now)) ∷ []) result buffer.new }
+    ensures { CountedOffer buffer.old
+        (schema_with channel.now.schema schema.now ++ channel_of id (fields_with channel.now (id_of schema.now)) ∷ [])
+        result buffer.new }
 {
     let first = new_schema_ref(&channel.schema, schema);
     let second = channel_ref(channel, id, id_of(schema));

@@ -28,7 +28,8 @@ heads_in bytes = flat_map heads_at (placed_inside 0 0 (records_in bytes))
 
 -- the head of the record at that offset, if it is a Message of its layout
 abbrev pub HeadIs : Top → ℕ → Option MessageHead → Type 0
-HeadIs t offset (Some head) = (is_headed t ≡ true) × (head ≡ record { channel = channel_id_in t.content; time = time_in t.content; offset = offset })
+HeadIs t offset (Some head) = (is_headed t ≡ true)
+    × (head ≡ record { channel = channel_id_in t.content; time = time_in t.content; offset = offset })
 HeadIs t offset None = is_headed t ≡ false
 
 -- ---- where the records of a chunk lie

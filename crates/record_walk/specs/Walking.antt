@@ -53,7 +53,8 @@ pub record ReachesLast (tops : List Top) (given : List Placed) : Type 0 where
 -- A flat reader stands for these records of a source, as this one was when the reader was new and as it is by now: they were
 -- read, and of all that stand in their places these were given. Where some are due, no refusal is kept, and they stand inside the
 -- last of the records.
-pub record FlatStands (flat : FlatReader) (before now : SourceState) (tops : List Top) (given : List Placed) : Type 0 where
+pub record FlatStands (flat : FlatReader) (before now : SourceState) (tops : List Top) (given : List Placed)
+    : Type 0 where
   pub stands : Stands flat.reader before now tops
   pub all : walked tops ≡ given ++ ahead_of flat
   pub going : (ahead_of flat ≡ [] → ⊥) → IsGoing flat.reader.stage
@@ -65,7 +66,8 @@ placed_at place op content = record { place = place; top = top op content }
 
 -- A step gives the next record, which is whole and keeps the rules on contents. What was read before stays read, and the record
 -- is the last of what is read by now, or stands inside that.
-pub record FlatGives (flat : FlatReader) (before now : SourceState) (was : List Top) (given : List Placed) (op : ℕ) (place : Place) : Type 0 where
+pub record FlatGives (flat : FlatReader) (before now : SourceState) (was : List Top) (given : List Placed) (op : ℕ)
+    (place : Place) : Type 0 where
   pub tops : List Top
   pub more : List Top
   pub grown : tops ≡ was ++ more
@@ -79,7 +81,8 @@ pub record FlatGives (flat : FlatReader) (before now : SourceState) (was : List 
   pub going : IsGoing flat.reader.stage
 
 -- the Data End was given, and all was; no more is read
-pub record FlatFinds (flat : FlatReader) (before now : SourceState) (was : List Top) (given : List Placed) (offset : ℕ) : Type 0 where
+pub record FlatFinds (flat : FlatReader) (before now : SourceState) (was : List Top) (given : List Placed) (offset : ℕ)
+    : Type 0 where
   pub tops : List Top
   pub same : tops ≡ was
   pub finds : FindsEnd flat.reader before now tops offset
@@ -87,7 +90,8 @@ pub record FlatFinds (flat : FlatReader) (before now : SourceState) (was : List 
   pub stands : FlatStands flat before now tops given
 
 -- the reader keeps a refusal, and all that is good was given; no more is read
-pub record FlatRefuses (flat : FlatReader) (before now : SourceState) (was : List Top) (given : List Placed) : Type 0 where
+pub record FlatRefuses (flat : FlatReader) (before now : SourceState) (was : List Top) (given : List Placed)
+    : Type 0 where
   pub tops : List Top
   pub same : tops ≡ was
   pub refuses : Refuses flat.reader before now tops

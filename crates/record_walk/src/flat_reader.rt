@@ -177,10 +177,12 @@ impl FlatReader {
 
     // Reads the next record of the source, where none is due.
     fn read<S: Source>(&mut self, source: &mut S) -> FlatStep
-        ensures steps { (before : SourceState) (tops : List Top) (given : List Placed) → FlatStands self.old before (S.state source.old) tops given → ahead_of self.old ≡ []
+        ensures steps { (before : SourceState) (tops : List Top) (given : List Placed)
+            → FlatStands self.old before (S.state source.old) tops given → ahead_of self.old ≡ []
             → FlatAdvanced self.new before (S.state source.new) tops given result }
         ensures moves { FlatMoves (flat_left self.old) (flat_left self.new) result }
-        ensures over { IsDone self.old.reader → (self.new.reader ≡ self.old.reader) × (source.new ≡ source.old) × IsFlatLast result }
+        ensures over { IsDone self.old.reader
+            → (self.new.reader ≡ self.old.reader) × (source.new ≡ source.old) × IsFlatLast result }
         ensures stays { S.stays source.old source.new }
     {
         self.clear();
@@ -210,10 +212,12 @@ impl FlatReader {
     /// and nothing more after a refusal: each later call gives the same answer.
     #[inline(always)]
     pub fn advance<S: Source>(&mut self, source: &mut S) -> FlatStep
-        ensures steps { (before : SourceState) (tops : List Top) (given : List Placed) → FlatStands self.old before (S.state source.old) tops given
+        ensures steps { (before : SourceState) (tops : List Top) (given : List Placed)
+            → FlatStands self.old before (S.state source.old) tops given
             → FlatAdvanced self.new before (S.state source.new) tops given result }
         ensures moves { FlatMoves (flat_left self.old) (flat_left self.new) result }
-        ensures over { IsFlatDone self.old → (self.new.reader ≡ self.old.reader) × (source.new ≡ source.old) × IsFlatLast result }
+        ensures over { IsFlatDone self.old
+            → (self.new.reader ≡ self.old.reader) × (source.new ≡ source.old) × IsFlatLast result }
         ensures stays { S.stays source.old source.new }
     {
         match self.next_inside() {

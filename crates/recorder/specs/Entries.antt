@@ -33,9 +33,11 @@ pub record AreFirst (options : FileOptions) (history : List Rec) (pieces : List 
 -- Where chunks are asked for and the records of a history are numbered and were kept, the entries of its first blocks
 -- follow one another.
 abbrev pub RecordedEntriesFollow : {X : Type 0} → (X → Option (List ℕ)) → Type 0
-RecordedEntriesFollow {X} tells = (options : FileOptions) (size : ℕ) (history : List Rec) (pieces : List Piece) (entries : List (Entry X))
-    → options.chunk ≡ Some size → (1 ≤ size) × (size ≤ chunk_size_limit) → Numbered history → Each IsKept history → AreFirst options history pieces
-    → AllZip (IsEntryThere tells) (blocks_from (length (front options.profile)) pieces) entries → EntriesFollow tells entries
+RecordedEntriesFollow {X} tells = (options : FileOptions) (size : ℕ) (history : List Rec) (pieces : List Piece)
+    (entries : List (Entry X)) → options.chunk ≡ Some size → (1 ≤ size) × (size ≤ chunk_size_limit) → Numbered history
+    → Each IsKept history → AreFirst options history pieces
+    → AllZip (IsEntryThere tells) (blocks_from (length (front options.profile)) pieces) entries
+    → EntriesFollow tells entries
 
 -- what is kept of these bytes has the messages of what is stored, at the same places and with the same topics
 pub record IsToldOf (bytes : List ℕ) (stored : List Stored) (stretches : List Stretch) : Type 0 where
@@ -46,10 +48,11 @@ pub record IsToldOf (bytes : List ℕ) (stored : List Stored) (stretches : List 
 -- Where the extents of such entries tell, the messages of what they tell are those of the file's front that ends with
 -- their blocks.
 abbrev pub FrontsAreTold : {X : Type 0} → (X → Option (List ℕ)) → Type 0
-FrontsAreTold {X} tells = (options : FileOptions) (size : ℕ) (history : List Rec) (pieces : List Piece) (entries : List (Entry X))
-    → AreReadable options → options.chunk ≡ Some size → Numbered history → Each IsKept history → AreFirst options history pieces
-    → AllZip (IsEntryThere tells) (blocks_from (length (front options.profile)) pieces) entries
-    → (stored : List Stored) → AllZip (IsStored tells) entries stored → (stretches : List Stretch) → Follow stored stretches
+FrontsAreTold {X} tells = (options : FileOptions) (size : ℕ) (history : List Rec) (pieces : List Piece)
+    (entries : List (Entry X)) → AreReadable options → options.chunk ≡ Some size → Numbered history
+    → Each IsKept history → AreFirst options history pieces
+    → AllZip (IsEntryThere tells) (blocks_from (length (front options.profile)) pieces) entries → (stored : List Stored)
+    → AllZip (IsStored tells) entries stored → (stretches : List Stretch) → Follow stored stretches
     → IsToldOf (front options.profile ++ pieces_bytes pieces) stored stretches
 
 -- what is seen of the extents of a store that held this
@@ -60,9 +63,12 @@ seen_at tells size held = record { tells = tells; size = size; held = held }
 -- are none, those of a call stand behind those before it, and the last one is that of the last block.
 pub record EntriesAreGathered {X : Type 0} (tells : X → Option (List ℕ)) (size : X → ℕ) : Type 0 where
   pub none : (options : FileOptions) → AllZip (IsEntryThere tells) (sure_blocks options []) []
-  pub more : (options : FileOptions) (history records : List Rec) (held : Option (List ℕ)) (entries given : List (Entry X))
-      → AllZip (IsEntryThere tells) (sure_blocks options history) entries → GivesEntries (seen_at tells size held) options history records given
+  pub more : (options : FileOptions) (history records : List Rec) (held : Option (List ℕ))
+      (entries given : List (Entry X)) → AllZip (IsEntryThere tells) (sure_blocks options history) entries
+      → GivesEntries (seen_at tells size held) options history records given
       → AllZip (IsEntryThere tells) (sure_blocks options (history ++ records)) (entries ++ given)
-  pub last : (options : FileOptions) (history : List Rec) (held : Option (List ℕ)) (entries : List (Entry X)) (given : Entry X)
-      → AllZip (IsEntryThere tells) (sure_blocks options history) entries → GivesLast (seen_at tells size held) options history (Some given)
-      → AllZip (IsEntryThere tells) (blocks_from (length (front options.profile)) (pieces_of options.chunk history)) (entries ++ given ∷ [])
+  pub last : (options : FileOptions) (history : List Rec) (held : Option (List ℕ)) (entries : List (Entry X))
+      (given : Entry X) → AllZip (IsEntryThere tells) (sure_blocks options history) entries
+      → GivesLast (seen_at tells size held) options history (Some given)
+      → AllZip (IsEntryThere tells) (blocks_from (length (front options.profile)) (pieces_of options.chunk history))
+      (entries ++ given ∷ [])

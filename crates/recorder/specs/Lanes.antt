@@ -17,7 +17,8 @@ use Rattle.recorder.specs.Writing.{empty_buffer}
 
 -- A lane ran to its end: the pass that its publisher showed, with the reasons of all refusals, is one of which its report is
 -- true; where it waits for room, no call was answered that the buffer is full. The report lists messages, or only counts them.
-pub record LaneRan (limit : ℕ) (lossless listed : Bool) (before now : SourceState) (pass : PassState) (report : Option FeedReport) : Type 0 where
+pub record LaneRan (limit : ℕ) (lossless listed : Bool) (before now : SourceState) (pass : PassState)
+    (report : Option FeedReport) : Type 0 where
   pub feed : FeedReport
   pub is : report ≡ Some feed
   pub shown : PassState
@@ -47,7 +48,8 @@ pub record ControlKnows (limit : ℕ) (feeds : List FeedRecorded) (known : List 
   pub limits : Each (λ f. f.pass.limit ≡ limit) feeds
 
 -- All lanes ran to their ends, and were gathered: these are the feeds that were recorded, and what the control knows of them.
-pub record LanesRan (limit : ℕ) (lossless listed : Bool) (before now : List SourceState) (reports : List FeedReport) (post : Post) : Type 0 where
+pub record LanesRan (limit : ℕ) (lossless listed : Bool) (before now : List SourceState) (reports : List FeedReport)
+    (post : Post) : Type 0 where
   pub feeds : List FeedRecorded
   pub are : AreFeeds feeds before now reports
   pub known : ControlKnows limit feeds post.known

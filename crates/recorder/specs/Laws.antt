@@ -46,7 +46,8 @@ RecordingsAreReadBack = (options : RecordOptions) (before now : Sides) (r : Repo
 
 -- no record of the file has a content, or an end, past a limit of reading
 abbrev pub IsWithinLimits : List ℕ → Type 0
-IsWithinLimits file = (tops : List Top) (n : ℕ) (t : Top) → IsWhole file tops → At tops n t → is_beyond reading_limits (offset_of tops n) (length t.content) ≡ false
+IsWithinLimits file = (tops : List Top) (n : ℕ) (t : Top) → IsWhole file tops → At tops n t
+    → is_beyond reading_limits (offset_of tops n) (length t.content) ≡ false
 
 -- a file is valid, fully indexed where chunks were asked for, and within the limits of reading
 pub record IsSoundFile (options : FileOptions) (file : List ℕ) : Type 0 where
@@ -98,8 +99,9 @@ AreLeft sources all = AllZip (λ (s : SourceState) (bytes : List ℕ). s.left �
 
 -- The bytes of the feeds and the reports on them decide the history, whatever the options and the store.
 abbrev pub RecordingsAreGiven : Type 0
-RecordingsAreGiven = (all : List (List ℕ)) (one other : Account) → AreLeft one.before.sources all → AreLeft other.before.sources all
-    → one.report.feeds.items ≡ other.report.feeds.items → one.is.history ≡ other.is.history
+RecordingsAreGiven = (all : List (List ℕ)) (one other : Account) → AreLeft one.before.sources all
+    → AreLeft other.before.sources all → one.report.feeds.items ≡ other.report.feeds.items
+    → one.is.history ≡ other.is.history
 
 -- ---- full buffers
 

@@ -28,7 +28,8 @@ written_numbers w = record { blocks = w.blocks; bytes = w.bytes }
 
 -- The tape grew by the history, with the entries of the blocks that were appended, and came to the end that is told, with the
 -- numbers that are told: where the writer closed the tape has ended, else it keeps the refusal.
-pub record TapeIsWritten {T X : Type 0} (seen : SeenTape T X) (first last : T) (history : List Rec) (w : WriterReport) : Type 0 where
+pub record TapeIsWritten {T X : Type 0} (seen : SeenTape T X) (first last : T) (history : List Rec) (w : WriterReport)
+    : Type 0 where
   pub mid : T
   pub entries : List (Entry X)
   pub closing : Option (Entry X)
@@ -44,7 +45,8 @@ pub record IsAll (history : List Rec) (w : WriterReport) : Type 0 where
   pub kept : Each IsKept history
 
 -- the lanes of a recording, and its history
-pub record IsReported (limit : ℕ) (lossless : Bool) (before now : List SourceState) (history : List Rec) (r : Report) : Type 0 where
+pub record IsReported (limit : ℕ) (lossless : Bool) (before now : List SourceState) (history : List Rec) (r : Report)
+    : Type 0 where
   pub feeds : List FeedRecorded
   pub are : AreFeeds feeds before now r.feeds.items
   pub assembled : Assembled limit (map lane_of feeds) history r.writer.end
@@ -60,7 +62,8 @@ tape_sides sources tape = record { sources = sources; tape = tape }
 
 -- What a recording onto a tape came to: what its lanes read and showed, and the history, which its report describes and by
 -- which the tape grew.
-pub record RecordedOnto {T X : Type 0} (seen : SeenTape T X) (limit : ℕ) (lossless : Bool) (before now : TapeSides T) (r : Report) : Type 0 where
+pub record RecordedOnto {T X : Type 0} (seen : SeenTape T X) (limit : ℕ) (lossless : Bool) (before now : TapeSides T)
+    (r : Report) : Type 0 where
   pub history : List Rec
   pub reported : IsReported limit lossless before.sources now.sources history r
   pub written : TapeIsWritten seen before.tape now.tape history r.writer

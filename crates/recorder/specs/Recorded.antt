@@ -35,10 +35,12 @@ pub record FeedRecorded : Type 0 where
 
 -- its lane
 abbrev pub lane_of : FeedRecorded → LanePart
-lane_of f = record { records = flat f.reports.tops; handled = f.reports.handled; lists = reported f.feed; pass = f.pass }
+lane_of f =
+    record { records = flat f.reports.tops; handled = f.reports.handled; lists = reported f.feed; pass = f.pass }
 
 -- these are the feeds of a recording whose sources were and are so, and these are the reports on them, in the same order
-pub record AreFeeds (feeds : List FeedRecorded) (before now : List SourceState) (reports : List FeedReport) : Type 0 where
+pub record AreFeeds (feeds : List FeedRecorded) (before now : List SourceState) (reports : List FeedReport)
+    : Type 0 where
   pub before_are : before ≡ map (λ (f : FeedRecorded). f.before) feeds
   pub now_are : now ≡ map (λ (f : FeedRecorded). f.now) feeds
   pub reports_are : reports ≡ map (λ (f : FeedRecorded). f.feed) feeds
@@ -56,7 +58,8 @@ TookFront options history bytes = (length (front options.profile) ≤ bytes) ⊎
 
 -- What the writer's report says of its store. Where it closed, the file of the history stands behind what the store held, and
 -- all of it is with the system; else the writer stopped at a piece of that file.
-pub record WriterRecorded (options : FileOptions) (before now : LiveState) (history : List Rec) (w : WriterReport) : Type 0 where
+pub record WriterRecorded (options : FileOptions) (before now : LiveState) (history : List Rec) (w : WriterReport)
+    : Type 0 where
   pub records : w.records ≡ length history
   pub wrote : Ends options [] before.held now.held history (numbers w.blocks w.bytes) (answer_of w.end)
   pub within : Holds w.blocks w.bytes

@@ -54,12 +54,16 @@ pub record SeenTape (T X : Type 0) : Type 1 where
   pub numbers : T → Written
   pub failures : T → ℕ
 
-abbrev pub seen_tape : {T X : Type 0} → (T → T → List Rec → List (Entry X) → Type 0) → (T → T → Option (Entry X) → Written → Result Unit Stop → Type 0) → (T → ℕ → ℕ → Type 0) → (T → Phase) → (T → Written) → (T → ℕ) → SeenTape T X
-seen_tape grows ends limit_met phase numbers failures = record { grows = grows; ends = ends; limit_met = limit_met; phase = phase; numbers = numbers; failures = failures }
+abbrev pub seen_tape : {T X : Type 0} → (T → T → List Rec → List (Entry X) → Type 0)
+    → (T → T → Option (Entry X) → Written → Result Unit Stop → Type 0) → (T → ℕ → ℕ → Type 0) → (T → Phase)
+    → (T → Written) → (T → ℕ) → SeenTape T X
+seen_tape grows ends limit_met phase numbers failures =
+    record { grows = grows; ends = ends; limit_met = limit_met; phase = phase; numbers = numbers; failures = failures }
 
 -- The tape, which was the first one, got the records by which what the drain took has grown, and no others, and gave these
 -- entries.
-pub record WritesOn {T X : Type 0} (seen : SeenTape T X) (first now : T) (before : List Rec) (post : Post) : Type 0 where
+pub record WritesOn {T X : Type 0} (seen : SeenTape T X) (first now : T) (before : List Rec) (post : Post)
+    : Type 0 where
   pub more : List Rec
   pub entries : List (Entry X)
   pub taken : post.taken ≡ before ++ more
@@ -67,5 +71,6 @@ pub record WritesOn {T X : Type 0} (seen : SeenTape T X) (first now : T) (before
   pub records : All IsKept more
   pub may : MayWrite (seen.phase now)
   pub stops : StopsWith post.stop (seen.phase now)
-  pub goes : seen.phase first ≡ phases.Going → Continues (seen.limit_met now) (seen.phase now) (seen.failures first) (seen.failures now)
+  pub goes : seen.phase first ≡ phases.Going
+      → Continues (seen.limit_met now) (seen.phase now) (seen.failures first) (seen.failures now)
   pub kept : (stop : Stop) → seen.phase first ≡ phases.Stopped stop → now ≡ first

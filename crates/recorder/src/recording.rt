@@ -84,7 +84,8 @@ pub struct Ran<S, T> {
 pub fn make_room<S: Drop>(alloc: Global, limit: u64, many: usize) -> Result<Room<S>, Memory>
     requires some { 1 ≤ limit }
     requires small { limit ≤ buffer_limit }
-    ensures turn { IfOk result (λ room. IsNewTurn room.turn.board.table.shared.table_id room.turn.first × (first_limit room.turn.first ≡ limit)) }
+    ensures turn { IfOk result (λ room. IsNewTurn room.turn.board.table.shared.table_id room.turn.first
+        × (first_limit room.turn.first ≡ limit)) }
     ensures spare { IfOk result (λ room. room.spare ≡ empty_buffer limit) }
     ensures feeds { IfOk result (λ room. (room.feeds.items ≡ []) × (many ≤ vec_capacity room.feeds)) }
     ensures reports { IfOk result (λ room. (room.reports.items ≡ []) × (many ≤ vec_capacity room.reports)) }
@@ -194,7 +195,15 @@ fn unread<S, T>(feeds: Vec<S>, tape: T) -> Onto<S, T>
 
 // What the writer and the lanes hand back of a recording, with the report.
 fn handed_back<R: Wait, S: Drop, T>(written: Written<'_, T>, lanes: Lanes<'_, R, S>) -> Ran<S, T>
-    ensures { result ≡ record { report = record { feeds = lanes.entry.reports; writer = written.entry.report }; feeds = lanes.entry.feeds; tape = written.entry.tape } }
+    ensures { result
+        ≡ record {
+          report = record {
+            feeds = lanes.entry.reports;
+            writer = written.entry.report;
+          };
+          feeds = lanes.entry.feeds;
+          tape = written.entry.tape;
+        } }
 {
     let Written {
         drain: _,
@@ -230,7 +239,8 @@ fn run_beside<R: Threads + Wait + Sync, S: Source + Drop + Send, T: Tape<X: Send
 ) -> Ran<S, T>
     requires same_turn { writer.drain.seat.table_id ≡ lanes.control.seat.table_id }
     requires turns { Each (λ lane. lane.pass.publisher.seat.table_id ≡ lanes.control.seat.table_id) lanes.lanes.items }
-    requires new { Each (λ lane. lane.pass.publisher.seat.me.0.pass ≡ no_calls lanes.control.seat.me.0.pass.limit) lanes.lanes.items }
+    requires new { Each (λ lane. lane.pass.publisher.seat.me.0.pass ≡ no_calls lanes.control.seat.me.0.pass.limit)
+        lanes.lanes.items }
     requires waits { Each (λ lane. lane.pass.lossless ≡ lanes.lossless) lanes.lanes.items }
     requires fresh { IsFreshControl lanes.control.seat.me.0.post (vec_len lanes.lanes) }
     requires feeds { (lanes.feeds.items ≡ []) × (vec_len lanes.lanes ≤ vec_capacity lanes.feeds) }
@@ -240,8 +250,10 @@ fn run_beside<R: Threads + Wait + Sync, S: Source + Drop + Send, T: Tape<X: Send
     requires unstopped { writer.drain.seat.me.0.post.stop ≡ None }
     requires going { T.phase writer.tape ≡ phases.Going }
     requires unused { T.is_new writer.tape }
-    ensures recorded { RecordedOnto (seen_tape T.grows T.ends T.limit_met T.phase T.numbers T.failures) lanes.entry.control.seat.me.0.pass.limit lanes.entry.lossless
-        (tape_sides (map (λ lane. S.state lane.source) lanes.entry.lanes.items) writer.entry.tape) (tape_sides (map S.state result.feeds.items) result.tape) result.report }
+    ensures recorded { RecordedOnto (seen_tape T.grows T.ends T.limit_met T.phase T.numbers T.failures)
+        lanes.entry.control.seat.me.0.pass.limit lanes.entry.lossless
+        (tape_sides (map (λ lane. S.state lane.source) lanes.entry.lanes.items) writer.entry.tape)
+        (tape_sides (map S.state result.feeds.items) result.tape) result.report }
     ensures listed { Each (λ f. ListsMessages f listed) result.report.feeds.items }
     ensures stays { AllZip S.stays (map (λ lane. lane.source) lanes.entry.lanes.items) result.feeds.items }
 {
@@ -255,19 +267,26 @@ fn run_beside<R: Threads + Wait + Sync, S: Source + Drop + Send, T: Tape<X: Send
             requires unused { T.is_new writer.tape }
             ensures turn { result.drain.seat.table_id ≡ writer.entry.drain.seat.table_id }
             ensures over { (end : Last) × DrainIsOver result.drain.seat.me.0.pass result.drain.seat.me.0.post end }
-            ensures written { TapeIsWritten (seen_tape T.grows T.ends T.limit_met T.phase T.numbers T.failures) writer.entry.tape result.tape result.drain.seat.me.0.post.taken result.report }
+            ensures written { TapeIsWritten (seen_tape T.grows T.ends T.limit_met T.phase T.numbers T.failures)
+                writer.entry.tape result.tape result.drain.seat.me.0.post.taken result.report }
             ensures all { IsAll result.drain.seat.me.0.post.taken result.report }
-            ensures stops { (stop : Why) → result.drain.seat.me.0.post.stop ≡ Some stop → result.report.end ≡ Stopped stop }
+            ensures stops { (stop : Why) → result.drain.seat.me.0.post.stop ≡ Some stop
+                → result.report.end ≡ Stopped stop }
         { writer.run(rt, spare) },
         ||
-            requires turn { Each (λ lane. lane.pass.publisher.seat.table_id ≡ lanes.control.seat.table_id) lanes.lanes.items }
-            requires new { Each (λ lane. lane.pass.publisher.seat.me.0.pass ≡ no_calls lanes.control.seat.me.0.pass.limit) lanes.lanes.items }
+            requires turn { Each (λ lane. lane.pass.publisher.seat.table_id ≡ lanes.control.seat.table_id)
+                lanes.lanes.items }
+            requires new { Each
+                (λ lane. lane.pass.publisher.seat.me.0.pass ≡ no_calls lanes.control.seat.me.0.pass.limit)
+                lanes.lanes.items }
             requires waits { Each (λ lane. lane.pass.lossless ≡ lanes.lossless) lanes.lanes.items }
             requires fresh { IsFreshControl lanes.control.seat.me.0.post (vec_len lanes.lanes) }
             requires feeds { (lanes.feeds.items ≡ []) × (vec_len lanes.lanes ≤ vec_capacity lanes.feeds) }
             requires reports { (lanes.reports.items ≡ []) × (vec_len lanes.lanes ≤ vec_capacity lanes.reports) }
             ensures turn { result.control.seat.table_id ≡ lanes.entry.control.seat.table_id }
-            ensures ran { LanesRan lanes.entry.control.seat.me.0.pass.limit lanes.entry.lossless listed (map (λ lane. S.state lane.source) lanes.entry.lanes.items) (map S.state result.feeds.items) result.reports.items result.control.seat.me.0.post }
+            ensures ran { LanesRan lanes.entry.control.seat.me.0.pass.limit lanes.entry.lossless listed
+                (map (λ lane. S.state lane.source) lanes.entry.lanes.items) (map S.state result.feeds.items)
+                result.reports.items result.control.seat.me.0.post }
             ensures stays { AllZip S.stays (map (λ lane. lane.source) lanes.entry.lanes.items) result.feeds.items }
         { lanes.run(rt, alloc, listed) },
     );
@@ -295,8 +314,10 @@ impl<'t, R: Threads + Wait + Sync, S: Source + Drop + Send> Ready<'t, R, S> {
         requires going { T.phase tape ≡ phases.Going }
         requires unused { T.is_new tape }
         ensures stays { AllZip S.stays feeds.items result.feeds.items }
-        ensures recorded { RecordedOnto (seen_tape T.grows T.ends T.limit_met T.phase T.numbers T.failures) self.entry.lanes.control.seat.me.0.pass.limit self.entry.lanes.lossless
-            (tape_sides (map S.state feeds.items) tape) (tape_sides (map S.state result.feeds.items) result.tape) result.report }
+        ensures recorded { RecordedOnto (seen_tape T.grows T.ends T.limit_met T.phase T.numbers T.failures)
+            self.entry.lanes.control.seat.me.0.pass.limit self.entry.lanes.lossless
+            (tape_sides (map S.state feeds.items) tape) (tape_sides (map S.state result.feeds.items) result.tape)
+            result.report }
         ensures listed { Each (λ f. ListsMessages f listed) result.report.feeds.items }
     {
         let Ready {
@@ -325,7 +346,8 @@ impl<'t, R: Threads + Wait + Sync, S: Source + Drop + Send> Ready<'t, R, S> {
         requires reports { (self.lanes.reports.items ≡ []) × (vec_len feeds ≤ vec_capacity self.lanes.reports) }
         requires cause { IsCause why }
         ensures stays { AllZip S.stays feeds.items result.feeds.items }
-        ensures reported { IsReported self.entry.lanes.control.seat.me.0.pass.limit self.entry.lanes.lossless (map S.state feeds.items) (map S.state result.feeds.items) [] result.report }
+        ensures reported { IsReported self.entry.lanes.control.seat.me.0.pass.limit self.entry.lanes.lossless
+            (map S.state feeds.items) (map S.state result.feeds.items) [] result.report }
         ensures writer { result.report.writer ≡ record { records = 0; blocks = 0; bytes = 0; end = Stopped why } }
         ensures listed { Each (λ f. ListsMessages f listed) result.report.feeds.items }
     {
@@ -362,8 +384,10 @@ pub fn record_onto<
     requires unused { T.is_new tape }
     ensures refused { result.report ≡ None → (result.feeds.items ≡ feeds.items) × (result.tape ≡ tape) }
     ensures stays { AllZip S.stays feeds.items result.feeds.items }
-    ensures recorded { (r : _) → result.report ≡ Some r → RecordedOnto (seen_tape T.grows T.ends T.limit_met T.phase T.numbers T.failures) options.now.limit options.now.lossless
-        (tape_sides (map S.state feeds.items) tape) (tape_sides (map S.state result.feeds.items) result.tape) r }
+    ensures recorded { (r : _) → result.report ≡ Some r
+        → RecordedOnto (seen_tape T.grows T.ends T.limit_met T.phase T.numbers T.failures) options.now.limit
+        options.now.lossless (tape_sides (map S.state feeds.items) tape)
+        (tape_sides (map S.state result.feeds.items) result.tape) r }
     ensures listed { (r : _) → result.report ≡ Some r → Each (λ f. ListsMessages f listed) r.feeds.items }
 {
     let Room {
@@ -421,7 +445,9 @@ pub fn record<
     requires feeds { (1 ≤ vec_len feeds) × (vec_len feeds ≤ 64) }
     ensures refused { result.report ≡ None → (result.feeds.items ≡ feeds.items) × (result.live ≡ live) }
     ensures stays { AllZip S.stays feeds.items result.feeds.items }
-    ensures recorded { (r : _) → result.report ≡ Some r → Recorded options.now (sides (map S.state feeds.items) (L.state live)) (sides (map S.state result.feeds.items) (L.state result.live)) r }
+    ensures recorded { (r : _) → result.report ≡ Some r
+        → Recorded options.now (sides (map S.state feeds.items) (L.state live))
+        (sides (map S.state result.feeds.items) (L.state result.live)) r }
     ensures listed { (r : _) → result.report ≡ Some r → Each (λ f. ListsMessages f listed) r.feeds.items }
 {
     let Room {

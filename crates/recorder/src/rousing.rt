@@ -51,7 +51,8 @@ pub(crate) fn publish_roused<S: Source, P: Pass>(
 ) -> FeedReport
     requires { (limit : ℕ) × P.since pass.old pass.old (no_calls limit) }
     ensures reports { (limit : ℕ) → P.since pass.old pass.old (no_calls limit)
-        → (shown : PassState) × P.since pass.old pass.new shown × (shown.limit ≡ limit) × Reports (S.state source.old) (S.state source.new) shown result }
+        → (shown : PassState) × P.since pass.old pass.new shown × (shown.limit ≡ limit)
+        × Reports (S.state source.old) (S.state source.new) shown result }
     ensures stays { S.stays source.old source.new }
     ensures listed { ListsMessages result listed }
 {

@@ -72,7 +72,8 @@ pub(crate) fn stop_unread<R: Wait>(
     requires spare { spare ≡ empty_buffer drain.old.seat.me.0.pass.limit }
     requires cause { IsCause why }
     requires unstopped { drain.old.seat.me.0.post.stop ≡ None }
-    ensures turn { (control.new.seat.table_id ≡ control.old.seat.table_id) × (drain.new.seat.table_id ≡ drain.old.seat.table_id) }
+    ensures turn { (control.new.seat.table_id ≡ control.old.seat.table_id)
+        × (drain.new.seat.table_id ≡ drain.old.seat.table_id) }
     ensures limit { control.new.seat.me.0.pass ≡ control.old.seat.me.0.pass }
     ensures fresh { IsFreshControl control.new.seat.me.0.post 0 }
     ensures none { drain.new.seat.me.0.post.taken ≡ [] }
@@ -95,7 +96,8 @@ pub(crate) fn run_unwritten<R: Threads + Wait + Sync, S: Source + Drop + Send>(
 ) -> Unwritten<S>
     requires same_turn { drain.seat.table_id ≡ lanes.control.seat.table_id }
     requires turns { Each (λ lane. lane.pass.publisher.seat.table_id ≡ lanes.control.seat.table_id) lanes.lanes.items }
-    requires new { Each (λ lane. lane.pass.publisher.seat.me.0.pass ≡ no_calls lanes.control.seat.me.0.pass.limit) lanes.lanes.items }
+    requires new { Each (λ lane. lane.pass.publisher.seat.me.0.pass ≡ no_calls lanes.control.seat.me.0.pass.limit)
+        lanes.lanes.items }
     requires waits { Each (λ lane. lane.pass.lossless ≡ lanes.lossless) lanes.lanes.items }
     requires fresh { IsFreshControl lanes.control.seat.me.0.post (vec_len lanes.lanes) }
     requires feeds { (lanes.feeds.items ≡ []) × (vec_len lanes.lanes ≤ vec_capacity lanes.feeds) }
@@ -103,7 +105,8 @@ pub(crate) fn run_unwritten<R: Threads + Wait + Sync, S: Source + Drop + Send>(
     requires none { drain.seat.me.0.post.taken ≡ [] }
     requires over { (end : Last) × DrainIsOver drain.seat.me.0.pass drain.seat.me.0.post end }
     requires stops { (other : Why) → drain.seat.me.0.post.stop ≡ Some other → other ≡ why }
-    ensures reported { IsReported lanes.entry.control.seat.me.0.pass.limit lanes.entry.lossless (map (λ lane. S.state lane.source) lanes.entry.lanes.items) (map S.state result.feeds.items) [] result.report }
+    ensures reported { IsReported lanes.entry.control.seat.me.0.pass.limit lanes.entry.lossless
+        (map (λ lane. S.state lane.source) lanes.entry.lanes.items) (map S.state result.feeds.items) [] result.report }
     ensures writer { result.report.writer ≡ record { records = 0; blocks = 0; bytes = 0; end = End.Stopped why } }
     ensures listed { Each (λ f. ListsMessages f listed) result.report.feeds.items }
     ensures stays { AllZip S.stays (map (λ lane. lane.source) lanes.entry.lanes.items) result.feeds.items }

@@ -72,11 +72,13 @@ fn write_once<R: Wait, T: Tape>(rt: &R, drain: &mut Drain<'_>, tape: &mut T, spa
     ensures turn { drain.new.seat.table_id ≡ drain.old.seat.table_id }
     ensures limit { drain.new.seat.me.0.pass.limit ≡ drain.old.seat.me.0.pass.limit }
     ensures spare { result.spare ≡ empty_buffer drain.new.seat.me.0.pass.limit }
-    ensures writes { WritesOn (seen_tape T.grows T.ends T.limit_met T.phase T.numbers T.failures) tape.old tape.new drain.old.seat.me.0.post.taken drain.new.seat.me.0.post }
+    ensures writes { WritesOn (seen_tape T.grows T.ends T.limit_met T.phase T.numbers T.failures) tape.old tape.new
+        drain.old.seat.me.0.post.taken drain.new.seat.me.0.post }
     ensures has { HasTaken T.is_new T.grows tape.new drain.new.seat.me.0.post.taken }
     // Where the tape stopped, so has the intake.
     ensures halts { StopsIntake drain.new.seat.me.0.pass drain.new.seat.me.0.post (T.phase tape.new) }
-    ensures over { IfSome result.over (λ at. (at ≡ length drain.new.seat.me.0.post.taken) × (end : Last) × DrainIsOver drain.new.seat.me.0.pass drain.new.seat.me.0.post end) }
+    ensures over { IfSome result.over (λ at. (at ≡ length drain.new.seat.me.0.post.taken) × (end : Last)
+        × DrainIsOver drain.new.seat.me.0.pass drain.new.seat.me.0.post end) }
 {
     let full = match drain.swap(rt, spare) {
         Ok(full) => full,
@@ -116,7 +118,8 @@ fn write_all<R: Wait, T: Tape>(rt: &R, drain: &mut Drain<'_>, tape: &mut T, spar
     requires stops { StopsWith drain.old.seat.me.0.post.stop (T.phase tape.old) }
     requires halts { StopsIntake drain.old.seat.me.0.pass drain.old.seat.me.0.post (T.phase tape.old) }
     ensures turn { drain.new.seat.table_id ≡ drain.old.seat.table_id }
-    ensures writes { WritesOn (seen_tape T.grows T.ends T.limit_met T.phase T.numbers T.failures) tape.old tape.new drain.old.seat.me.0.post.taken drain.new.seat.me.0.post }
+    ensures writes { WritesOn (seen_tape T.grows T.ends T.limit_met T.phase T.numbers T.failures) tape.old tape.new
+        drain.old.seat.me.0.post.taken drain.new.seat.me.0.post }
     ensures has { HasTaken T.is_new T.grows tape.new drain.new.seat.me.0.post.taken }
     ensures count { result ≡ length drain.new.seat.me.0.post.taken }
     ensures over { (end : Last) × DrainIsOver drain.new.seat.me.0.pass drain.new.seat.me.0.post end }
@@ -143,7 +146,8 @@ impl<'t, T: Tape + Drop> Writer<'t, T> {
         requires unused { T.is_new self.tape }
         ensures turn { result.drain.seat.table_id ≡ self.entry.drain.seat.table_id }
         ensures over { (end : Last) × DrainIsOver result.drain.seat.me.0.pass result.drain.seat.me.0.post end }
-        ensures written { TapeIsWritten (seen_tape T.grows T.ends T.limit_met T.phase T.numbers T.failures) self.entry.tape result.tape result.drain.seat.me.0.post.taken result.report }
+        ensures written { TapeIsWritten (seen_tape T.grows T.ends T.limit_met T.phase T.numbers T.failures)
+            self.entry.tape result.tape result.drain.seat.me.0.post.taken result.report }
         ensures all { IsAll result.drain.seat.me.0.post.taken result.report }
         ensures stops { (stop : Why) → result.drain.seat.me.0.post.stop ≡ Some stop → result.report.end ≡ Stopped stop }
     {

@@ -68,7 +68,8 @@ impl Pass for Lacking {
     ghost use Rattle.feed_lane.specs.Pass.{PassState};
     ghost use Rattle.feed_lane.specs.Tapes.{found_when, tape_pass};
 
-    ghost since = { λ begun t now. (reasons : List CallRefused) × (now ≡ tape_pass [] [] reasons (found_when t.asked 0 0 false)) };
+    ghost since = { λ begun t now. (reasons : List CallRefused)
+        × (now ≡ tape_pass [] [] reasons (found_when t.asked 0 0 false)) };
 
     ghost knows = { λ t schema. Unit {0} };
 

@@ -189,7 +189,8 @@ struct NumberedStore<'c> {
 }
 
 impl Store for NumberedStore<'_> {
-    ghost state = { λ s. record { bytes = nothing; known = (⟦<QuietStore as Store>⟧.state s.store).known; faults = (⟦<QuietStore as Store>⟧.state s.store).faults; asked = (⟦<QuietStore as Store>⟧.state s.store).asked } };
+    ghost state = { λ s. record
+        { bytes = nothing; known = (⟦<QuietStore as Store>⟧.state s.store).known; faults = (⟦<QuietStore as Store>⟧.state s.store).faults; asked = (⟦<QuietStore as Store>⟧.state s.store).asked } };
 
     fn len(&mut self) -> Result<u64, Failed> {
         self.store.len()

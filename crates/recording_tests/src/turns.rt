@@ -156,7 +156,8 @@ fn run_lanes<R: Threads + Wait + Sync>(
 // A publisher with a mark, for so many messages.
 fn hire<'t>(alloc: Global, control: &mut Control<'t>, mark: u8, many: u32) -> Lane<'t>
     requires { control.old.seat.me.0.post.made < 64 }
-    ensures turn { (control.new.seat.table_id ≡ control.old.seat.table_id) × (result.publisher.seat.table_id ≡ control.old.seat.table_id) }
+    ensures turn { (control.new.seat.table_id ≡ control.old.seat.table_id)
+        × (result.publisher.seat.table_id ≡ control.old.seat.table_id) }
     ensures made { control.new.seat.me.0.post.made ≡ control.old.seat.me.0.post.made + 1 }
     ensures known { control.new.seat.me.0.post.known ≡ control.old.seat.me.0.post.known }
 {

@@ -31,7 +31,8 @@ is_memory_writer ends.Closed = false
 is_memory_writer (ends.Stopped stop) = is_memory_stop stop
 
 abbrev pub lacks_memory : Report → Bool
-lacks_memory r = is_memory_writer r.writer.end || list_any (λ f. is_memory_end f.end || list_any (λ x. is_memory x.cause) f.refused.items) r.feeds.items
+lacks_memory r = is_memory_writer r.writer.end
+    || list_any (λ f. is_memory_end f.end || list_any (λ x. is_memory x.cause) f.refused.items) r.feeds.items
 
 -- the same where there may be no report
 abbrev pub limit_passed : Option Report → Bool

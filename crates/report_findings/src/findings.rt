@@ -75,7 +75,8 @@ fn feed_lacked(feed: &FeedReport) -> bool
 
 // Whether memory lacked for one of the feeds.
 fn feeds_lacked(feeds: &[FeedReport]) -> bool
-    ensures { result ≡ list_any (λ f. is_memory_end f.end || list_any (λ x. is_memory x.cause) f.refused.items) feeds.now }
+    ensures { result
+        ≡ list_any (λ f. is_memory_end f.end || list_any (λ x. is_memory x.cause) f.refused.items) feeds.now }
 {
     feeds.iter().any(|feed| feed_lacked(feed))
 }

@@ -10,4 +10,5 @@ pub record WasRead (old new : StoreState) (next len failures : ℕ) : Type 0 whe
   pub known : new.known ≡ old.known
   pub within : next ≤ len
   pub whole : failures ≡ 0 → (new.faults ≡ old.faults) × (new.asked ≤ old.asked + next)
-  pub broken : 0 < failures → (old.faults ≤ new.faults) × (new.faults ≡ one_more old.faults) × (new.asked ≤ old.asked + len)
+  pub broken : 0 < failures
+      → (old.faults ≤ new.faults) × (new.faults ≡ one_more old.faults) × (new.asked ≤ old.asked + len)

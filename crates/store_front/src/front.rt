@@ -18,8 +18,11 @@ pub struct StoreFront<'a, T: Store> {
     faults_before: u64,
     asked_before: u128,
     ghost within: { (next ≤ len) × (len ≤ (T.state store.now).known) },
-    ghost whole: { failures ≡ 0 → ((T.state store.now).faults ≡ faults_before) × ((T.state store.now).asked ≤ asked_before + next) },
-    ghost broken: { 0 < failures → (faults_before ≤ (T.state store.now).faults) × ((T.state store.now).faults ≡ one_more faults_before) × ((T.state store.now).asked ≤ asked_before + len) },
+    ghost whole: { failures ≡ 0
+        → ((T.state store.now).faults ≡ faults_before) × ((T.state store.now).asked ≤ asked_before + next) },
+    ghost broken: { 0 < failures
+        → (faults_before ≤ (T.state store.now).faults) × ((T.state store.now).faults ≡ one_more faults_before)
+        × ((T.state store.now).asked ≤ asked_before + len) },
 }
 
 impl<'a, T: Store> StoreFront<'a, T> {
@@ -29,7 +32,8 @@ impl<'a, T: Store> StoreFront<'a, T> {
         ensures same_reference { result.store.ghost_name ≡ store.entry.ghost_name }
         ensures now { result.store.now ≡ store.old }
         ensures len { result.len ≡ len }
-        ensures state { ⟦<StoreFront<'a, T> as Source>⟧.state result ≡ record { left = front_left (T.state store.old).bytes 0 len; faults = 0 } }
+        ensures state { ⟦<StoreFront<'a, T> as Source>⟧.state result
+            ≡ record { left = front_left (T.state store.old).bytes 0 len; faults = 0 } }
         ensures faults { result.faults_before ≡ (T.state store.old).faults }
         ensures asked { result.asked_before ≡ (T.state store.old).asked }
     {
@@ -50,7 +54,10 @@ impl<'a, T: Store> Source for StoreFront<'a, T> {
     ghost state = { λ s. record { left = front_left (T.state s.store.now).bytes s.next s.len; faults = s.failures } };
 
     /// It is lent the same store, whose bytes are the same, and gives as many of them.
-    ghost stays = { λ s t. (t.store.ghost_name ≡ s.store.ghost_name) × (t.len ≡ s.len) × (t.faults_before ≡ s.faults_before) × (t.asked_before ≡ s.asked_before) × ((T.state t.store.now).bytes ≡ (T.state s.store.now).bytes) × ((T.state t.store.now).known ≡ (T.state s.store.now).known) };
+    ghost stays = { λ s t. (t.store.ghost_name ≡ s.store.ghost_name) × (t.len ≡ s.len)
+        × (t.faults_before ≡ s.faults_before) × (t.asked_before ≡ s.asked_before)
+        × ((T.state t.store.now).bytes ≡ (T.state s.store.now).bytes)
+        × ((T.state t.store.now).known ≡ (T.state s.store.now).known) };
 
     ghost stays_so = { λ s. (refl, refl, refl, refl, refl, refl) };
 

@@ -42,7 +42,8 @@ KnownInPlace body k t = is_known t.op ≡ true → IsInPlace (known (take k body
 
 -- a record was put behind those whose order is kept, or it isn't in its place behind them
 abbrev pub OpTaken : List Top → Top → Order → Bool → Type 0
-OpTaken before t order true = (is_known t.op ≡ true → IsInPlace (known before) t) × OrderOf (known (before ++ t ∷ [])) order
+OpTaken before t order true =
+    (is_known t.op ≡ true → IsInPlace (known before) t) × OrderOf (known (before ++ t ∷ [])) order
 OpTaken before t order false = (is_known t.op ≡ true → IsInPlace (known before) t) → ⊥
 
 abbrev pub OrderJudged : List Top → Option ℕ → Type 0

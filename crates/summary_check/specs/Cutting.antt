@@ -13,7 +13,8 @@ use Rattle.summary_check.specs.Files.{spelled_file, FailsThere}
 -- a record was cut, or a file that has these bytes behind its first records is refused
 abbrev pub CutJudged : List ℕ → ℕ → ℕ → Result Cut ReadingRefused → Type 0
 CutJudged bytes at start (Ok c) = IsCut bytes at c
-CutJudged bytes at start (Err why) = (tops : List Top) → AreShort tops → start + at ≡ offset_behind tops → FailsThere (spelled_file tops (drop at bytes)) why
+CutJudged bytes at start (Err why) = (tops : List Top) → AreShort tops → start + at ≡ offset_behind tops
+    → FailsThere (spelled_file tops (drop at bytes)) why
 
 -- each content stands behind the records in front of it and the head of its own
 abbrev pub ArePlaced : List ℕ → List Cut → Type 0
@@ -42,4 +43,5 @@ pub record AreCutBehind (bytes : List ℕ) (cuts : List Cut) : Type 0 where
 
 abbrev pub RecordsCut : {Y : Type 0} → List ℕ → ℕ → Result (Vec Cut Y) ReadingRefused → Type 0
 RecordsCut bytes start (Ok cuts) = AreCutBehind bytes cuts.items
-RecordsCut bytes start (Err why) = (tops : List Top) → AreShort tops → start ≡ offset_behind tops → FailsThere (spelled_file tops bytes) why
+RecordsCut bytes start (Err why) =
+    (tops : List Top) → AreShort tops → start ≡ offset_behind tops → FailsThere (spelled_file tops bytes) why

@@ -12,7 +12,8 @@ DeclarationTaken before t tables true = V7 before t × TablesOf (flat (before ++
 DeclarationTaken before t tables false = V7 before t → ⊥
 
 abbrev pub DeclarationsTaken : List Top → List Top → Tables → Option ℕ → Type 0
-DeclarationsTaken tops body tables None = ((k : ℕ) (t : Top) → At body k t → V7 (tops ++ take k body) t) × TablesOf (flat (tops ++ body)) tables
+DeclarationsTaken tops body tables None =
+    ((k : ℕ) (t : Top) → At body k t → V7 (tops ++ take k body) t) × TablesOf (flat (tops ++ body)) tables
 DeclarationsTaken tops body tables (Some k) = (t : Top) × At body k t × (V7 (tops ++ take k body) t → ⊥)
 
 -- just the ids of the Channels among these records

@@ -15,7 +15,8 @@ EmptyIsRight f c = f.indexes ≡ [] → (f.start ≡ 0) × (f.end ≡ 0) × (Has
 
 -- so it is with the record, where it is a Chunk Index
 abbrev pub EmptyRight : List Top → Top → Type 0
-EmptyRight all t = (f : ChunkIndexFields) (k : ℕ) (c : Top) (g : ChunkFields) → IsChunkIndex t f → IsIndexOf all f k c g → EmptyIsRight f c
+EmptyRight all t = (f : ChunkIndexFields) (k : ℕ) (c : Top) (g : ChunkFields) → IsChunkIndex t f → IsIndexOf all f k c g
+    → EmptyIsRight f c
 
 abbrev pub HasStatistics : List Top → Type 0
 HasStatistics body = (k : ℕ) × (t : Top) × At body k t × (t.op ≡ statistics_opcode)

@@ -19,7 +19,8 @@ use Rattle.summary_check.specs.Told.{ToldOf}
 -- the file of this data section and of these records is valid, and this is known of it
 pub record KnownOf (tops : List Top) (bytes : List ℕ) (cuts : List Cut) (foot : Cut) (known : Section) : Type 0 where
   pub valid : Valid (spelled_file tops bytes) (records_of tops bytes cuts foot)
-  pub told : ToldOf (records_of tops bytes cuts foot) (length tops + length (cut_tops bytes cuts)) known.chunks known.attachments known.metadata
+  pub told : ToldOf (records_of tops bytes cuts foot) (length tops + length (cut_tops bytes cuts)) known.chunks
+      known.attachments known.metadata
   pub ended : EndsWithDataEnd tops
   pub kinds : Each IsFrontRecord tops
   pub judged : Each (λ t. Judged t None) (cut_tops bytes cuts)

@@ -26,7 +26,8 @@ SpanIs cuts op (Some span) = Spans cuts op span.0 span.1
 
 -- just the opcodes that the Summary Offsets in front of that place name
 abbrev pub AreNamedOpcodes : List Top → ℕ → List ℕ → Type 0
-AreNamedOpcodes all n names = (op : ℕ) → Has names op ↔ ((i offset size : ℕ) × (u : Top) × (i < n) × At all i u × IsSummaryOffset u op offset size)
+AreNamedOpcodes all n names = (op : ℕ)
+    → Has names op ↔ ((i offset size : ℕ) × (u : Top) × (i < n) × At all i u × IsSummaryOffset u op offset size)
 
 -- a record keeps the rule, and these are the opcodes that are named with it; or it breaks it
 abbrev pub OffsetTaken : List Top → ℕ → Top → List ℕ → Bool → Type 0

@@ -7,4 +7,5 @@ use Rattle.mcap_model.specs.Valid.{SummaryHasChannel}
 
 -- the summary has a Channel for each message of the file
 abbrev pub AreRepeated : List Top → Type 0
-AreRepeated all = (n channel : ℕ) (t : Top) (m : MessageFields) → At (flat all) n t → IsMessage t channel m → SummaryHasChannel all channel
+AreRepeated all = (n channel : ℕ) (t : Top) (m : MessageFields) → At (flat all) n t → IsMessage t channel m
+    → SummaryHasChannel all channel

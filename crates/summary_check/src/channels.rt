@@ -13,7 +13,8 @@ use std::alloc::Global;
 
 // Adds the id of a record that is a Channel.
 fn add_channel(ids: &mut Ids, op: u8, content: &[u8]) -> Result<(), Memory>
-    ensures { OnOk result ((before : List Top) → AreChannelIds before ids.old → AreChannelIds (before ++ top op content.now ∷ []) ids.new) }
+    ensures { OnOk result ((before : List Top) → AreChannelIds before ids.old
+        → AreChannelIds (before ++ top op content.now ∷ []) ids.new) }
 {
     if op != CHANNEL {
         return Ok(());

@@ -22,7 +22,8 @@ const CRC_PLACE: u64 = 16;
 
 // Where the first Summary Offset stands in the file, if there is one.
 fn first_offset(cuts: &[Cut], start: u64) -> Option<u64>
-    ensures { (tops : List Top) (bytes : List ℕ) (foot : Top) → Laid tops bytes cuts.now start → FirstStands (all_of tops (cut_tops bytes cuts.now) foot) result }
+    ensures { (tops : List Top) (bytes : List ℕ) (foot : Top) → Laid tops bytes cuts.now start
+        → FirstStands (all_of tops (cut_tops bytes cuts.now) foot) result }
 {
     match span_of(cuts, SUMMARY_OFFSET) {
         None => return None,
@@ -34,9 +35,11 @@ fn first_offset(cuts: &[Cut], start: u64) -> Option<u64>
 
 // Where the parts of a file start.
 fn places_of(cuts: &[Cut], foot: &Cut, start: u64) -> SummaryPlaces
-    ensures are { (tops : List Top) (bytes : List ℕ) → Filed tops bytes cuts.now foot.now start → PlacesOf (records_of tops bytes cuts.now foot.now) (size tops + size (cut_tops bytes cuts.now)) result }
+    ensures are { (tops : List Top) (bytes : List ℕ) → Filed tops bytes cuts.now foot.now start
+        → PlacesOf (records_of tops bytes cuts.now foot.now) (size tops + size (cut_tops bytes cuts.now)) result }
     ensures behind { result.behind ≡ start }
-    ensures footer { (tops : List Top) (bytes : List ℕ) → Filed tops bytes cuts.now foot.now start → result.footer ≡ start + (foot.now.from - 9) }
+    ensures footer { (tops : List Top) (bytes : List ℕ) → Filed tops bytes cuts.now foot.now start
+        → result.footer ≡ start + (foot.now.from - 9) }
 {
     let first_offset = first_offset(cuts, start);
     SummaryPlaces {
@@ -55,10 +58,14 @@ pub(crate) fn judge_footer(
     start: u64,
 ) -> Result<(), ReadingRefused>
     requires { foot.now.from + 16 ≤ size bytes.now }
-    ensures ok { OnOk result ((tops : List Top) → Filed tops bytes.now cuts.now foot.now start → IsOfFooter bytes.now foot.now footer.now
-        → V11 (records_of tops bytes.now cuts.now foot.now) (size tops + size (cut_tops bytes.now cuts.now)) (cut_top bytes.now foot.now)
-        × V16 (spelled_file tops bytes.now) (records_of tops bytes.now cuts.now foot.now) (size tops + size (cut_tops bytes.now cuts.now)) (cut_top bytes.now foot.now)) }
-    ensures err { IfErr result (λ why. (tops : List Top) → Filed tops bytes.now cuts.now foot.now start → IsOfFooter bytes.now foot.now footer.now → FailsThere (spelled_file tops bytes.now) why) }
+    ensures ok { OnOk result ((tops : List Top) → Filed tops bytes.now cuts.now foot.now start
+        → IsOfFooter bytes.now foot.now footer.now
+        → V11 (records_of tops bytes.now cuts.now foot.now) (size tops + size (cut_tops bytes.now cuts.now))
+        (cut_top bytes.now foot.now)
+        × V16 (spelled_file tops bytes.now) (records_of tops bytes.now cuts.now foot.now)
+        (size tops + size (cut_tops bytes.now cuts.now)) (cut_top bytes.now foot.now)) }
+    ensures err { IfErr result (λ why. (tops : List Top) → Filed tops bytes.now cuts.now foot.now start
+        → IsOfFooter bytes.now foot.now footer.now → FailsThere (spelled_file tops bytes.now) why) }
     ensures kind { IfErr result IsOfSummary }
 {
     let places = places_of(cuts, foot, start);

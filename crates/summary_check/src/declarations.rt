@@ -21,7 +21,8 @@ fn take_declaration(
     op: u8,
     content: &[u8],
 ) -> Result<bool, Memory>
-    ensures { IfOk result (λ right. (before : List Top) → TablesOf (flat before) tables.old → Judged (top op content.now) None → DeclarationTaken before (top op content.now) tables.new right) }
+    ensures { IfOk result (λ right. (before : List Top) → TablesOf (flat before) tables.old
+        → Judged (top op content.now) None → DeclarationTaken before (top op content.now) tables.new right) }
 {
     if op == SCHEMA {
         match tables.take_schema(alloc, content) {
@@ -48,7 +49,8 @@ pub(crate) fn find_disagreeing(
     cuts: &[Cut],
 ) -> Result<Option<usize>, Memory>
     requires { AreInside bytes.now cuts.now }
-    ensures { IfOk result (λ found. (tops : List Top) → TablesOf (flat tops) tables.old → Each (λ t. Judged t None) (cut_tops bytes.now cuts.now)
+    ensures { IfOk result (λ found. (tops : List Top) → TablesOf (flat tops) tables.old
+        → Each (λ t. Judged t None) (cut_tops bytes.now cuts.now)
         → DeclarationsTaken tops (cut_tops bytes.now cuts.now) tables.new found) }
 {
     'records: for i in 0..cuts.len() {

@@ -29,7 +29,9 @@ use std::alloc::Global;
 
 // The rule fails at the record that was cut at that place, in bytes that stand in the file from `start` on.
 fn flawed(rule: Rule, cuts: &[Cut], i: usize, start: u64) -> ReadingRefused
-    ensures fails { (tops : List Top) (bytes : List ℕ) (foot t : Top) → Laid tops bytes cuts.now start → At (cut_tops bytes cuts.now) i t → result ≡ flawed_at rule (offset_of (all_of tops (cut_tops bytes cuts.now) foot) (size tops + i)) }
+    ensures fails { (tops : List Top) (bytes : List ℕ) (foot t : Top) → Laid tops bytes cuts.now start
+        → At (cut_tops bytes cuts.now) i t
+        → result ≡ flawed_at rule (offset_of (all_of tops (cut_tops bytes cuts.now) foot) (size tops + i)) }
     ensures kind { IsOfSummary result }
 {
     if i >= cuts.len() {
@@ -44,7 +46,8 @@ fn flawed(rule: Rule, cuts: &[Cut], i: usize, start: u64) -> ReadingRefused
 pub(crate) fn judge_kinds(bytes: &[u8], cuts: &[Cut], start: u64) -> Result<(), ReadingRefused>
     requires { AreInside bytes.now cuts.now }
     ensures ok { OnOk result (Each (λ t. Judged t None) (cut_tops bytes.now cuts.now)) }
-    ensures err { IfErr result (λ why. (tops : List Top) (foot : OneCut) → Filed tops bytes.now cuts.now foot start → FailsThere (spelled_file tops bytes.now) why) }
+    ensures err { IfErr result (λ why. (tops : List Top) (foot : OneCut) → Filed tops bytes.now cuts.now foot start
+        → FailsThere (spelled_file tops bytes.now) why) }
     ensures kind { IfErr result IsOfSummary }
 {
     match find_broken(bytes, cuts) {
@@ -62,9 +65,11 @@ pub(crate) fn judge_declarations(
     start: u64,
 ) -> Result<(), ReadingRefused>
     requires { AreInside bytes.now cuts.now }
-    ensures ok { OnOk result ((tops : List Top) → TablesOf (flat tops) tables.old → Each (λ t. Judged t None) (cut_tops bytes.now cuts.now)
+    ensures ok { OnOk result ((tops : List Top) → TablesOf (flat tops) tables.old
+        → Each (λ t. Judged t None) (cut_tops bytes.now cuts.now)
         → DeclarationsTaken tops (cut_tops bytes.now cuts.now) tables.new None) }
-    ensures err { IfErr result (λ why. (tops : List Top) (foot : OneCut) → Filed tops bytes.now cuts.now foot start → TablesOf (flat tops) tables.old → Each (λ t. Judged t None) (cut_tops bytes.now cuts.now)
+    ensures err { IfErr result (λ why. (tops : List Top) (foot : OneCut) → Filed tops bytes.now cuts.now foot start
+        → TablesOf (flat tops) tables.old → Each (λ t. Judged t None) (cut_tops bytes.now cuts.now)
         → FailsThere (spelled_file tops bytes.now) why) }
     ensures kind { IfErr result IsOfSummary }
 {
@@ -78,7 +83,8 @@ pub(crate) fn judge_declarations(
 /// Judges the order of a summary.
 pub(crate) fn judge_order(alloc: Global, cuts: &[Cut], start: u64) -> Result<(), ReadingRefused>
     ensures ok { OnOk result ((bytes : List ℕ) → OrderJudged (cut_tops bytes cuts.now) None) }
-    ensures err { IfErr result (λ why. (tops : List Top) (bytes : List ℕ) (foot : OneCut) → Filed tops bytes cuts.now foot start → FailsThere (spelled_file tops bytes) why) }
+    ensures err { IfErr result (λ why. (tops : List Top) (bytes : List ℕ) (foot : OneCut)
+        → Filed tops bytes cuts.now foot start → FailsThere (spelled_file tops bytes) why) }
     ensures kind { IfErr result IsOfSummary }
 {
     match find_misplaced(alloc, cuts) {
@@ -98,9 +104,13 @@ pub(crate) fn judge_indexes(
     start: u64,
 ) -> Result<(), ReadingRefused>
     requires { AreInside bytes.now cuts.now }
-    ensures ok { OnOk result ((all : List Top) (base : ℕ) → StandFrom all base (cut_tops bytes.now cuts.now) → ToldOf all base chunks.old attachments.old metadata.old → IndexesTaken all base (cut_tops bytes.now cuts.now) chunks.new attachments.new metadata.new None) }
-    ensures err { IfErr result (λ why. (tops : List Top) (foot : OneCut) → Filed tops bytes.now cuts.now foot start → Each (λ t. Judged t None) (cut_tops bytes.now cuts.now)
-        → ToldOf (records_of tops bytes.now cuts.now foot) (size tops) chunks.old attachments.old metadata.old → FailsThere (spelled_file tops bytes.now) why) }
+    ensures ok { OnOk result ((all : List Top) (base : ℕ) → StandFrom all base (cut_tops bytes.now cuts.now)
+        → ToldOf all base chunks.old attachments.old metadata.old
+        → IndexesTaken all base (cut_tops bytes.now cuts.now) chunks.new attachments.new metadata.new None) }
+    ensures err { IfErr result (λ why. (tops : List Top) (foot : OneCut) → Filed tops bytes.now cuts.now foot start
+        → Each (λ t. Judged t None) (cut_tops bytes.now cuts.now)
+        → ToldOf (records_of tops bytes.now cuts.now foot) (size tops) chunks.old attachments.old metadata.old
+        → FailsThere (spelled_file tops bytes.now) why) }
     ensures kind { IfErr result IsOfSummary }
 {
     match take_indexes(chunks, attachments, metadata, bytes, cuts) {
@@ -117,9 +127,12 @@ pub(crate) fn judge_statistics(
     start: u64,
 ) -> Result<(), ReadingRefused>
     requires { AreInside bytes.now cuts.now }
-    ensures ok { OnOk result ((all section : List Top) (base : ℕ) → TallyOf all section tally.now → KeptFrom V14 all base (cut_tops bytes.now cuts.now)) }
-    ensures err { IfErr result (λ why. (tops section : List Top) (foot : OneCut) → Filed tops bytes.now cuts.now foot start → Each (λ t. Judged t None) (cut_tops bytes.now cuts.now)
-        → TallyOf (records_of tops bytes.now cuts.now foot) section tally.now → FailsThere (spelled_file tops bytes.now) why) }
+    ensures ok { OnOk result ((all section : List Top) (base : ℕ) → TallyOf all section tally.now
+        → KeptFrom V14 all base (cut_tops bytes.now cuts.now)) }
+    ensures err { IfErr result (λ why. (tops section : List Top) (foot : OneCut)
+        → Filed tops bytes.now cuts.now foot start → Each (λ t. Judged t None) (cut_tops bytes.now cuts.now)
+        → TallyOf (records_of tops bytes.now cuts.now foot) section tally.now
+        → FailsThere (spelled_file tops bytes.now) why) }
     ensures kind { IfErr result IsOfSummary }
 {
     match find_miscounted(tally, bytes, cuts) {
@@ -136,8 +149,10 @@ pub(crate) fn judge_offsets(
     start: u64,
 ) -> Result<(), ReadingRefused>
     requires { AreInside bytes.now cuts.now }
-    ensures ok { OnOk result ((tops : List Top) (foot : Top) → Laid tops bytes.now cuts.now start → KeptFrom V15 (all_of tops (cut_tops bytes.now cuts.now) foot) (size tops) (cut_tops bytes.now cuts.now)) }
-    ensures err { IfErr result (λ why. (tops : List Top) (foot : OneCut) → Filed tops bytes.now cuts.now foot start → FailsThere (spelled_file tops bytes.now) why) }
+    ensures ok { OnOk result ((tops : List Top) (foot : Top) → Laid tops bytes.now cuts.now start
+        → KeptFrom V15 (all_of tops (cut_tops bytes.now cuts.now) foot) (size tops) (cut_tops bytes.now cuts.now)) }
+    ensures err { IfErr result (λ why. (tops : List Top) (foot : OneCut) → Filed tops bytes.now cuts.now foot start
+        → FailsThere (spelled_file tops bytes.now) why) }
     ensures kind { IfErr result IsOfSummary }
 {
     match find_misnamed(alloc, bytes, cuts, start) {

@@ -24,7 +24,9 @@ use std::alloc::Global;
 
 // Whether a Chunk Index has entries in its map, or both times 0 and a chunk without Messages.
 fn is_empty_right(chunks: &Chunks, index: &ChunkIndex<'_>) -> bool
-    ensures { (all : List Top) (k : ℕ) (c : Top) (g : ChunkFields) → ChunksOf all chunks.now → IsIndexOf all (chunk_index_fields index.now) k c g → IsTrue result ↔ EmptyIsRight (chunk_index_fields index.now) c }
+    ensures { (all : List Top) (k : ℕ) (c : Top) (g : ChunkFields) → ChunksOf all chunks.now
+        → IsIndexOf all (chunk_index_fields index.now) k c g
+        → IsTrue result ↔ EmptyIsRight (chunk_index_fields index.now) c }
 {
     if index.message_index_offsets.count() != 0 {
         return true;
@@ -37,7 +39,8 @@ fn is_empty_right(chunks: &Chunks, index: &ChunkIndex<'_>) -> bool
 
 // The same of a record, where it is a Chunk Index.
 fn is_right(chunks: &Chunks, op: u8, content: &[u8]) -> bool
-    ensures { (all : List Top) (n : ℕ) → ChunksOf all chunks.now → V12 all n (top op content.now) → IsTrue result ↔ EmptyRight all (top op content.now) }
+    ensures { (all : List Top) (n : ℕ) → ChunksOf all chunks.now → V12 all n (top op content.now)
+        → IsTrue result ↔ EmptyRight all (top op content.now) }
 {
     if op != CHUNK_INDEX {
         return true;
@@ -51,7 +54,9 @@ fn is_right(chunks: &Chunks, op: u8, content: &[u8]) -> bool
 // The same of each of these records.
 fn are_right(chunks: &Chunks, bytes: &[u8], cuts: &[Cut]) -> bool
     requires { AreInside bytes.now cuts.now }
-    ensures { (all : List Top) → ChunksOf all chunks.now → ((k : ℕ) (t : Top) → At (cut_tops bytes.now cuts.now) k t → (n : ℕ) × V12 all n t) → IsTrue result ↔ Each (EmptyRight all) (cut_tops bytes.now cuts.now) }
+    ensures { (all : List Top) → ChunksOf all chunks.now
+        → ((k : ℕ) (t : Top) → At (cut_tops bytes.now cuts.now) k t → (n : ℕ) × V12 all n t)
+        → IsTrue result ↔ Each (EmptyRight all) (cut_tops bytes.now cuts.now) }
 {
     'records: for i in 0..cuts.len() {
         let record = record_at(bytes, cuts, i);
@@ -80,8 +85,11 @@ pub(crate) fn is_indexed(
     cuts: &[Cut],
 ) -> Result<bool, Memory>
     requires { AreInside bytes.now cuts.now }
-    ensures { IfOk result (λ indexed. (tops : List Top) (foot : OneCut) → KnownOf tops bytes.now cuts.now foot section.now
-        → IsTrue indexed ↔ MakesFullyIndexed (records_of tops bytes.now cuts.now foot) (cut_tops bytes.now cuts.now) section.now.chunks.spots section.now.has_messages) }
+    ensures { IfOk result (λ indexed. (tops : List Top) (foot : OneCut)
+        → KnownOf tops bytes.now cuts.now foot section.now
+        → IsTrue indexed
+        ↔ MakesFullyIndexed (records_of tops bytes.now cuts.now foot) (cut_tops bytes.now cuts.now)
+        section.now.chunks.spots section.now.has_messages) }
 {
     if section.has_messages {
         return Ok(false);

@@ -34,8 +34,10 @@ fn judge_cuts(
     requires footer { IsOfFooter rest.now foot.now footer.now }
     requires room { foot.now.from + 16 ≤ size rest.now }
     requires fits { section.now.behind + size rest.now < 2 ^ 64 }
-    ensures ok { OnOk result ((tops : List Top) → IsSectioned tops section.old → KnownOf tops rest.now cuts.now foot.now section.new) }
-    ensures err { IfErr result (λ why. (tops : List Top) → IsSectioned tops section.old → FailsThere (spelled_file tops rest.now) why) }
+    ensures ok { OnOk result ((tops : List Top) → IsSectioned tops section.old
+        → KnownOf tops rest.now cuts.now foot.now section.new) }
+    ensures err { IfErr result (λ why. (tops : List Top) → IsSectioned tops section.old
+        → FailsThere (spelled_file tops rest.now) why) }
     ensures kind { IfErr result IsOfSummary }
 {
     let behind = section.behind;
@@ -81,8 +83,10 @@ fn judge_cuts(
 // The same of all bytes behind a data section, and whether the file is fully indexed.
 fn judge_rest(alloc: Global, section: &mut Section, rest: &[u8]) -> Result<bool, ReadingRefused>
     requires { section.now.behind + size rest.now + 8 < 2 ^ 64 }
-    ensures ok { IfOk result (λ indexed. (tops : List Top) → IsSectioned tops section.old → IsJudged tops rest.now indexed) }
-    ensures err { IfErr result (λ why. (tops : List Top) → IsSectioned tops section.old → FailsThere (spelled_file tops rest.now) why) }
+    ensures ok { IfOk result (λ indexed. (tops : List Top) → IsSectioned tops section.old
+        → IsJudged tops rest.now indexed) }
+    ensures err { IfErr result (λ why. (tops : List Top) → IsSectioned tops section.old
+        → FailsThere (spelled_file tops rest.now) why) }
     ensures kind { IfErr result IsOfSummary }
 {
     let Summary { cuts, foot, footer } = match cut_summary(alloc, rest, section.behind) {
@@ -103,8 +107,10 @@ fn judge_rest(alloc: Global, section: &mut Section, rest: &[u8]) -> Result<bool,
 /// fully indexed. What was kept of the data section is used up.
 pub fn judge_summary(alloc: Global, section: Section, rest: &[u8]) -> Result<bool, ReadingRefused>
     requires { section.behind + size rest.now + 8 < 2 ^ 64 }
-    ensures ok { IfOk result (λ indexed. (tops : List Top) → IsSectioned tops section → IsJudged tops rest.now indexed) }
-    ensures err { IfErr result (λ why. (tops : List Top) → IsSectioned tops section → FailsThere (spelled_file tops rest.now) why) }
+    ensures ok { IfOk result (λ indexed. (tops : List Top) → IsSectioned tops section
+        → IsJudged tops rest.now indexed) }
+    ensures err { IfErr result (λ why. (tops : List Top) → IsSectioned tops section
+        → FailsThere (spelled_file tops rest.now) why) }
     ensures kind { IfErr result IsOfSummary }
 {
     let mut kept = section;

@@ -43,7 +43,9 @@ pub(crate) fn span_of(cuts: &[Cut], op: u8) -> Option<(u64, u64)>
 // Whether a Summary Offset names the records of its opcode, which were cut from bytes that stand at `start`.
 fn names_group(cuts: &[Cut], start: u64, offset: &SummaryOffset) -> bool
     ensures { (tops : List Top) (bytes : List ℕ) (foot : Top) → Laid tops bytes cuts.now start
-        → IsTrue result ↔ IsGroup (all_of tops (cut_tops bytes cuts.now) foot) offset.now.group_opcode offset.now.group_start offset.now.group_length }
+        → IsTrue result
+        ↔ IsGroup (all_of tops (cut_tops bytes cuts.now) foot) offset.now.group_opcode offset.now.group_start
+        offset.now.group_length }
 {
     match span_of(cuts, offset.group_opcode) {
         None => return false,
@@ -65,8 +67,10 @@ fn take_offset(
     op: u8,
     content: &[u8],
 ) -> Result<bool, Memory>
-    ensures { IfOk result (λ right. (tops : List Top) (bytes : List ℕ) (foot : Top) (n : ℕ) → Laid tops bytes cuts.now start → AreNamedOpcodes (all_of tops (cut_tops bytes cuts.now) foot) n names.old
-        → At (all_of tops (cut_tops bytes cuts.now) foot) n (top op content.now) → OffsetTaken (all_of tops (cut_tops bytes cuts.now) foot) n (top op content.now) names.new right) }
+    ensures { IfOk result (λ right. (tops : List Top) (bytes : List ℕ) (foot : Top) (n : ℕ)
+        → Laid tops bytes cuts.now start → AreNamedOpcodes (all_of tops (cut_tops bytes cuts.now) foot) n names.old
+        → At (all_of tops (cut_tops bytes cuts.now) foot) n (top op content.now)
+        → OffsetTaken (all_of tops (cut_tops bytes cuts.now) foot) n (top op content.now) names.new right) }
 {
     if op != SUMMARY_OFFSET {
         return Ok(true);
@@ -97,7 +101,8 @@ pub(crate) fn find_misnamed(
 ) -> Result<Option<usize>, Memory>
     requires { AreInside bytes.now cuts.now }
     ensures { IfOk result (λ found. (tops : List Top) (foot : Top) → Laid tops bytes.now cuts.now start
-        → RuleJudged V15 (all_of tops (cut_tops bytes.now cuts.now) foot) (size tops) (cut_tops bytes.now cuts.now) found) }
+        → RuleJudged V15 (all_of tops (cut_tops bytes.now cuts.now) foot) (size tops) (cut_tops bytes.now cuts.now)
+        found) }
 {
     let mut names = Ids::new(alloc);
     'records: for i in 0..cuts.len() {

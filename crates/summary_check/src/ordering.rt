@@ -12,7 +12,8 @@ use std::alloc::Global;
 
 // Whether a record of that opcode is in its place behind the others. If so, it is put behind them; only known records count.
 fn take_op(order: &mut Order, op: u8) -> Result<bool, Memory>
-    ensures { IfOk result (λ right. (before : List Top) (t : Top) → OrderOf (known before) order.old → t.op ≡ op → OpTaken before t order.new right) }
+    ensures { IfOk result (λ right. (before : List Top) (t : Top) → OrderOf (known before) order.old → t.op ≡ op
+        → OpTaken before t order.new right) }
 {
     if op == 0 {
         return Ok(true);

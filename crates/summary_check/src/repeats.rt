@@ -33,7 +33,8 @@ fn have_entries(ids: &Ids, counts: &[(u16, u64)]) -> bool
 /// Whether each channel with a Message, for which there is a number, is one of these, which are those of the Channels
 /// between the Data End and the Footer.
 pub fn are_repeated(tally: &Tally, ids: &Ids) -> bool
-    ensures { (tops body : List Top) (foot : Top) (ended : EndsWithDataEnd tops) → Each (λ t. Judged t None) body → foot.op ≡ footer_opcode → TallyOf (all_of tops body foot) ended.section tally.now → AreChannelIds body ids.now
+    ensures { (tops body : List Top) (foot : Top) (ended : EndsWithDataEnd tops) → Each (λ t. Judged t None) body
+        → foot.op ≡ footer_opcode → TallyOf (all_of tops body foot) ended.section tally.now → AreChannelIds body ids.now
         → IsTrue result ↔ AreRepeated (all_of tops body foot) }
 {
     have_entries(ids, &tally.counts)

@@ -14,7 +14,8 @@ use rec_index::{STATISTICS, Statistics};
 
 // Whether a record counts the data section right, where it is a Statistics.
 fn counts_right(tally: &Tally, op: u8, content: &[u8]) -> bool
-    ensures { (all section : List Top) (n : ℕ) → TallyOf all section tally.now → IsTrue result ↔ V14 all n (top op content.now) }
+    ensures { (all section : List Top) (n : ℕ) → TallyOf all section tally.now
+        → IsTrue result ↔ V14 all n (top op content.now) }
 {
     if op != STATISTICS {
         return true;
@@ -28,7 +29,8 @@ fn counts_right(tally: &Tally, op: u8, content: &[u8]) -> bool
 /// The first Statistics among these records that doesn't count the data section right.
 pub(crate) fn find_miscounted(tally: &Tally, bytes: &[u8], cuts: &[Cut]) -> Option<usize>
     requires { AreInside bytes.now cuts.now }
-    ensures { (all section : List Top) (base : ℕ) → TallyOf all section tally.now → RuleJudged V14 all base (cut_tops bytes.now cuts.now) result }
+    ensures { (all section : List Top) (base : ℕ) → TallyOf all section tally.now
+        → RuleJudged V14 all base (cut_tops bytes.now cuts.now) result }
 {
     'records: for i in 0..cuts.len() {
         let record = record_at(bytes, cuts, i);

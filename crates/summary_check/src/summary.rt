@@ -51,7 +51,8 @@ pub(crate) fn cut_summary(
 ) -> Result<Summary, ReadingRefused>
     requires { start + length bytes.now + 8 < 2 ^ 64 }
     ensures ok { IfOk result (λ s. CutWithFooter bytes.now s) }
-    ensures err { IfErr result (λ why. (tops : List Top) → EndsWithDataEnd tops → AreShort tops → start ≡ offset_behind tops → FailsThere (spelled_file tops bytes.now) why) }
+    ensures err { IfErr result (λ why. (tops : List Top) → EndsWithDataEnd tops → AreShort tops
+        → start ≡ offset_behind tops → FailsThere (spelled_file tops bytes.now) why) }
     ensures kind { IfErr result IsOfSummary }
 {
     let mut cuts = match cut_records(alloc, bytes, start) {

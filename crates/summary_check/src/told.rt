@@ -23,7 +23,9 @@ fn take_index(
     op: u8,
     content: &[u8],
 ) -> Option<Rule>
-    ensures { (all : List Top) (n : ℕ) → ToldOf all n chunks.old attachments.old metadata.old → At all n (top op content.now) → IndexTaken all n (top op content.now) chunks.new attachments.new metadata.new result }
+    ensures { (all : List Top) (n : ℕ) → ToldOf all n chunks.old attachments.old metadata.old
+        → At all n (top op content.now)
+        → IndexTaken all n (top op content.now) chunks.new attachments.new metadata.new result }
 {
     if op == CHUNK_INDEX {
         let index = match ChunkIndex::parse(content) {
@@ -67,7 +69,9 @@ pub(crate) fn take_indexes(
     cuts: &[Cut],
 ) -> Option<(usize, Rule)>
     requires { AreInside bytes.now cuts.now }
-    ensures { (all : List Top) (base : ℕ) → StandFrom all base (cut_tops bytes.now cuts.now) → ToldOf all base chunks.old attachments.old metadata.old → IndexesTaken all base (cut_tops bytes.now cuts.now) chunks.new attachments.new metadata.new result }
+    ensures { (all : List Top) (base : ℕ) → StandFrom all base (cut_tops bytes.now cuts.now)
+        → ToldOf all base chunks.old attachments.old metadata.old
+        → IndexesTaken all base (cut_tops bytes.now cuts.now) chunks.new attachments.new metadata.new result }
 {
     'records: for i in 0..cuts.len() {
         let record = record_at(bytes, cuts, i);

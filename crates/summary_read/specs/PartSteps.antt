@@ -45,7 +45,8 @@ abbrev pub offsets_of : ℕ → List Cut → List ℕ
 offsets_of start cuts = map (λ c. start + (c.from - 9)) cuts
 
 -- the Header of that content, the Footer, and the records that were cut, listed
-pub record ListsParts (header : List ℕ) (footer : Footer) (summary : List ℕ) (cuts : List Cut) (p : Parts) : Type 0 where
+pub record ListsParts (header : List ℕ) (footer : Footer) (summary : List ℕ) (cuts : List Cut) (p : Parts)
+    : Type 0 where
   pub header_is : p.header ≡ top header_opcode header
   pub footer_is : p.footer ≡ footer
   pub listed : AreListed (cut_tops summary cuts) p

@@ -67,7 +67,8 @@ pub data BreaksFirst (rest : List ℕ) : Rule → Type 0 where
 
 -- a record of the summary breaks the rule
 abbrev pub FailsInside : List ℕ → ℕ → Rule → ℕ → Type 0
-FailsInside summary start rule offset = (tops : List Top) × (rest : List ℕ) × CutTo summary start tops rest offset × (rest ≢ []) × BreaksFirst rest rule
+FailsInside summary start rule offset =
+    (tops : List Top) × (rest : List ℕ) × CutTo summary start tops rest offset × (rest ≢ []) × BreaksFirst rest rule
 
 -- The file begins with the magic, and in front of its last eight bytes no whole record begins behind that.
 pub record CutsFirst (file : List ℕ) : Type 0 where
@@ -88,8 +89,10 @@ pub data FailsAtEnds (file : List ℕ) : Rule → ℕ → Type 0 where
 -- a record of the summary. Of a file that doesn't begin with the magic only that is told.
 pub data FailsLoading (file : List ℕ) : Rule → ℕ → Type 0 where
   at_ends : (rule : Rule) (offset : ℕ) → FailsAtEnds file rule offset → FailsLoading file rule offset
-  by_start : V1 file → (f : Footer) → EndsIn file f → f.summary_start ≢ 0 → (f.summary_start < 8) ⊎ (length file < f.summary_start + 37) → FailsLoading file rules.V11 (length file - 37)
-  inside : V1 file → (start : ℕ) (rule : Rule) (offset : ℕ) → SummaryStartsAt file start → FailsInside (summary_part file start) start rule offset → FailsLoading file rule offset
+  by_start : V1 file → (f : Footer) → EndsIn file f → f.summary_start ≢ 0
+      → (f.summary_start < 8) ⊎ (length file < f.summary_start + 37) → FailsLoading file rules.V11 (length file - 37)
+  inside : V1 file → (start : ℕ) (rule : Rule) (offset : ℕ) → SummaryStartsAt file start
+      → FailsInside (summary_part file start) start rule offset → FailsLoading file rule offset
 
 -- ---- where a limit is passed
 
@@ -100,11 +103,14 @@ pub record DeclaresPast (rest : List ℕ) : Type 0 where
 
 -- a record of the summary does
 abbrev pub PassesInside : List ℕ → ℕ → ℕ → Type 0
-PassesInside summary start offset = (tops : List Top) × (rest : List ℕ) × CutTo summary start tops rest offset × DeclaresPast rest
+PassesInside summary start offset =
+    (tops : List Top) × (rest : List ℕ) × CutTo summary start tops rest offset × DeclaresPast rest
 
 -- the file is too long, or its summary, or the content that the Header or a record of the summary declares
 pub data Passes (file : List ℕ) : ℕ → Type 0 where
   file_passes : file_limit < length file → Passes file file_limit
-  summary_passes : (start : ℕ) → SummaryStartsAt file start → summary_limit < length file - 37 - start → Passes file start
+  summary_passes : (start : ℕ) → SummaryStartsAt file start → summary_limit < length file - 37 - start
+      → Passes file start
   header_passes : DeclaresPast (drop 8 file) → Passes file 8
-  record_passes : (start offset : ℕ) → SummaryStartsAt file start → PassesInside (summary_part file start) start offset → Passes file offset
+  record_passes : (start offset : ℕ) → SummaryStartsAt file start → PassesInside (summary_part file start) start offset
+      → Passes file offset

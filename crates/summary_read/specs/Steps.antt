@@ -42,7 +42,8 @@ IsOfEnd (by_index.Refused why) = IsOfBytes why
 -- bytes begin with that Footer, or with none
 abbrev pub BeginsWithFooter : List ℕ → Option Footer → Type 0
 BeginsWithFooter bytes (Some f) = (t : Top) × (rest : List ℕ) × (bytes ≡ top_bytes t ++ rest) × RecordShowsFooter t f
-BeginsWithFooter bytes None = (f : Footer) (t : Top) (rest : List ℕ) → bytes ≡ top_bytes t ++ rest → RecordShowsFooter t f → ⊥
+BeginsWithFooter bytes None =
+    (f : Footer) (t : Top) (rest : List ℕ) → bytes ≡ top_bytes t ++ rest → RecordShowsFooter t f → ⊥
 
 -- the Footer names a summary that can be read
 pub record NamesPart (file : List ℕ) (f : Footer) : Type 0 where
@@ -117,15 +118,18 @@ TellsMagic told len result = (file : List ℕ) → told ≡ Some file → length
 
 -- a rule that fails by the end is told, or the first magic isn't there
 abbrev pub TellsRefused : Option (List ℕ) → ℕ → ℕ → Rule → ReadingRefused → Type 0
-TellsRefused told len offset rule why = (file : List ℕ) → told ≡ Some file → length file ≡ len → EndStops file (refusals.Grammar offset rule) → IsUnloaded file why
+TellsRefused told len offset rule why = (file : List ℕ) → told ≡ Some file → length file ≡ len
+    → EndStops file (refusals.Grammar offset rule) → IsUnloaded file why
 
 -- its front
 abbrev pub TellsFront : Option (List ℕ) → ℕ → Result ℕ ReadingRefused → Type 0
-TellsFront told len result = (file : List ℕ) → told ≡ Some file → length file ≡ len → (HasNoSummary file → ⊥) → FrontJudged file result
+TellsFront told len result =
+    (file : List ℕ) → told ≡ Some file → length file ≡ len → (HasNoSummary file → ⊥) → FrontJudged file result
 
 -- so many bytes from there on, where the store tells; or it failed, or memory lacked
 abbrev pub TellsPart : {Y : Type 0} → Option (List ℕ) → ℕ → ℕ → Result (Vec ℕ Y) ReadingRefused → Type 0
-TellsPart told at len (Ok part) = (vec_len part ≡ len) × ((file : List ℕ) → told ≡ Some file → part.items ≡ take len (drop at file))
+TellsPart told at len (Ok part) =
+    (vec_len part ≡ len) × ((file : List ℕ) → told ≡ Some file → part.items ≡ take len (drop at file))
 TellsPart told at len (Err (refusals.Fault faults)) = Unit {0}
 TellsPart told at len (Err (refusals.Grammar offset rule)) = ⊥
 TellsPart told at len (Err (refusals.Compressed offset name)) = ⊥
@@ -142,11 +146,13 @@ HeaderJudged file (Ok content) = HasHeader file content.items
 HeaderJudged file (Err why) = IsUnloaded file why
 
 abbrev pub TellsHeader : {Y : Type 0} → Option (List ℕ) → ℕ → Result (Vec ℕ Y) ReadingRefused → Type 0
-TellsHeader told len result = (file : List ℕ) → told ≡ Some file → length file ≡ len → (HasNoSummary file → ⊥) → HeaderJudged file result
+TellsHeader told len result =
+    (file : List ℕ) → told ≡ Some file → length file ≡ len → (HasNoSummary file → ⊥) → HeaderJudged file result
 
 -- the magic, the head of the Header and the content that it declares were asked for
 abbrev pub HeaderAsks : StoreState → StoreState → ℕ → Type 0
-HeaderAsks old new len = (file : List ℕ) → old.bytes ≡ Some file → length file ≡ len → (HasNoSummary file → ⊥) → new.asked ≤ old.asked + 17 + declared_length (drop 8 file)
+HeaderAsks old new len = (file : List ℕ) → old.bytes ≡ Some file → length file ≡ len → (HasNoSummary file → ⊥)
+    → new.asked ≤ old.asked + 17 + declared_length (drop 8 file)
 
 -- ---- the records of the summary
 

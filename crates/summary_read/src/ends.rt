@@ -62,7 +62,8 @@ fn footer_in(bytes: &[u8]) -> Option<Footer>
 fn judge_without_footer(end: &[u8], len: u64) -> ReadingRefused
     requires size { length end.now ≡ 37 }
     requires whole { 37 ≤ len }
-    ensures judged { (file : List ℕ) → length file ≡ len → drop (len - 37) file ≡ end.now → ((f : Footer) → EndsIn file f → ⊥) → EndStops file result }
+    ensures judged { (file : List ℕ) → length file ≡ len → drop (len - 37) file ≡ end.now
+        → ((f : Footer) → EndsIn file f → ⊥) → EndStops file result }
     ensures of_bytes { IsOfBytes result }
 {
     if len > FILE_LIMIT {
@@ -85,7 +86,8 @@ fn judge_footer(end: &[u8], len: u64, footer: Footer) -> Result<Footer, ReadingR
     requires size { length end.now ≡ 37 }
     requires whole { 37 ≤ len }
     requires some { footer.summary_start ≢ 0 }
-    ensures judged { (file : List ℕ) → length file ≡ len → drop (len - 37) file ≡ end.now → EndsIn file footer → (HasNoSummary file → ⊥) → FooterJudged file result }
+    ensures judged { (file : List ℕ) → length file ≡ len → drop (len - 37) file ≡ end.now → EndsIn file footer
+        → (HasNoSummary file → ⊥) → FooterJudged file result }
     ensures inside { IfOk result (FooterNamesPlace len) }
     ensures of_bytes { IfErr result IsOfBytes }
 {
@@ -147,7 +149,8 @@ pub(crate) fn judge_end(end: &[u8], len: u64) -> Result<Footer, IndexedRefused>
 pub(crate) fn judge_front(front: &[u8], len: u64) -> Result<u64, ReadingRefused>
     requires size { length front.now ≡ 17 }
     requires whole { 37 ≤ len }
-    ensures judged { (file : List ℕ) → length file ≡ len → take 17 file ≡ front.now → (HasNoSummary file → ⊥) → FrontJudged file result }
+    ensures judged { (file : List ℕ) → length file ≡ len → take 17 file ≡ front.now → (HasNoSummary file → ⊥)
+        → FrontJudged file result }
     ensures inside { IfOk result (λ n. 25 + n ≤ len) }
     ensures of_bytes { IfErr result IsOfBytes }
 {

@@ -194,7 +194,8 @@ impl Loaded {
     /// The Metadata Index at that place.
     pub fn metadata_index(&self, i: usize) -> MetadataIndex<'_>
         requires { i < length self.now.metadata_indexes }
-        ensures { IsSuchAt self.now.metadata_indexes i (λ t. IsMetadataIndex t result.offset result.length result.name.now) }
+        ensures { IsSuchAt self.now.metadata_indexes i (λ t. IsMetadataIndex t result.offset result.length
+            result.name.now) }
     {
         match MetadataIndex::parse(content_at(&self.summary, &self.metadata_indexes, i)) {
             Ok(parsed) => return parsed,
@@ -212,7 +213,8 @@ impl Loaded {
     /// The Summary Offset at that place.
     pub fn summary_offset(&self, i: usize) -> SummaryOffset
         requires { i < length self.now.summary_offsets }
-        ensures { IsSuchAt self.now.summary_offsets i (λ t. IsSummaryOffset t result.group_opcode result.group_start result.group_length) }
+        ensures { IsSuchAt self.now.summary_offsets i (λ t. IsSummaryOffset t result.group_opcode result.group_start
+            result.group_length) }
     {
         match SummaryOffset::parse(content_at(&self.summary, &self.summary_offsets, i)) {
             Ok(parsed) => return parsed,

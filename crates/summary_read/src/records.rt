@@ -50,7 +50,8 @@ fn is_chunk_index(content: &[u8]) -> bool
 
 // Whether the content is that of an Attachment Index.
 fn is_attachment_index(content: &[u8]) -> bool
-    ensures { IsTrue result ↔ ((f : AttachmentIndexFields) × IsAttachmentIndex (top attachment_index_opcode content.now) f) }
+    ensures { IsTrue result
+        ↔ ((f : AttachmentIndexFields) × IsAttachmentIndex (top attachment_index_opcode content.now) f) }
 {
     match AttachmentIndex::parse(content) {
         Ok(_) => return true,
@@ -70,7 +71,8 @@ fn is_statistics(content: &[u8]) -> bool
 
 // Whether the content is that of a Metadata Index.
 fn is_metadata_index(content: &[u8]) -> bool
-    ensures { IsTrue result ↔ ((offset size : ℕ) × (name : List ℕ) × IsMetadataIndex (top metadata_index_opcode content.now) offset size name) }
+    ensures { IsTrue result
+        ↔ ((offset size : ℕ) × (name : List ℕ) × IsMetadataIndex (top metadata_index_opcode content.now) offset size name) }
 {
     match MetadataIndex::parse(content) {
         Ok(_) => return true,
@@ -80,7 +82,8 @@ fn is_metadata_index(content: &[u8]) -> bool
 
 // Whether the content is that of a Summary Offset.
 fn is_summary_offset(content: &[u8]) -> bool
-    ensures { IsTrue result ↔ ((op offset size : ℕ) × IsSummaryOffset (top summary_offset_opcode content.now) op offset size) }
+    ensures { IsTrue result
+        ↔ ((op offset size : ℕ) × IsSummaryOffset (top summary_offset_opcode content.now) op offset size) }
 {
     match SummaryOffset::parse(content) {
         Ok(_) => return true,

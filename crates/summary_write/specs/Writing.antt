@@ -46,12 +46,15 @@ abbrev pub six_texts : List ℕ → List ℕ → List ℕ → List ℕ → List 
 six_texts a b c d e f = a ++ (b ++ (c ++ (d ++ (e ++ f))))
 
 abbrev pub groups_of_tally : Tally → List ℕ
-groups_of_tally t = six_texts t.schemas t.channels (statistics_of t) t.chunk_indexes t.extras.attachment_indexes t.extras.metadata_indexes
+groups_of_tally t =
+    six_texts t.schemas t.channels (statistics_of t) t.chunk_indexes t.extras.attachment_indexes
+    t.extras.metadata_indexes
 
 -- the Summary Offset of a group of so many bytes, if it is there
 abbrev pub group_offset_record : ℕ → ℕ → ℕ → List ℕ
 group_offset_record op at zero = []
-group_offset_record op at (suc len) = framed summary_offset_opcode (summary_offset_text (record { op = op; offset = at; size = suc len }))
+group_offset_record op at (suc len) =
+    framed summary_offset_opcode (summary_offset_text (record { op = op; offset = at; size = suc len }))
 
 -- those of the six groups, where they have these lengths and the first one stands at that offset
 abbrev pub six_offsets : ℕ → ℕ → ℕ → ℕ → ℕ → ℕ → ℕ → List ℕ
@@ -64,11 +67,15 @@ six_offsets at a b c d e f =
     ++ group_offset_record 13 (at + a + b + c + d + e) f))))
 
 abbrev pub offsets_of_tally : Tally → ℕ → List ℕ
-offsets_of_tally t at = six_offsets at (length t.schemas) (length t.channels) (length (statistics_of t)) (length t.chunk_indexes) (length t.extras.attachment_indexes) (length t.extras.metadata_indexes)
+offsets_of_tally t at =
+    six_offsets at (length t.schemas) (length t.channels) (length (statistics_of t)) (length t.chunk_indexes)
+    (length t.extras.attachment_indexes) (length t.extras.metadata_indexes)
 
 -- behind these bytes the Footer of a summary that starts at one offset, its Summary Offsets at another, and the magic
 abbrev pub closed_by : List ℕ → ℕ → ℕ → List ℕ
-closed_by bytes at behind = bytes ++ (framed footer_opcode (footer_text (footer_of_offsets at behind (remainder (bytes ++ take 25 (framed footer_opcode (footer_text (footer_of_offsets at behind 0))))))) ++ magic)
+closed_by bytes at behind = bytes
+    ++ (framed footer_opcode (footer_text (footer_of_offsets at behind (remainder
+    (bytes ++ take 25 (framed footer_opcode (footer_text (footer_of_offsets at behind 0))))))) ++ magic)
 
 unfoldable pub closed_summary : Tally → ℕ → List ℕ
 closed_summary t at = closed_by (groups_of_tally t ++ offsets_of_tally t at) at (at + length (groups_of_tally t))

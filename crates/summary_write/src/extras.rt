@@ -16,7 +16,8 @@ pub(crate) fn add_attachment_index(
 ) -> Result<(), Memory>
     requires within { at ≤ 2 ^ 41 }
     requires meets { (f : AttachmentFields) × ShowsAttachment content.now f }
-    ensures ok { OnOk result (framed.new.items ≡ framed.old.items ++ index_of_attachment (at, record { op = attachment_opcode; content = content.now })) }
+    ensures ok { OnOk result (framed.new.items
+        ≡ framed.old.items ++ index_of_attachment (at, record { op = attachment_opcode; content = content.now })) }
     ensures err { OnErr result (framed.new.items ≡ framed.old.items) }
 {
     match Attachment::parse(content) {
@@ -44,7 +45,8 @@ pub(crate) fn add_metadata_index(
 ) -> Result<(), Memory>
     requires within { at ≤ 2 ^ 41 }
     requires meets { (f : MetadataFields) × ShowsMetadata content.now f }
-    ensures ok { OnOk result (framed.new.items ≡ framed.old.items ++ index_of_metadata (at, record { op = metadata_opcode; content = content.now })) }
+    ensures ok { OnOk result (framed.new.items
+        ≡ framed.old.items ++ index_of_metadata (at, record { op = metadata_opcode; content = content.now })) }
     ensures err { OnErr result (framed.new.items ≡ framed.old.items) }
 {
     match Metadata::parse(content) {

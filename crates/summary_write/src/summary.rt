@@ -86,7 +86,8 @@ impl Summary {
     pub fn note_record(&mut self, r: &Rec) -> Result<(), Memory>
         requires fits { LengthsFit r.now }
         requires few { self.old.messages < record_count_limit }
-        ensures ok { OnOk result ((n : Noted) → SummaryStandsFor self.old n → SummaryStandsFor self.new (with_noted_record n r.now)) }
+        ensures ok { OnOk result ((n : Noted) → SummaryStandsFor self.old n
+            → SummaryStandsFor self.new (with_noted_record n r.now)) }
         ensures err { OnErr result (self.new ≡ self.old) }
         ensures messages { self.new.messages ≤ self.old.messages + 1 }
         ensures blocks { self.new.blocks ≡ self.old.blocks }
@@ -108,7 +109,8 @@ impl Summary {
     pub fn note_framed(&mut self, bytes: &[u8]) -> Result<(), Memory>
         requires framed { (r : Rec) × AreFramed bytes.now r }
         requires few { self.old.messages < record_count_limit }
-        ensures ok { OnOk result ((r : Rec) → AreFramed bytes.now r → (n : Noted) → SummaryStandsFor self.old n → SummaryStandsFor self.new (with_noted_record n r)) }
+        ensures ok { OnOk result ((r : Rec) → AreFramed bytes.now r → (n : Noted) → SummaryStandsFor self.old n
+            → SummaryStandsFor self.new (with_noted_record n r)) }
         ensures err { OnErr result (self.new ≡ self.old) }
         ensures messages { self.new.messages ≤ self.old.messages + 1 }
         ensures blocks { self.new.blocks ≡ self.old.blocks }
@@ -133,7 +135,8 @@ impl Summary {
     // Notes a message.
     fn note_message(&mut self, channel: u16, time: u64) -> Result<(), Memory>
         requires few { self.old.messages < record_count_limit }
-        ensures ok { OnOk result ((r : Rec) → mark_of r ≡ Some (record { channel = channel; time = time }) → self.new ≡ with_record self.old r) }
+        ensures ok { OnOk result ((r : Rec) → mark_of r ≡ Some (record { channel = channel; time = time })
+            → self.new ≡ with_record self.old r) }
         ensures err { OnErr result (self.new ≡ self.old) }
         ensures messages { self.new.messages ≤ self.old.messages + 1 }
         ensures blocks { self.new.blocks ≡ self.old.blocks }
@@ -153,8 +156,8 @@ impl Summary {
         requires within { at ≤ 2 ^ 41 }
         requires block { (records : List Rec) × IsBlock b.now records }
         requires few { self.old.blocks < 2 ^ 48 }
-        ensures ok { OnOk result ((records : List Rec) → IsBlock b.now records → (n : Noted) → SummaryStandsFor self.old n
-            → SummaryStandsFor self.new (with_noted_block n at records)) }
+        ensures ok { OnOk result ((records : List Rec) → IsBlock b.now records → (n : Noted)
+            → SummaryStandsFor self.old n → SummaryStandsFor self.new (with_noted_block n at records)) }
         ensures err { OnErr result (self.new ≡ self.old) }
         ensures messages { self.new.messages ≡ self.old.messages }
         ensures blocks { self.new.blocks ≤ self.old.blocks + 1 }
@@ -171,7 +174,9 @@ impl Summary {
     pub fn note_attachment(&mut self, at: u64, content: &[u8]) -> Result<(), Memory>
         requires within { at ≤ 2 ^ 41 }
         requires meets { (f : AttachmentFields) × ShowsAttachment content.now f }
-        ensures ok { OnOk result ((n : Noted) → SummaryStandsFor self.old n → SummaryStandsFor self.new (with_noted_extra n at (record { op = attachment_opcode; content = content.now }))) }
+        ensures ok { OnOk result ((n : Noted) → SummaryStandsFor self.old n
+            → SummaryStandsFor self.new (with_noted_extra n at (record
+            { op = attachment_opcode; content = content.now }))) }
         ensures err { OnErr result (self.new ≡ self.old) }
         ensures messages { self.new.messages ≡ self.old.messages }
         ensures blocks { self.new.blocks ≡ self.old.blocks }
@@ -188,7 +193,9 @@ impl Summary {
     pub fn note_metadata(&mut self, at: u64, content: &[u8]) -> Result<(), Memory>
         requires within { at ≤ 2 ^ 41 }
         requires meets { (f : MetadataFields) × ShowsMetadata content.now f }
-        ensures ok { OnOk result ((n : Noted) → SummaryStandsFor self.old n → SummaryStandsFor self.new (with_noted_extra n at (record { op = metadata_opcode; content = content.now }))) }
+        ensures ok { OnOk result ((n : Noted) → SummaryStandsFor self.old n
+            → SummaryStandsFor self.new (with_noted_extra n at (record
+            { op = metadata_opcode; content = content.now }))) }
         ensures err { OnErr result (self.new ≡ self.old) }
         ensures messages { self.new.messages ≡ self.old.messages }
         ensures blocks { self.new.blocks ≡ self.old.blocks }

@@ -86,9 +86,12 @@ pub(crate) struct Lengths {
 
 /// Appends the Summary Offsets of groups of these lengths, the first of which starts at that offset.
 pub(crate) fn put_offsets(out: &mut Vec<u8>, at: u64, lengths: Lengths) -> Result<(), Memory>
-    requires { at + lengths.schemas + lengths.channels + lengths.statistics + lengths.chunks + lengths.attachments < 2 ^ 64 }
-    ensures { OnOk result (out.new.items ≡ out.old.items
-        ++ six_offsets at lengths.schemas lengths.channels lengths.statistics lengths.chunks lengths.attachments lengths.metadata) }
+    requires { at + lengths.schemas + lengths.channels + lengths.statistics + lengths.chunks + lengths.attachments
+        < 2 ^ 64 }
+    ensures { OnOk result (out.new.items
+        ≡ out.old.items
+        ++ six_offsets at lengths.schemas lengths.channels lengths.statistics lengths.chunks lengths.attachments
+        lengths.metadata) }
 {
     match put_offset(out, 3, at, lengths.schemas) {
         Ok(()) => {}

@@ -27,8 +27,11 @@ pub record Knows (records : List Top) (tables : Tables) : Type 0 where
 
 -- among these records, of the messages at these places those that are asked for are added
 abbrev pub KeepsAmong : Range → Option (List ℕ) → List Top → List Placed → List Shown → List Shown → Type 0
-KeepsAmong range topic records ps old new = (messages : List Seen) → AllZip (IsSeen records) (filter (λ p. is_message_top p.top) ps) messages → new ≡ old ++ map shown_as (filter (is_asked range topic) messages)
+KeepsAmong range topic records ps old new = (messages : List Seen)
+    → AllZip (IsSeen records) (filter (λ p. is_message_top p.top) ps) messages
+    → new ≡ old ++ map shown_as (filter (is_asked range topic) messages)
 
 -- the same among all records of which these are the tables
 abbrev pub KeepsAsked : Range → Option (List ℕ) → Tables → List Placed → List Shown → List Shown → Type 0
-KeepsAsked range topic tables ps old new = (records : List Top) → Knows records tables → KeepsAmong range topic records ps old new
+KeepsAsked range topic tables ps old new =
+    (records : List Top) → Knows records tables → KeepsAmong range topic records ps old new

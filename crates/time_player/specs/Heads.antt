@@ -9,7 +9,8 @@ use Rattle.time_player.specs.declared.kept.Head.{Head}
 
 -- the message of a head, with its part of these payloads
 abbrev pub shown_in : List ℕ → Head → Shown
-shown_in payloads h = record { place = h.place; log_time = h.log_time; publish_time = h.publish_time; channel = h.channel; sequence = h.sequence; payload = part h.from h.to payloads }
+shown_in payloads h = record
+    { place = h.place; log_time = h.log_time; publish_time = h.publish_time; channel = h.channel; sequence = h.sequence; payload = part h.from h.to payloads }
 
 -- the payload of each is a part of so many bytes
 abbrev pub AreWithin : List Head → ℕ → Type 0
@@ -21,7 +22,8 @@ HeadNotBehind h i = NotBehind (shown_in [] h) (shown_in [] i)
 
 -- none comes behind the next
 abbrev pub HeadsInOrder : List Head → Type 0
-HeadsInOrder heads = (k : ℕ) (d : Head) → k + 1 < length heads → HeadNotBehind (slice_index_or heads k d) (slice_index_or heads (k + 1) d)
+HeadsInOrder heads = (k : ℕ) (d : Head) → k + 1 < length heads
+    → HeadNotBehind (slice_index_or heads k d) (slice_index_or heads (k + 1) d)
 
 -- whether two messages have one time and one place
 abbrev pub same_place : Shown → Shown → Bool

@@ -17,20 +17,23 @@ data_held k = length k.payloads.items
 
 -- the message of a record that stands there, with a payload that stands elsewhere
 abbrev pub shown_with : Place → Message → List ℕ → Shown
-shown_with place m payload = record { place = place; log_time = m.log_time; publish_time = m.publish_time; channel = m.channel_id; sequence = m.sequence; payload = payload }
+shown_with place m payload = record
+    { place = place; log_time = m.log_time; publish_time = m.publish_time; channel = m.channel_id; sequence = m.sequence; payload = payload }
 
 -- the same with its own
 abbrev pub shown_at : Place → Message → Shown
 shown_at place m = shown_with place m m.payload.now
 
 -- one message more is kept, shown with a payload of so many bytes; where the store tells, they are those from there on
-pub record IsKeptWith (told : Option (List ℕ)) (at len : ℕ) (show : List ℕ → Shown) (before now : List Shown) : Type 0 where
+pub record IsKeptWith (told : Option (List ℕ)) (at len : ℕ) (show : List ℕ → Shown) (before now : List Shown)
+    : Type 0 where
   pub payload : List ℕ
   pub is_kept : now ≡ before ++ show payload ∷ []
   pub size : length payload ≡ len
   pub told_is : (file : List ℕ) → told ≡ Some file → payload ≡ take len (drop at file)
 
-abbrev pub KeepsPart : Option (List ℕ) → ℕ → ℕ → (List ℕ → Shown) → List Shown → List Shown → Result Unit OutsideRefused → Type 0
+abbrev pub KeepsPart : Option (List ℕ) → ℕ → ℕ → (List ℕ → Shown) → List Shown → List Shown → Result Unit OutsideRefused
+    → Type 0
 KeepsPart told at len show before now (Ok it) = IsKeptWith told at len show before now
 KeepsPart told at len show before now (Err why) = Unit {0}
 

@@ -13,7 +13,8 @@ spaced_number n = decimal n ++ 32 ∷ []
 
 -- the numbers of a message, each with a space behind it
 abbrev pub numbers_of : Shown → List ℕ
-numbers_of s = spaced_number s.log_time ++ (spaced_number s.publish_time ++ (spaced_number s.channel ++ spaced_number s.sequence))
+numbers_of s =
+    spaced_number s.log_time ++ (spaced_number s.publish_time ++ (spaced_number s.channel ++ spaced_number s.sequence))
 
 -- the line of a message whose topic is spelled so
 abbrev pub line_of : Shown → List ℕ → List ℕ
@@ -30,13 +31,15 @@ EachDeclaredOnce table = (j k : ℕ) (d e : Declared) → At table j d → At ta
 
 -- each channel with a topic has one of its topics as a JSON string
 pub record Quotes (topics : List Topic) (table : List Declared) : Type 0 where
-  pub are : (k : ℕ) (d : Declared) → At table k d → (n : ℕ) × (t : Topic) × At topics n t × (t.channel ≡ d.id) × (d.content ≡ quoted t.topic)
+  pub are : (k : ℕ) (d : Declared) → At table k d
+      → (n : ℕ) × (t : Topic) × At topics n t × (t.channel ≡ d.id) × (d.content ≡ quoted t.topic)
   pub all : (n : ℕ) (t : Topic) → At topics n t → (k : ℕ) × (d : Declared) × At table k d × (d.id ≡ t.channel)
   pub apart : EachDeclaredOnce table
 
 -- what stands in a line for the topic of a channel
 abbrev pub Spells : List Declared → ℕ → List ℕ → Type 0
-Spells table channel text = ((k : ℕ) × (d : Declared) × At table k d × (d.id ≡ channel) × (d.content ≡ text)) ⊎ (((k : ℕ) (d : Declared) → At table k d → d.id ≡ channel → ⊥) × (text ≡ quoted []))
+Spells table channel text = ((k : ℕ) × (d : Declared) × At table k d × (d.id ≡ channel) × (d.content ≡ text))
+    ⊎ (((k : ℕ) (d : Declared) → At table k d → d.id ≡ channel → ⊥) × (text ≡ quoted []))
 
 -- the same, read off a table in which each channel stands once
 abbrev pub spelling : List Declared → ℕ → List ℕ

@@ -7,7 +7,17 @@ use Rattle.time_player.specs.Heads.{same_place}
 
 -- a message that is shown, without a topic
 abbrev pub led_as : Shown → Seen
-led_as s = record { place = s.place; channel = s.channel; topic = []; message = record { sequence = s.sequence; log_time = s.log_time; publish_time = s.publish_time; payload = s.payload } }
+led_as s = record {
+  place = s.place;
+  channel = s.channel;
+  topic = [];
+  message = record {
+    sequence = s.sequence;
+    log_time = s.log_time;
+    publish_time = s.publish_time;
+    payload = s.payload;
+  };
+}
 
 -- these messages in the order of time and place, one for each time and place
 pub record IsOrdered (old new : List Shown) : Type 0 where

@@ -9,4 +9,5 @@ piece_limit = 131072
 -- Where the bytes that were taken are told, all but so many at most are counted; a count at the end of its type stands there.
 abbrev pub CountsAllBut : ℕ → Option (List ℕ) → Option (List ℕ) → Result Unit Short → Type 0
 CountsAllBut most old new (Ok it) = Unit {0}
-CountsAllBut most old new (Err short) = (before : List ℕ) → old ≡ Some before → (now : List ℕ) × (new ≡ Some now) × (short.taken < 2 ^ 64 - 1 → length now ≤ length before + (short.taken + most))
+CountsAllBut most old new (Err short) = (before : List ℕ) → old ≡ Some before
+    → (now : List ℕ) × (new ≡ Some now) × (short.taken < 2 ^ 64 - 1 → length now ≤ length before + (short.taken + most))

@@ -35,7 +35,8 @@ AreLines range topic messages text = (shown : List Seen) × Replay range topic m
 
 -- The source was read to its Data End, these are its tables, and of its messages those that are asked for were kept. Memory
 -- that lacks from then on lacks behind its records.
-pub record KeepsAll (range : Range) (topic : Option (List ℕ)) (before now : SourceState) (tables : Tables) (kept : List Shown) : Type 0 where
+pub record KeepsAll (range : Range) (topic : Option (List ℕ)) (before now : SourceState) (tables : Tables)
+    (kept : List Shown) : Type 0 where
   pub tops : List Top
   pub end : ℕ
   pub messages : List Seen
@@ -44,12 +45,14 @@ pub record KeepsAll (range : Range) (topic : Option (List ℕ)) (before now : So
   pub told : IsGoodScan tops tables messages
   pub kept_are : kept ≡ map shown_as (filter (is_asked range topic) messages)
 
-abbrev pub ReadsKept : Range → Option (List ℕ) → SourceState → SourceState → Result (Tables × Kept) ReadingRefused → Type 0
+abbrev pub ReadsKept : Range → Option (List ℕ) → SourceState → SourceState → Result (Tables × Kept) ReadingRefused
+    → Type 0
 ReadsKept range topic before now (Ok read) = KeepsAll range topic before now read.0 (kept_in read.1)
 ReadsKept range topic before now (Err why) = (tops : List Top) × RefusalStands why before now tops
 
 -- The source was read to its Data End, and its messages are played. Where it told its bytes, this is their reading.
-pub record PlaysAll (range : Range) (topic : Option (List ℕ)) (before now : SourceState) (played : Replayed) : Type 0 where
+pub record PlaysAll (range : Range) (topic : Option (List ℕ)) (before now : SourceState) (played : Replayed)
+    : Type 0 where
   pub tops : List Top
   pub end : ℕ
   pub messages : List Seen
@@ -63,7 +66,8 @@ Plays range topic before now (Ok played) = PlaysAll range topic before now playe
 Plays range topic before now (Err why) = (tops : List Top) × RefusalStands why before now tops
 
 -- The same, where the lines of the messages are made ready.
-pub record PlaysAllLines (range : Range) (topic : Option (List ℕ)) (before now : SourceState) (text : List ℕ) : Type 0 where
+pub record PlaysAllLines (range : Range) (topic : Option (List ℕ)) (before now : SourceState) (text : List ℕ)
+    : Type 0 where
   pub tops : List Top
   pub end : ℕ
   pub messages : List Seen

@@ -11,7 +11,8 @@ use rec_data::Channel;
 
 /// Whether the channel of that id has the topic that is asked for, if one is.
 pub(crate) fn is_on_topic(tables: &Tables, channel: u16, topic: Option<&Text>) -> bool
-    ensures { (records : List Top) (named : List ℕ) → Knows records tables.now → HasTopic records channel named → result ≡ is_topic (asked_topic topic.entry) named }
+    ensures { (records : List Top) (named : List ℕ) → Knows records tables.now → HasTopic records channel named
+        → result ≡ is_topic (asked_topic topic.entry) named }
 {
     let asked = match topic {
         Some(asked) => asked,

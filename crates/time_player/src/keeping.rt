@@ -23,7 +23,8 @@ fn keep_message(
     place: Place,
     content: &[u8],
 ) -> Result<(), Memory>
-    ensures { OnOk result (KeepsAsked range (asked_topic topic.entry) tables.now (record { place = place; top = top message_opcode content.now } ∷ []) (kept_in kept.old) (kept_in kept.new)) }
+    ensures { OnOk result (KeepsAsked range (asked_topic topic.entry) tables.now
+        (record { place = place; top = top message_opcode content.now } ∷ []) (kept_in kept.old) (kept_in kept.new)) }
 {
     let message = match Message::parse(content) {
         Ok(message) => message,
@@ -47,7 +48,8 @@ pub(crate) fn keep_record(
     op: u8,
     place: Place,
 ) -> Result<(), Memory>
-    ensures { OnOk result (KeepsAsked range (asked_topic topic.entry) (flat_tables flat.now) (placed_at place op (flat_content flat.now) ∷ []) (kept_in kept.old) (kept_in kept.new)) }
+    ensures { OnOk result (KeepsAsked range (asked_topic topic.entry) (flat_tables flat.now)
+        (placed_at place op (flat_content flat.now) ∷ []) (kept_in kept.old) (kept_in kept.new)) }
 {
     if op != MESSAGE {
         return Ok(());

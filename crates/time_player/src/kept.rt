@@ -77,7 +77,8 @@ fn note_channel(
     known: &mut Table,
     few: &mut Vec<Shown>,
 ) -> Result<(), Memory>
-    ensures { OnOk result ((before : List Seen) (s : Seen) → s.channel ≡ head.now.channel → Represents before known.old few.old.items → Represents (before ++ s ∷ []) known.new few.new.items) }
+    ensures { OnOk result ((before : List Seen) (s : Seen) → s.channel ≡ head.now.channel
+        → Represents before known.old few.old.items → Represents (before ++ s ∷ []) known.new few.new.items) }
 {
     match known.find(head.channel) {
         Some(_) => return Ok(()),
@@ -180,7 +181,8 @@ impl Kept {
         len: u64,
     ) -> Result<(), OutsideRefused>
         requires { at + len ≤ (T.state store.old).known }
-        ensures keeps { KeepsPart (T.state store.old).bytes at len (shown_with place message.now) (kept_in self.old) (kept_in self.new) result }
+        ensures keeps { KeepsPart (T.state store.old).bytes at len (shown_with place message.now) (kept_in self.old)
+            (kept_in self.new) result }
         ensures reads { ReadsFrom (T.state store.old) (T.state store.new) len result }
         ensures holds { HoldsMoreBytes len (data_held self.old) (data_held self.new) result }
     {

@@ -70,7 +70,8 @@ pub(crate) fn write_line(out: &mut Vec<u8>, message: &Lent, quoted: &[u8])
 
 /// The room that the line of a message takes at most, if it can be had at all.
 pub(crate) fn room_of(message: &Lent, quoted: &[u8]) -> Option<usize>
-    ensures { MatchOption result (2 ^ 64 ≤ line_room (shown_of message.now) quoted.now) (λ n. n ≡ line_room (shown_of message.now) quoted.now) }
+    ensures { MatchOption result (2 ^ 64 ≤ line_room (shown_of message.now) quoted.now)
+        (λ n. n ≡ line_room (shown_of message.now) quoted.now) }
 {
     let digits = match message.payload.len().checked_mul(2) {
         Some(digits) => digits,

@@ -23,7 +23,8 @@ fn quote(alloc: Global, topic: &str) -> Result<String, AllocError>
 
 // Adds a topic as a JSON string, where its channel has none yet.
 fn quote_topic(alloc: Global, entry: &Topic, quoted: &mut Table) -> Result<(), Memory>
-    ensures { OnOk result ((before : List Entry) → Quotes before quoted.old → Quotes (before ++ entry.now ∷ []) quoted.new) }
+    ensures { OnOk result ((before : List Entry) → Quotes before quoted.old
+        → Quotes (before ++ entry.now ∷ []) quoted.new) }
 {
     match quoted.find(entry.channel) {
         Some(_) => return Ok(()),

@@ -48,7 +48,8 @@ impl Model for Printer {
 // The room that the longest line takes, if it can be had at all.
 fn longest_line(messages: &Messages, quoted: &Table) -> Option<usize>
     requires { EachDeclaredOnce quoted.now }
-    ensures { IfSome result (λ n. Each (λ s. line_room s (spelling quoted.now s.channel) ≤ n) (messages_in messages.now)) }
+    ensures { IfSome result (λ n. Each (λ s. line_room s (spelling quoted.now s.channel) ≤ n)
+        (messages_in messages.now)) }
 {
     let mut longest = 0;
     'messages: for i in 0..messages.len() {
@@ -83,7 +84,8 @@ fn write_lines<K: Sink>(
     sink: &mut K,
 ) -> Result<(), Short>
     requires { HasLineRoom (messages_in messages.now) quoted.now (vec_capacity piece) }
-    ensures written { WritesAll (K.state sink.old) (K.state sink.new) (lines_of quoted.now (messages_in messages.now)) result }
+    ensures written { WritesAll (K.state sink.old) (K.state sink.new) (lines_of quoted.now (messages_in messages.now))
+        result }
     ensures counted { CountsAllBut piece_limit (K.state sink.old).took (K.state sink.new).took result }
     ensures silent { lines_of quoted.now (messages_in messages.now) ≡ [] → K.state sink.new ≡ K.state sink.old }
 {

@@ -54,7 +54,8 @@ impl KeptReplay {
 
     /// The same, each message with a payload of its own.
     pub fn into_replayed(self, alloc: Global) -> Result<Replayed, Memory>
-        ensures { IfOk result (λ replayed. (replayed.topics ≡ self.topics) × (replayed.shown.items ≡ self.shown.items)) }
+        ensures { IfOk result (λ replayed. (replayed.topics ≡ self.topics)
+            × (replayed.shown.items ≡ self.shown.items)) }
     {
         let (topics, kept) = self.into_parts();
         match kept.copies(alloc) {

@@ -24,7 +24,8 @@ use std::alloc::Global;
 
 // Puts copies of the messages that were kept in order, with the topics of their channels.
 fn finish(alloc: Global, tables: &Tables, kept: &Kept) -> Result<Replayed, Memory>
-    ensures { (range : Times) (topic : Option (List ℕ)) (tops : List Top) (messages : List Seen) → IsGoodScan tops tables.now messages → kept_in kept.now ≡ map shown_as (filter (is_asked range topic) messages)
+    ensures { (range : Times) (topic : Option (List ℕ)) (tops : List Top) (messages : List Seen)
+        → IsGoodScan tops tables.now messages → kept_in kept.now ≡ map shown_as (filter (is_asked range topic) messages)
         → IfOk result (λ played. IsPlayed range topic messages played) }
 {
     let mut shown = match kept.copies(alloc) {
@@ -41,7 +42,8 @@ fn finish(alloc: Global, tables: &Tables, kept: &Kept) -> Result<Replayed, Memor
 
 // Puts the messages that were kept in order, and makes ready to print them.
 fn finish_lines(alloc: Global, tables: &Tables, kept: Kept) -> Result<Printer, Memory>
-    ensures { (range : Times) (topic : Option (List ℕ)) (tops : List Top) (messages : List Seen) → IsGoodScan tops tables.now messages → kept_in kept ≡ map shown_as (filter (is_asked range topic) messages)
+    ensures { (range : Times) (topic : Option (List ℕ)) (tops : List Top) (messages : List Seen)
+        → IsGoodScan tops tables.now messages → kept_in kept ≡ map shown_as (filter (is_asked range topic) messages)
         → IfOk result (λ text. AreLines range topic messages text) }
 {
     let mut kept = kept;

@@ -38,7 +38,8 @@ fn feed_of(alloc: Global, many: u32) -> Result<Vec<u8>, Memory> {
 
 // A buffer of one record, and blocks of one.
 fn options_of(alloc: Global) -> Result<RecordOptions, Memory>
-    ensures { IfOk result (λ options. (options.limit ≡ 1) × (options.file.profile ≡ []) × (options.file.chunk ≡ Some 1)) }
+    ensures { IfOk result (λ options. (options.limit ≡ 1) × (options.file.profile ≡ [])
+        × (options.file.chunk ≡ Some 1)) }
 {
     Ok(RecordOptions {
         file: FileOptions {

@@ -16,7 +16,8 @@ use Rattle.watching.specs.Watching.{Written, unwritten, written_by, IsQuiet, Has
 use Rattle.watched_recording.specs.Watched.{Watch}
 
 -- Up to its n-th block the file of this history has so many messages of the range, and these are their lines.
-pub record FrontReplay (options : FileOptions) (range : Range) (history : List Rec) (n count : ℕ) (text : List ℕ) : Type 0 where
+pub record FrontReplay (options : FileOptions) (range : Range) (history : List Rec) (n count : ℕ) (text : List ℕ)
+    : Type 0 where
   pub tops : List Top
   pub kept : Kept reading_limits (front_of options history n) tops
   pub messages : List Seen
@@ -29,15 +30,22 @@ pub record FrontReplay (options : FileOptions) (range : Range) (history : List R
 -- A watcher that ended so has written this of the file of the history: all, or a first part where its sink or its view
 -- failed or memory lacked. It never ends without an end to tell, nor for what it read.
 abbrev pub WritesOfFile : FileOptions → Range → List Rec → WriterReport → Written → Written → WatchEnd → Type 0
-WritesOfFile options range history w before now watch_ends.Whole = IsQuiet before now × TakesSuchText (WatchText (FrontReplay options range history) w.blocks now.fronts (sealed_by w.end)) before.sink.took now.sink.took
+WritesOfFile options range history w before now watch_ends.Whole = IsQuiet before now
+    × TakesSuchText (WatchText (FrontReplay options range history) w.blocks now.fronts (sealed_by w.end))
+    before.sink.took now.sink.took
 WritesOfFile options range history w before now watch_ends.Unsealed = ⊥
-WritesOfFile options range history w before now (watch_ends.Fault faults) = HasFailed before now faults × TakesSuchText (WatchPart (FrontReplay options range history) w.blocks now.fronts (sealed_by w.end)) before.sink.took now.sink.took
+WritesOfFile options range history w before now (watch_ends.Fault faults) = HasFailed before now faults
+    × TakesSuchText (WatchPart (FrontReplay options range history) w.blocks now.fronts (sealed_by w.end))
+    before.sink.took now.sink.took
 WritesOfFile options range history w before now (watch_ends.Flaw rule offset) = ⊥
-WritesOfFile options range history w before now watch_ends.Memory = IsQuiet before now × TakesSuchText (WatchPart (FrontReplay options range history) w.blocks now.fronts (sealed_by w.end)) before.sink.took now.sink.took
+WritesOfFile options range history w before now watch_ends.Memory = IsQuiet before now
+    × TakesSuchText (WatchPart (FrontReplay options range history) w.blocks now.fronts (sealed_by w.end))
+    before.sink.took now.sink.took
 
 -- by the failures of its view; one that got no view has written nothing
 abbrev pub TellsWatchFile : FileOptions → Range → List Rec → WriterReport → Watch → Option ℕ → Type 0
-TellsWatchFile options range history w it (Some failures) = WritesOfFile options range history w (unwritten it.before 0) (written_by it.now failures it.report) it.report.end
+TellsWatchFile options range history w it (Some failures) =
+    WritesOfFile options range history w (unwritten it.before 0) (written_by it.now failures it.report) it.report.end
 TellsWatchFile options range history w it None = it.now ≡ it.before
 
 abbrev pub IsWatchedFile : FileOptions → Range → List Rec → WriterReport → Watch → Type 0

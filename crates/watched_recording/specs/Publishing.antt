@@ -59,10 +59,15 @@ gives_none b = record {
   known = λ is. is;
 }
 
-module _ {X : Type 0} (one two three : Board X) (a b : List (Entry X)) (first : GivesTo one two a) (second : GivesTo two three b) where
-  gives_both : (lost : Bool) → two.lost ≡ lost → (missing : List (Entry X)) × (entries_held three.directory ++ missing ≡ entries_held one.directory ++ (a ++ b)) × (three.lost ≡ false → missing ≡ [])
+module _ {X : Type 0} (one two three : Board X) (a b : List (Entry X)) (first : GivesTo one two a)
+    (second : GivesTo two three b) where
+  gives_both : (lost : Bool) → two.lost ≡ lost
+      → (missing : List (Entry X)) × (entries_held three.directory ++ missing ≡ entries_held one.directory ++ (a ++ b))
+      × (three.lost ≡ false → missing ≡ [])
   gives_both false is =
-      let all : entries_held two.directory ≡ entries_held one.directory ++ a = sym (append-nil (entries_held two.directory)) ∙ ap (λ (l : List (Entry X)). entries_held two.directory ++ l) (sym (first.whole is)) ∙ first.held in (
+      let all : entries_held two.directory
+      ≡ entries_held one.directory ++ a = sym (append-nil (entries_held two.directory))
+      ∙ ap (λ (l : List (Entry X)). entries_held two.directory ++ l) (sym (first.whole is)) ∙ first.held in (
         second.missing,
         second.held ∙ ap (λ (l : List (Entry X)). l ++ b) all ∙ append_assoc (entries_held one.directory) a b,
         second.whole,
@@ -70,7 +75,8 @@ module _ {X : Type 0} (one two three : Board X) (a b : List (Entry X)) (first : 
   gives_both true is =
       let (same, lost) = second.stays is in (
         first.missing ++ b,
-        ap (λ (d : DirectoryState X). entries_held d ++ (first.missing ++ b)) same ∙ sym (append_assoc (entries_held two.directory) first.missing b)
+        ap (λ (d : DirectoryState X). entries_held d ++ (first.missing ++ b)) same
+            ∙ sym (append_assoc (entries_held two.directory) first.missing b)
             ∙ ap (λ (l : List (Entry X)). l ++ b) first.held ∙ append_assoc (entries_held one.directory) a b,
         λ whole. absurd (false≢true (sym whole ∙ lost)),
       )
@@ -98,7 +104,8 @@ pub record Publishing (L X : Type 0) : Type 0 where
   pub board : Board X
 
 abbrev pub publishing : {L X : Type 0} → Scribe L → DirectoryState X → Bool → Bool → Publishing L X
-publishing scribe directory short lost = record { scribe = scribe; board = record { directory = directory; short = short; lost = lost } }
+publishing scribe directory short lost =
+    record { scribe = scribe; board = record { directory = directory; short = short; lost = lost } }
 
 -- A scribe that has taken nothing yet, of a file in chunks without extras, and a directory without blocks. What is seen of a
 -- store is handed in.
@@ -114,16 +121,19 @@ pub record IsNewPublishing {L X : Type 0} (state : L → LiveState) (p : Publish
 
 -- The scribe took these records, and its entries were published, so that none are handed to the caller. They are as many as
 -- the blocks that it appended, and it stays within what a file may hold.
-pub record PublishesOn {L X : Type 0} (seen : SeenStore L X) (before now : Publishing L X) (records : List Rec) (entries : List (Entry X)) : Type 0 where
+pub record PublishesOn {L X : Type 0} (seen : SeenStore L X) (before now : Publishing L X) (records : List Rec)
+    (entries : List (Entry X)) : Type 0 where
   pub given : List (Entry X)
   pub took : TakesOn seen before.scribe now.scribe records given
   pub published : GivesTo before.board now.board given
   pub counted : blocks_of now.scribe ≡ blocks_of before.scribe + length given
-  pub within : Holds (blocks_of before.scribe) (planned_bytes before.scribe) → Holds (blocks_of now.scribe) (planned_bytes now.scribe)
+  pub within : Holds (blocks_of before.scribe) (planned_bytes before.scribe)
+      → Holds (blocks_of now.scribe) (planned_bytes now.scribe)
   pub none : entries ≡ []
 
 -- The scribe ended its file, and its last entry was published.
-pub record PublishesEnd {L X : Type 0} (seen : SeenStore L X) (before now : Publishing L X) (last : Option (Entry X)) (written : Written) (end : Result Unit Stop) : Type 0 where
+pub record PublishesEnd {L X : Type 0} (seen : SeenStore L X) (before now : Publishing L X) (last : Option (Entry X))
+    (written : Written) (end : Result Unit Stop) : Type 0 where
   pub given : Option (Entry X)
   pub ended : EndsOn seen before.scribe now.scribe given written end
   pub published : GivesTo before.board now.board (at_most_one given)
@@ -139,13 +149,15 @@ publishes_none seen p = record {
   none = refl;
 }
 
-pub publishes_on : {L X : Type 0} (seen : SeenStore L X) (one two three : Publishing L X) (a b : List Rec) (es fs : List (Entry X))
-    → PublishesOn seen one two a es → PublishesOn seen two three b fs → PublishesOn seen one three (a ++ b) (es ++ fs)
+pub publishes_on : {L X : Type 0} (seen : SeenStore L X) (one two three : Publishing L X) (a b : List Rec)
+    (es fs : List (Entry X)) → PublishesOn seen one two a es → PublishesOn seen two three b fs
+    → PublishesOn seen one three (a ++ b) (es ++ fs)
 publishes_on seen one two three a b es fs first second = record {
   given = first.given ++ second.given;
   took = takes_on seen one.scribe two.scribe three.scribe a b first.given second.given first.took second.took;
   published = gives_on one.board two.board three.board first.given second.given first.published second.published;
-  counted = second.counted ∙ ap (λ (n : ℕ). n + length second.given) first.counted ∙ add_assoc (blocks_of one.scribe) (length first.given) (length second.given)
+  counted = second.counted ∙ ap (λ (n : ℕ). n + length second.given) first.counted
+      ∙ add_assoc (blocks_of one.scribe) (length first.given) (length second.given)
       ∙ ap (λ (n : ℕ). blocks_of one.scribe + n) (sym (length-append first.given second.given));
   within = λ holds. second.within (first.within holds);
   none = ap (λ (l : List (Entry _)). l ++ fs) first.none ∙ second.none;

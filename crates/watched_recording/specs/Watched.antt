@@ -15,8 +15,10 @@ use Rattle.watching.specs.Watching.{Written, WatcherState, new_watcher, written_
 
 -- Since it was new, a watcher has written this of the blocks that were told at the seal; without one, of those that a reader
 -- of its own held.
-abbrev pub WatcherWrites : {X : Type 0} → (X → Option (List ℕ)) → Option (List (Added X)) → WatcherState X → Written → Type 0
-WatcherWrites tells (Some note) first written = (end : End) → end_of note ≡ Some end → Watches tells first.range (entries_of note) (sealed_by end) first.written written
+abbrev pub WatcherWrites : {X : Type 0} → (X → Option (List ℕ)) → Option (List (Added X)) → WatcherState X → Written
+    → Type 0
+WatcherWrites tells (Some note) first written = (end : End) → end_of note ≡ Some end
+    → Watches tells first.range (entries_of note) (sealed_by end) first.written written
 WatcherWrites {X} tells None first written = (reader : ReaderState X) × EndsUnsealed tells first reader written
 
 -- a watcher whose view was refused has nothing to report but the count of the store
@@ -33,8 +35,10 @@ pub record Watch : Type 0 where
   pub report : WatchReport
 
 -- it wrote all that it had to; or it got no view, and its sink is as it was
-abbrev pub WatchTells : {X : Type 0} → (X → Option (List ℕ)) → Range → Option (List (Added X)) → SinkState → SinkState → Option ℕ → WatchReport → Type 0
-WatchTells tells range told before now (Some failures) report = WatcherWrites tells told (new_watcher unread range before 0) (written_by now failures report)
+abbrev pub WatchTells : {X : Type 0} → (X → Option (List ℕ)) → Range → Option (List (Added X)) → SinkState → SinkState
+    → Option ℕ → WatchReport → Type 0
+WatchTells tells range told before now (Some failures) report =
+    WatcherWrites tells told (new_watcher unread range before 0) (written_by now failures report)
 WatchTells tells range told before now None report = now ≡ before
 
 abbrev pub IsWatched : {X : Type 0} → (X → Option (List ℕ)) → Range → Option (List (Added X)) → Watch → Type 0
@@ -48,4 +52,5 @@ AsksView before now None report = RisesOnce before.faults now.faults × IsUnview
 -- The store was asked for a view for each of these watchers, in their order. What it holds stays.
 abbrev pub AsksViews : LiveState → List Watch → LiveState → Type 0
 AsksViews before [] now = now ≡ before
-AsksViews before (w ∷ more) now = (mid : LiveState) × (mid.held ≡ before.held) × (mid.waiting ≤ before.waiting) × AsksView before mid w.view w.report × AsksViews mid more now
+AsksViews before (w ∷ more) now = (mid : LiveState) × (mid.held ≡ before.held) × (mid.waiting ≤ before.waiting)
+    × AsksView before mid w.view w.report × AsksViews mid more now

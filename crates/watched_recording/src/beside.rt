@@ -66,7 +66,9 @@ pub(crate) fn write_beside<
     requires empty { directory.old ≡ empty_directory }
     requires room { (room.items ≡ []) × (1 ≤ vec_capacity room) }
     ensures stays { AllZip S.stays feeds.items result.feeds.items }
-    ensures recorded { RecordedBeside (λ e. L.Extent.tells e) options.now (sides (map S.state feeds.items) (L.state live)) (sides (map S.state result.feeds.items) (L.state result.live)) result.report result.note }
+    ensures recorded { RecordedBeside (λ e. L.Extent.tells e) options.now
+        (sides (map S.state feeds.items) (L.state live)) (sides (map S.state result.feeds.items) (L.state result.live))
+        result.report result.note }
     ensures listed { Each (λ f. ListsMessages f listed) result.report.feeds.items }
     ensures sealed { IfSome result.note (λ told. (end : Last) × (end_of told ≡ Some end)) }
 {

@@ -73,12 +73,15 @@ impl<'d, L: LiveStore, J: Naming, R: Wait> PublishingTape<'d, L, J, R> {
         requires profile { length options.now.profile ≤ content_limit }
         requires empty { directory.old ≡ empty_directory }
         requires room { (room.items ≡ []) × (1 ≤ vec_capacity room) }
-        ensures stands { IfOk result (λ t. WritesHistory L.state options.now [] (L.state live) [] t.scribe × (phase_of t.scribe ≡ phases.Going)) }
+        ensures stands { IfOk result (λ t. WritesHistory L.state options.now [] (L.state live) [] t.scribe
+            × (phase_of t.scribe ≡ phases.Going)) }
         ensures still { IfOk result (λ t. (L.state (store_of t.scribe)).faults ≡ (L.state live).faults) }
         ensures empty { IfOk result (λ t. (t.directory.now ≡ empty_directory) × (t.short ≡ false) × (t.lost ≡ false)) }
         ensures room { IfOk result (λ t. (t.room.items ≡ []) × (1 ≤ vec_capacity t.room)) }
-        ensures unused { IfOk result (λ t. IsNewPublishing L.state (publishing t.scribe t.directory.now t.short t.lost)) }
-        ensures refused { IfErr result (λ e. (extras : List Top) (history : List Rec) → StopsAt options.now extras history (L.state live).held (L.state e.0).held e.1 (numbers 0 0)) }
+        ensures unused { IfOk result (λ t. IsNewPublishing L.state (publishing t.scribe t.directory.now t.short
+            t.lost)) }
+        ensures refused { IfErr result (λ e. (extras : List Top) (history : List Rec)
+            → StopsAt options.now extras history (L.state live).held (L.state e.0).held e.1 (numbers 0 0)) }
         ensures cause { IfErr result (λ e. StopCause (L.state live).faults (L.state e.0).faults e.1) }
     {
         match Scribe::open(alloc, live, options) {
@@ -102,7 +105,8 @@ impl<'d, L: LiveStore, J: Naming, R: Wait> PublishingTape<'d, L, J, R> {
     pub fn seal(self, end: End) -> Sealed<L, J>
         requires unsealed { end_of self.directory.now.shown ≡ None }
         ensures store { result.live ≡ store_of self.entry.scribe }
-        ensures told { IfSome result.note (λ note. (entries_of note ≡ entries_held self.entry.directory.now) × (end_of note ≡ Some end)) }
+        ensures told { IfSome result.note (λ note. (entries_of note ≡ entries_held self.entry.directory.now)
+            × (end_of note ≡ Some end)) }
         ensures lost { self.entry.lost ≡ true → result.note ≡ None }
     {
         let PublishingTape {
@@ -129,10 +133,15 @@ impl<'d, L: LiveStore, J: Naming, R: Wait> PublishingTape<'d, L, J, R> {
 
     // Publishes these entries, if there are any, behind those that were given before.
     fn publish(&mut self, entries: Vec<Entry<L::Extent>>)
-        requires known { KnowsLack (record { directory = self.old.directory.now; short = self.old.short; lost = self.old.lost }) }
+        requires known { KnowsLack (record
+            { directory = self.old.directory.now; short = self.old.short; lost = self.old.lost }) }
         requires unsealed { end_of self.old.directory.now.shown ≡ None }
-        requires follow { self.old.short ≡ false → EntriesFollow (λ e. L.Extent.tells e) (entries_of self.old.directory.now.shown ++ entries.items) }
-        ensures gives { GivesTo (record { directory = self.old.directory.now; short = self.old.short; lost = self.old.lost }) (record { directory = self.new.directory.now; short = self.new.short; lost = self.new.lost }) entries.items }
+        requires follow { self.old.short ≡ false
+            → EntriesFollow (λ e. L.Extent.tells e) (entries_of self.old.directory.now.shown ++ entries.items) }
+        ensures gives { GivesTo
+            (record { directory = self.old.directory.now; short = self.old.short; lost = self.old.lost })
+            (record { directory = self.new.directory.now; short = self.new.short; lost = self.new.lost })
+            entries.items }
         ensures scribe { (self.new.scribe ≡ self.old.scribe) × (self.new.room ≡ self.old.room) }
         ensures lent { self.new.directory.ghost_name ≡ self.old.directory.ghost_name }
         ensures none { entries.items ≡ [] → self.new ≡ self.old }
@@ -163,13 +172,19 @@ impl<'d, L: LiveStore, J: Naming, R: Wait> Tape for PublishingTape<'d, L, J, R> 
     ghost use Rattle.chunk_writer.specs.Tapes.{MeetsLimit, seen_store};
     ghost use Rattle.watched_recording.specs.Publishing.{PublishesOn, PublishesEnd, IsNewPublishing, publishing, publishes_none, publishes_on};
 
-    ghost is_new = { λ t. IsNewPublishing L.state (publishing t.scribe t.directory.now t.short t.lost) × (t.room.items ≡ []) × (1 ≤ vec_capacity t.room) };
+    ghost is_new = { λ t. IsNewPublishing L.state (publishing t.scribe t.directory.now t.short t.lost)
+        × (t.room.items ≡ []) × (1 ≤ vec_capacity t.room) };
 
-    ghost grows = { λ before after records entries. (after.directory.ghost_name ≡ before.directory.ghost_name) × (after.room ≡ before.room)
-        × PublishesOn (seen_store L.state (λ e. L.Extent.tells e) (λ e. L.Extent.size e)) (publishing before.scribe before.directory.now before.short before.lost) (publishing after.scribe after.directory.now after.short after.lost) records entries };
+    ghost grows = { λ before after records entries. (after.directory.ghost_name ≡ before.directory.ghost_name)
+        × (after.room ≡ before.room)
+        × PublishesOn (seen_store L.state (λ e. L.Extent.tells e) (λ e. L.Extent.size e))
+        (publishing before.scribe before.directory.now before.short before.lost)
+        (publishing after.scribe after.directory.now after.short after.lost) records entries };
 
     ghost ends = { λ before after last written end. (after.directory.ghost_name ≡ before.directory.ghost_name)
-        × PublishesEnd (seen_store L.state (λ e. L.Extent.tells e) (λ e. L.Extent.size e)) (publishing before.scribe before.directory.now before.short before.lost) (publishing after.scribe after.directory.now after.short after.lost) last written end };
+        × PublishesEnd (seen_store L.state (λ e. L.Extent.tells e) (λ e. L.Extent.size e))
+        (publishing before.scribe before.directory.now before.short before.lost)
+        (publishing after.scribe after.directory.now after.short after.lost) last written end };
 
     ghost limit_met = { λ t blocks bytes. MeetsLimit L.state t.scribe blocks bytes };
 
@@ -181,11 +196,7 @@ impl<'d, L: LiveStore, J: Naming, R: Wait> Tape for PublishingTape<'d, L, J, R> 
 
     ghost grows_none = { λ t. (refl, refl, publishes_none (seen_store L.state (λ e. L.Extent.tells e) (λ e. L.Extent.size e)) (publishing t.scribe t.directory.now t.short t.lost)) };
 
-    ghost grows_on = { λ one two three before behind es fs first second. (
-      second.0 ∙ first.0,
-      second.1 ∙ first.1,
-      publishes_on (seen_store L.state (λ e. L.Extent.tells e) (λ e. L.Extent.size e)) (publishing one.scribe one.directory.now one.short one.lost) (publishing two.scribe two.directory.now two.short two.lost) (publishing three.scribe three.directory.now three.short three.lost) before behind es fs first.2 second.2,
-    ) };
+    ghost grows_on = { λ one two three before behind es fs first second. (second.0 ∙ first.0, second.1 ∙ first.1, publishes_on (seen_store L.state (λ e. L.Extent.tells e) (λ e. L.Extent.size e)) (publishing one.scribe one.directory.now one.short one.lost) (publishing two.scribe two.directory.now two.short two.lost) (publishing three.scribe three.directory.now three.short three.lost) before behind es fs first.2 second.2) };
 
     fn take(&mut self, full: Cache) -> Taken<L::Extent> {
         let Taken {

@@ -105,7 +105,8 @@ fn alone<S, L: LiveStore, K>(
     recording: Recording<S, L>,
     watchers: Vec<K>,
 ) -> WatchedRecording<S, L, K>
-    ensures same { (result.report ≡ recording.report) × (result.feeds ≡ recording.feeds) × (result.live ≡ recording.live) × (result.watchers ≡ watchers) }
+    ensures same { (result.report ≡ recording.report) × (result.feeds ≡ recording.feeds)
+        × (result.live ≡ recording.live) × (result.watchers ≡ watchers) }
     ensures sealed { result.sealed ≡ true }
     ensures none { (result.watches.items ≡ []) × (result.views.items ≡ []) }
 {
@@ -162,8 +163,11 @@ fn record_beside<
     requires last { (room.last.items ≡ []) × (1 ≤ vec_capacity room.last) }
     ensures report { result.report ≡ None → ⊥ }
     ensures stays { AllZip S.stays feeds.items result.feeds.items }
-    ensures recorded { (r : _) → result.report ≡ Some r → RecordedWatched (λ e. L.Extent.tells e) options.now range (sides (map S.state feeds.items) (L.state live)) (sides (map S.state result.feeds.items) (L.state result.live)) r
-        (record { handed = map K.state watchers.items; sinks = map K.state result.watchers.items; views = map (λ v. L.View.failures v) result.views.items; reports = result.watches.items; sealed = result.sealed }) }
+    ensures recorded { (r : _) → result.report ≡ Some r
+        → RecordedWatched (λ e. L.Extent.tells e) options.now range (sides (map S.state feeds.items) (L.state live))
+        (sides (map S.state result.feeds.items) (L.state result.live)) r
+        (record
+        { handed = map K.state watchers.items; sinks = map K.state result.watchers.items; views = map (λ v. L.View.failures v) result.views.items; reports = result.watches.items; sealed = result.sealed }) }
     ensures listed { (r : _) → result.report ≡ Some r → Each (λ f. ListsMessages f listed) r.feeds.items }
 {
     let WatchRoom { seats, left, last } = room;
@@ -176,7 +180,8 @@ fn record_beside<
             ensures { InStep (SeatRuns (λ e. L.Extent.tells e)) seats.items result.items }
         { run_seats(rt, alloc, seats, &tried) },
         || -> (Report, Vec<S>, L, Option<Note<L::Extent, J>>)
-            requires chunked { (size : ℕ) × (options.now.file.chunk ≡ Some size) × (1 ≤ size) × (size ≤ chunk_size_limit) }
+            requires chunked { (size : ℕ) × (options.now.file.chunk ≡ Some size) × (1 ≤ size)
+                × (size ≤ chunk_size_limit) }
             requires profile { length options.now.file.profile ≤ content_limit }
             requires few { vec_len feeds ≤ 64 }
             requires ready { AreReady ready.lanes.control.seat.me.0 ready.drain.seat.me.0 ready.spare }
@@ -189,7 +194,9 @@ fn record_beside<
             requires empty { directory.now ≡ empty_directory }
             requires room { (last.items ≡ []) × (1 ≤ vec_capacity last) }
             ensures stays { AllZip S.stays feeds.items result.1.items }
-            ensures recorded { RecordedBeside (λ e. L.Extent.tells e) options.entry.now (sides (map S.state feeds.items) (L.state live)) (sides (map S.state result.1.items) (L.state result.2)) result.0 result.3 }
+            ensures recorded { RecordedBeside (λ e. L.Extent.tells e) options.entry.now
+                (sides (map S.state feeds.items) (L.state live)) (sides (map S.state result.1.items) (L.state result.2))
+                result.0 result.3 }
             ensures listed { Each (λ f. ListsMessages f listed) result.0.feeds.items }
             ensures sealed { IfSome result.3 (λ told. (end : Last) × (end_of told ≡ Some end)) }
         {
@@ -247,10 +254,15 @@ fn record_over<
     requires empty { directory.old ≡ empty_directory }
     requires readers { AreUnread readers.items (vec_len watchers) }
     requires watchers { watchers.items ≡ [] → ⊥ }
-    ensures refused { result.report ≡ None → (result.feeds.items ≡ feeds.items) × (result.live ≡ live) × (result.watchers.items ≡ watchers.items) × (result.views.items ≡ []) × (result.watches.items ≡ []) }
+    ensures refused { result.report ≡ None
+        → (result.feeds.items ≡ feeds.items) × (result.live ≡ live) × (result.watchers.items ≡ watchers.items)
+        × (result.views.items ≡ []) × (result.watches.items ≡ []) }
     ensures stays { AllZip S.stays feeds.items result.feeds.items }
-    ensures recorded { (r : _) → result.report ≡ Some r → RecordedWatched (λ e. L.Extent.tells e) options.now range (sides (map S.state feeds.items) (L.state live)) (sides (map S.state result.feeds.items) (L.state result.live)) r
-        (record { handed = map K.state watchers.items; sinks = map K.state result.watchers.items; views = map (λ v. L.View.failures v) result.views.items; reports = result.watches.items; sealed = result.sealed }) }
+    ensures recorded { (r : _) → result.report ≡ Some r
+        → RecordedWatched (λ e. L.Extent.tells e) options.now range (sides (map S.state feeds.items) (L.state live))
+        (sides (map S.state result.feeds.items) (L.state result.live)) r
+        (record
+        { handed = map K.state watchers.items; sinks = map K.state result.watchers.items; views = map (λ v. L.View.failures v) result.views.items; reports = result.watches.items; sealed = result.sealed }) }
     ensures listed { (r : _) → result.report ≡ Some r → Each (λ f. ListsMessages f listed) r.feeds.items }
 {
     let watched = match watch_room(alloc, watchers.len()) {
@@ -309,10 +321,15 @@ fn record_as<
     requires profile { length options.now.file.profile ≤ content_limit }
     requires feeds { (1 ≤ vec_len feeds) × (vec_len feeds ≤ 64) }
     requires watchers { (watchers.items ≡ [] → ⊥) × (vec_len watchers ≤ 16) }
-    ensures refused { result.report ≡ None → (result.feeds.items ≡ feeds.items) × (result.live ≡ live) × (result.watchers.items ≡ watchers.items) × (result.views.items ≡ []) × (result.watches.items ≡ []) }
+    ensures refused { result.report ≡ None
+        → (result.feeds.items ≡ feeds.items) × (result.live ≡ live) × (result.watchers.items ≡ watchers.items)
+        × (result.views.items ≡ []) × (result.watches.items ≡ []) }
     ensures stays { AllZip S.stays feeds.items result.feeds.items }
-    ensures recorded { (r : _) → result.report ≡ Some r → RecordedWatched (λ e. L.Extent.tells e) options.now range (sides (map S.state feeds.items) (L.state live)) (sides (map S.state result.feeds.items) (L.state result.live)) r
-        (record { handed = map K.state watchers.items; sinks = map K.state result.watchers.items; views = map (λ v. L.View.failures v) result.views.items; reports = result.watches.items; sealed = result.sealed }) }
+    ensures recorded { (r : _) → result.report ≡ Some r
+        → RecordedWatched (λ e. L.Extent.tells e) options.now range (sides (map S.state feeds.items) (L.state live))
+        (sides (map S.state result.feeds.items) (L.state result.live)) r
+        (record
+        { handed = map K.state watchers.items; sinks = map K.state result.watchers.items; views = map (λ v. L.View.failures v) result.views.items; reports = result.watches.items; sealed = result.sealed }) }
     ensures listed { (r : _) → result.report ≡ Some r → Each (λ f. ListsMessages f listed) r.feeds.items }
 {
     match open_directory::<L::Extent, J, R>(alloc, rt, opened, watchers.len() as u32) {
@@ -364,10 +381,15 @@ pub fn record_watched<
     requires feeds { (1 ≤ vec_len feeds) × (vec_len feeds ≤ 64) }
     requires watchers { vec_len watchers ≤ 16 }
     requires plain { options.now.file.chunk ≡ None → watchers.items ≡ [] }
-    ensures refused { result.report ≡ None → (result.feeds.items ≡ feeds.items) × (result.live ≡ live) × (result.watchers.items ≡ watchers.items) × (result.views.items ≡ []) × (result.watches.items ≡ []) }
+    ensures refused { result.report ≡ None
+        → (result.feeds.items ≡ feeds.items) × (result.live ≡ live) × (result.watchers.items ≡ watchers.items)
+        × (result.views.items ≡ []) × (result.watches.items ≡ []) }
     ensures stays { AllZip S.stays feeds.items result.feeds.items }
-    ensures recorded { (r : _) → result.report ≡ Some r → RecordedWatched (λ e. L.Extent.tells e) options.now range (sides (map S.state feeds.items) (L.state live)) (sides (map S.state result.feeds.items) (L.state result.live)) r
-        (record { handed = map K.state watchers.items; sinks = map K.state result.watchers.items; views = map (λ v. L.View.failures v) result.views.items; reports = result.watches.items; sealed = result.sealed }) }
+    ensures recorded { (r : _) → result.report ≡ Some r
+        → RecordedWatched (λ e. L.Extent.tells e) options.now range (sides (map S.state feeds.items) (L.state live))
+        (sides (map S.state result.feeds.items) (L.state result.live)) r
+        (record
+        { handed = map K.state watchers.items; sinks = map K.state result.watchers.items; views = map (λ v. L.View.failures v) result.views.items; reports = result.watches.items; sealed = result.sealed }) }
     ensures listed { (r : _) → result.report ≡ Some r → Each (λ f. ListsMessages f listed) r.feeds.items }
 {
     if watchers.is_empty() {

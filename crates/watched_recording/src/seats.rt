@@ -183,7 +183,8 @@ fn finish_watcher<X: Extent, J: Naming, V: LiveView<X>, K: Sink, R: Wait>(
     note: &Option<Note<X, J>>,
 ) -> Watched<V, K>
     requires sealed { IfSome note.now (λ told. (end : Last) × (end_of told ≡ Some end)) }
-    ensures { SeatEnds X.tells K.state note.now (Ok watcher) (K.state result.sink) (Some (V.failures result.view)) result.report }
+    ensures { SeatEnds X.tells K.state note.now (Ok watcher) (K.state result.sink) (Some (V.failures result.view))
+        result.report }
 {
     match note {
         Some(told) => return watcher.finish(rt, alloc, told),
@@ -199,7 +200,8 @@ fn finish_seat<X: Extent, J: Naming, V: LiveView<X>, K: Sink, R: Wait>(
     note: &Option<Note<X, J>>,
 ) -> Left<V, K>
     requires sealed { IfSome note.now (λ told. (end : Last) × (end_of told ≡ Some end)) }
-    ensures { SeatEnds X.tells K.state note.now seat (K.state result.sink) (failures_in V.failures result.view) result.report }
+    ensures { SeatEnds X.tells K.state note.now seat (K.state result.sink) (failures_in V.failures result.view)
+        result.report }
 {
     match seat {
         Ok(watcher) => {
@@ -231,7 +233,9 @@ fn put_left<V, K>(all: &mut AllLeft<V, K>, left: Left<V, K>)
     ensures reports { all.new.reports.items ≡ all.old.reports.items ++ left.report ∷ [] }
     ensures views { all.new.views.items ≡ all.old.views.items ++ at_most_one left.view }
     ensures sinks { all.new.sinks.items ≡ all.old.sinks.items ++ left.sink ∷ [] }
-    ensures room { (vec_capacity all.new.reports ≡ vec_capacity all.old.reports) × (vec_capacity all.new.views ≡ vec_capacity all.old.views) × (vec_capacity all.new.sinks ≡ vec_capacity all.old.sinks) }
+    ensures room { (vec_capacity all.new.reports ≡ vec_capacity all.old.reports)
+        × (vec_capacity all.new.views ≡ vec_capacity all.old.views)
+        × (vec_capacity all.new.sinks ≡ vec_capacity all.old.sinks) }
 {
     let Left { report, view, sink } = left;
     all.reports.push_reserved(report);
@@ -254,7 +258,8 @@ pub(crate) fn finish_seats<X: Extent, J: Naming, V: LiveView<X> + Drop, K: Sink 
     requires reports { (room.reports.items ≡ []) × (vec_len seats ≤ vec_capacity room.reports) }
     requires views { (room.views.items ≡ []) × (vec_len seats ≤ vec_capacity room.views) }
     requires sinks { (room.sinks.items ≡ []) × (vec_len seats ≤ vec_capacity room.sinks) }
-    ensures { SeatsEnd X.tells K.state note.now seats.items (map K.state result.sinks.items) (map V.failures result.views.items) result.reports.items }
+    ensures { SeatsEnd X.tells K.state note.now seats.items (map K.state result.sinks.items)
+        (map V.failures result.views.items) result.reports.items }
 {
     let mut all = room;
     'seats: for seat in seats {

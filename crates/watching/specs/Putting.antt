@@ -42,14 +42,17 @@ pub record SinkFails (before now : SinkAndView) (why : WatchEnd) : Type 0 where
   pub view : now.failures ≡ before.failures
 
 -- A piece was taken; or a part of it, until the sink failed; or nothing of it, since it couldn't be made.
-abbrev pub PutsPiece : {X : Type 0} → (X → Option (List ℕ)) → List (Entry X) → (List ℕ → Type 0) → SinkAndView → SinkAndView → Result Unit WatchEnd → Type 0
+abbrev pub PutsPiece : {X : Type 0} → (X → Option (List ℕ)) → List (Entry X) → (List ℕ → Type 0) → SinkAndView
+    → SinkAndView → Result Unit WatchEnd → Type 0
 PutsPiece tells entries P before now (Ok it) = PutsAll P before now
-PutsPiece tells entries P before now (Err why) = (SinkFails before now why × TakesSuchText (IsPartOf P) before.sink.took now.sink.took) ⊎ ((now.sink ≡ before.sink) × MakingFails tells entries before.failures now.failures why)
+PutsPiece tells entries P before now (Err why) = (SinkFails before now why × TakesSuchText (IsPartOf P) before.sink.took now.sink.took)
+    ⊎ ((now.sink ≡ before.sink) × MakingFails tells entries before.failures now.failures why)
 
 -- bytes were taken; or a part of them, until the sink failed
 abbrev pub PutsBytes : SinkState → SinkState → List ℕ → Result Unit WatchEnd → Type 0
 PutsBytes before now bytes (Ok it) = (now.faults ≡ before.faults) × Adds before.took now.took bytes
-PutsBytes before now bytes (Err why) = RisesOnce before.faults now.faults × (why ≡ watch_ends.Fault now.faults) × AddsPart before.took now.took 0 bytes
+PutsBytes before now bytes (Err why) =
+    RisesOnce before.faults now.faults × (why ≡ watch_ends.Fault now.faults) × AddsPart before.took now.took 0 bytes
 
 -- why a watcher ends whose replay was refused
 abbrev pub IsEndedBy : ReadingRefused → WatchEnd → Type 0

@@ -20,7 +20,8 @@ hex_text (suc k) n = hex_text k (n / 16) ++ hex_digit (n % 16) ∷ []
 
 -- front BLOCKS MESSAGES CRC
 unfoldable pub front_line : ℕ → ℕ → ℕ → List ℕ
-front_line blocks messages crc = codes "front " ++ (decimal blocks ++ (codes " " ++ (decimal messages ++ (codes " " ++ (hex_text 8 crc ++ codes "\n")))))
+front_line blocks messages crc = codes "front "
+    ++ (decimal blocks ++ (codes " " ++ (decimal messages ++ (codes " " ++ (hex_text 8 crc ++ codes "\n")))))
 
 abbrev pub end_word : End → List ℕ
 end_word ends.Closed = codes "closed"
@@ -28,7 +29,8 @@ end_word (ends.Stopped stop) = codes "stopped"
 
 -- end WORD BLOCKS MESSAGES
 unfoldable pub end_line : End → ℕ → ℕ → List ℕ
-end_line end blocks messages = codes "end " ++ (end_word end ++ (codes " " ++ (decimal blocks ++ (codes " " ++ (decimal messages ++ codes "\n")))))
+end_line end blocks messages =
+    codes "end " ++ (end_word end ++ (codes " " ++ (decimal blocks ++ (codes " " ++ (decimal messages ++ codes "\n")))))
 
 abbrev pub unsealed_line : List ℕ
 unsealed_line = codes "end unsealed\n"
@@ -48,7 +50,8 @@ pub record ReplayText (range : Range) (stored : List Stored) (count : ℕ) (text
 
 -- the same of blocks, where the extents of their entries tell bytes
 abbrev pub IsReplayText : {X : Type 0} → (X → Option (List ℕ)) → Range → List (Entry X) → ℕ → List ℕ → Type 0
-IsReplayText tells range entries count text = (stored : List Stored) → AllZip (IsStored tells) entries stored → ReplayText range stored count text
+IsReplayText tells range entries count text =
+    (stored : List Stored) → AllZip (IsStored tells) entries stored → ReplayText range stored count text
 
 -- the same of the first n of these blocks
 abbrev pub replays_of : {X : Type 0} → (X → Option (List ℕ)) → Range → List (Entry X) → ℕ → ℕ → List ℕ → Type 0
@@ -90,13 +93,15 @@ pub data SealState : Type 0 where
 -- the line of the end with the lines of the replay of all blocks; or that there is none
 abbrev pub IsEndText : (ℕ → ℕ → List ℕ → Type 0) → ℕ → SealState → List ℕ → Type 0
 IsEndText replays blocks undecided text = ⊥
-IsEndText replays blocks (sealed_by end) text = (count : ℕ) × (lines : List ℕ) × replays blocks count lines × (text ≡ end_line end blocks count ++ lines)
+IsEndText replays blocks (sealed_by end) text =
+    (count : ℕ) × (lines : List ℕ) × replays blocks count lines × (text ≡ end_line end blocks count ++ lines)
 IsEndText replays blocks unsealed text = text ≡ unsealed_line
 
 -- ---- the whole
 
 -- the lines of these fronts, and the end
-pub record WatchText (replays : ℕ → ℕ → List ℕ → Type 0) (blocks : ℕ) (fronts : List ℕ) (ending : SealState) (text : List ℕ) : Type 0 where
+pub record WatchText (replays : ℕ → ℕ → List ℕ → Type 0) (blocks : ℕ) (fronts : List ℕ) (ending : SealState)
+    (text : List ℕ) : Type 0 where
   pub told : List ℕ
   pub last : List ℕ
   pub fronts_are : FrontsText replays blocks fronts told
@@ -104,13 +109,17 @@ pub record WatchText (replays : ℕ → ℕ → List ℕ → Type 0) (blocks : �
   pub text_is : text ≡ told ++ last
 
 -- a first part of the line of one more front, or of the end, or nothing
-pub data BeginsLine (replays : ℕ → ℕ → List ℕ → Type 0) (blocks : ℕ) (fronts : List ℕ) (ending : SealState) (part : List ℕ) : Type 0 where
+pub data BeginsLine (replays : ℕ → ℕ → List ℕ → Type 0) (blocks : ℕ) (fronts : List ℕ) (ending : SealState)
+    (part : List ℕ) : Type 0 where
   none_more : part ≡ [] → BeginsLine replays blocks fronts ending part
-  of_front : (n : ℕ) (line : List ℕ) → Doubles 0 (fronts ++ n ∷ []) → IsFrontLine replays blocks n line → IsPrefix part line → BeginsLine replays blocks fronts ending part
-  of_end : (line : List ℕ) → IsEndText replays blocks ending line → IsPrefix part line → BeginsLine replays blocks fronts ending part
+  of_front : (n : ℕ) (line : List ℕ) → Doubles 0 (fronts ++ n ∷ []) → IsFrontLine replays blocks n line
+      → IsPrefix part line → BeginsLine replays blocks fronts ending part
+  of_end : (line : List ℕ) → IsEndText replays blocks ending line → IsPrefix part line
+      → BeginsLine replays blocks fronts ending part
 
 -- the lines of these fronts, and a first part of what may stand behind them
-pub record WatchPart (replays : ℕ → ℕ → List ℕ → Type 0) (blocks : ℕ) (fronts : List ℕ) (ending : SealState) (text : List ℕ) : Type 0 where
+pub record WatchPart (replays : ℕ → ℕ → List ℕ → Type 0) (blocks : ℕ) (fronts : List ℕ) (ending : SealState)
+    (text : List ℕ) : Type 0 where
   pub told : List ℕ
   pub part : List ℕ
   pub fronts_are : FrontsText replays blocks fronts told
@@ -122,8 +131,10 @@ pub record WatchPart (replays : ℕ → ℕ → List ℕ → Type 0) (blocks : �
 abbrev pub FrontsTextOf : {X : Type 0} → (X → Option (List ℕ)) → Range → List (Entry X) → List ℕ → List ℕ → Type 0
 FrontsTextOf tells range entries = FrontsText (replays_of tells range entries) (length entries)
 
-abbrev pub WatchTextOf : {X : Type 0} → (X → Option (List ℕ)) → Range → List (Entry X) → List ℕ → SealState → List ℕ → Type 0
+abbrev pub WatchTextOf : {X : Type 0} → (X → Option (List ℕ)) → Range → List (Entry X) → List ℕ → SealState → List ℕ
+    → Type 0
 WatchTextOf tells range entries = WatchText (replays_of tells range entries) (length entries)
 
-abbrev pub WatchPartOf : {X : Type 0} → (X → Option (List ℕ)) → Range → List (Entry X) → List ℕ → SealState → List ℕ → Type 0
+abbrev pub WatchPartOf : {X : Type 0} → (X → Option (List ℕ)) → Range → List (Entry X) → List ℕ → SealState → List ℕ
+    → Type 0
 WatchPartOf tells range entries = WatchPart (replays_of tells range entries) (length entries)

@@ -30,7 +30,8 @@ unwritten sink failures = record { fronts = []; end = None; sink = sink; failure
 
 -- what a watcher came back with
 abbrev pub written_by : SinkState → ℕ → WatchReport → Written
-written_by sink failures report = record { fronts = report.fronts.items; end = Some report.end; sink = sink; failures = failures }
+written_by sink failures report =
+    record { fronts = report.fronts.items; end = Some report.end; sink = sink; failures = failures }
 
 abbrev pub new_watcher : {X : Type 0} → ReaderState X → Range → SinkState → ℕ → WatcherState X
 new_watcher reader range sink failures = record { reader = reader; range = range; written = unwritten sink failures }
@@ -55,18 +56,29 @@ IsUntold tells entries = (stored : List Stored) → AllZip (IsStored tells) entr
 
 -- where the sink tells what it took, such a text stands behind that now
 abbrev pub TakesSuchText : (List ℕ → Type 0) → Option (List ℕ) → Option (List ℕ) → Type 0
-TakesSuchText P old new = (before : List ℕ) → old ≡ Some before → (text : List ℕ) × P text × (new ≡ Some (before ++ text))
+TakesSuchText P old new =
+    (before : List ℕ) → old ≡ Some before → (text : List ℕ) × P text × (new ≡ Some (before ++ text))
 
 -- Since then, when there were no fronts and no end, this was written of these blocks.
-abbrev pub WritesTo : {X : Type 0} → (X → Option (List ℕ)) → Range → List (Entry X) → SealState → Written → Written → Option WatchEnd → Type 0
-WritesTo tells range entries ending before now None = IsQuiet before now × TakesSuchText (FrontsTextOf tells range entries now.fronts) before.sink.took now.sink.took
-WritesTo tells range entries ending before now (Some watch_ends.Whole) = IsQuiet before now × ((end : End) × (ending ≡ sealed_by end)) × TakesSuchText (WatchTextOf tells range entries now.fronts ending) before.sink.took now.sink.took
-WritesTo tells range entries ending before now (Some watch_ends.Unsealed) = IsQuiet before now × (ending ≡ unsealed) × TakesSuchText (WatchTextOf tells range entries now.fronts ending) before.sink.took now.sink.took
-WritesTo tells range entries ending before now (Some (watch_ends.Fault faults)) = HasFailed before now faults × TakesSuchText (WatchPartOf tells range entries now.fronts ending) before.sink.took now.sink.took
-WritesTo tells range entries ending before now (Some (watch_ends.Flaw rule offset)) = IsQuiet before now × IsUntold tells entries × TakesSuchText (WatchPartOf tells range entries now.fronts ending) before.sink.took now.sink.took
-WritesTo tells range entries ending before now (Some watch_ends.Memory) = IsQuiet before now × TakesSuchText (WatchPartOf tells range entries now.fronts ending) before.sink.took now.sink.took
+abbrev pub WritesTo : {X : Type 0} → (X → Option (List ℕ)) → Range → List (Entry X) → SealState → Written → Written
+    → Option WatchEnd → Type 0
+WritesTo tells range entries ending before now None =
+    IsQuiet before now × TakesSuchText (FrontsTextOf tells range entries now.fronts) before.sink.took now.sink.took
+WritesTo tells range entries ending before now (Some watch_ends.Whole) = IsQuiet before now
+    × ((end : End) × (ending ≡ sealed_by end))
+    × TakesSuchText (WatchTextOf tells range entries now.fronts ending) before.sink.took now.sink.took
+WritesTo tells range entries ending before now (Some watch_ends.Unsealed) = IsQuiet before now × (ending ≡ unsealed)
+    × TakesSuchText (WatchTextOf tells range entries now.fronts ending) before.sink.took now.sink.took
+WritesTo tells range entries ending before now (Some (watch_ends.Fault faults)) = HasFailed before now faults
+    × TakesSuchText (WatchPartOf tells range entries now.fronts ending) before.sink.took now.sink.took
+WritesTo tells range entries ending before now (Some (watch_ends.Flaw rule offset)) = IsQuiet before now
+    × IsUntold tells entries
+    × TakesSuchText (WatchPartOf tells range entries now.fronts ending) before.sink.took now.sink.took
+WritesTo tells range entries ending before now (Some watch_ends.Memory) = IsQuiet before now
+    × TakesSuchText (WatchPartOf tells range entries now.fronts ending) before.sink.took now.sink.took
 
-abbrev pub Watches : {X : Type 0} → (X → Option (List ℕ)) → Range → List (Entry X) → SealState → Written → Written → Type 0
+abbrev pub Watches : {X : Type 0} → (X → Option (List ℕ)) → Range → List (Entry X) → SealState → Written → Written
+    → Type 0
 Watches tells range entries ending before now = WritesTo tells range entries ending before now now.end
 
 -- the reader holds all blocks of a directory that was sealed so, as far as the ending says so
@@ -76,7 +88,8 @@ HoldsAllSealed reader (sealed_by end) = (reader.entries ≡ entries_of reader.kn
 HoldsAllSealed reader unsealed = ⊥
 
 -- Since it was new, a watcher whose directory wasn't sealed has written of the blocks that its reader holds.
-pub record EndsUnsealed {X : Type 0} (tells : X → Option (List ℕ)) (first : WatcherState X) (reader : ReaderState X) (now : Written) : Type 0 where
+pub record EndsUnsealed {X : Type 0} (tells : X → Option (List ℕ)) (first : WatcherState X) (reader : ReaderState X)
+    (now : Written) : Type 0 where
   pub ending : SealState
   pub known : (ending ≡ unsealed) ⊎ HoldsAllSealed reader ending
   pub watches : Watches tells first.range reader.entries ending first.written now

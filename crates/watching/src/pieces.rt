@@ -118,7 +118,9 @@ pub(crate) fn put_front<X: Extent, V: LiveView<X>, K: Sink>(
     sink: &mut K,
 ) -> Result<(), WatchEnd>
     requires { EntriesFollow X.tells entries.now }
-    ensures { PutsPiece X.tells entries.now (IsFrontLineOf X.tells range entries.now (length entries.now)) (sink_and_view (K.state sink.old) (V.failures view.old)) (sink_and_view (K.state sink.new) (V.failures view.new)) result }
+    ensures { PutsPiece X.tells entries.now (IsFrontLineOf X.tells range entries.now (length entries.now))
+        (sink_and_view (K.state sink.old) (V.failures view.old))
+        (sink_and_view (K.state sink.new) (V.failures view.new)) result }
 {
     let Replayed { count, text } = match replay(alloc, entries, view, range) {
         Ok(all) => all,
@@ -141,7 +143,9 @@ pub(crate) fn put_end<X: Extent, V: LiveView<X>, K: Sink>(
     end: End,
 ) -> Result<(), WatchEnd>
     requires { EntriesFollow X.tells entries.now }
-    ensures { PutsPiece X.tells entries.now (IsEndTextOf X.tells range entries.now (sealed_by end)) (sink_and_view (K.state sink.old) (V.failures view.old)) (sink_and_view (K.state sink.new) (V.failures view.new)) result }
+    ensures { PutsPiece X.tells entries.now (IsEndTextOf X.tells range entries.now (sealed_by end))
+        (sink_and_view (K.state sink.old) (V.failures view.old))
+        (sink_and_view (K.state sink.new) (V.failures view.new)) result }
 {
     let Replayed { count, mut text } = match replay(alloc, entries, view, range) {
         Ok(all) => all,

@@ -93,7 +93,8 @@ impl<X: Extent, J: Naming, V: LiveView<X>, K: Sink> Watcher<X, J, V, K> {
         requires goes_on { self.old.written.end ≡ None }
         requires blocks { blocks ≡ length self.old.reader.entries }
         requires due { MayFollow self.old.written.fronts blocks }
-        ensures since { (first : WatcherState X) → WatchedSince X.tells first self.old → WatchedSince X.tells first self.new }
+        ensures since { (first : WatcherState X) → WatchedSince X.tells first self.old
+            → WatchedSince X.tells first self.new }
         ensures reader { self.new.reader ≡ self.old.reader }
     {
         if self.fronts.reserve(1).is_err() {
@@ -117,7 +118,8 @@ impl<X: Extent, J: Naming, V: LiveView<X>, K: Sink> Watcher<X, J, V, K> {
     fn write_end(&mut self, alloc: Global, end: End)
         requires goes_on { self.old.written.end ≡ None }
         requires holds { HoldsAllSealed self.old.reader (sealed_by end) }
-        ensures since { (first : WatcherState X) → WatchedSince X.tells first self.old → WatchedSince X.tells first self.new }
+        ensures since { (first : WatcherState X) → WatchedSince X.tells first self.old
+            → WatchedSince X.tells first self.new }
         ensures reader { self.new.reader ≡ self.old.reader }
         ensures ended { self.new.written.end ≡ None → ⊥ }
     {
@@ -138,7 +140,8 @@ impl<X: Extent, J: Naming, V: LiveView<X>, K: Sink> Watcher<X, J, V, K> {
     // Takes in what is published, and replays it where it is all, or a front that is due.
     fn take_in<R: Wait>(&mut self, rt: &R, alloc: Global)
         requires goes_on { self.old.written.end ≡ None }
-        ensures since { (first : WatcherState X) → WatchedSince X.tells first self.old → WatchedSince X.tells first self.new }
+        ensures since { (first : WatcherState X) → WatchedSince X.tells first self.old
+            → WatchedSince X.tells first self.new }
         ensures knows { IsPrefix self.old.reader.known self.new.reader.known }
         ensures rises { AtLeast (published_front self.old.reader.known) (published_front self.new.reader.known) }
         ensures ended { (end : Last) → end_of self.old.reader.known ≡ Some end → self.new.written.end ≡ None → ⊥ }
@@ -164,7 +167,8 @@ impl<X: Extent, J: Naming, V: LiveView<X>, K: Sink> Watcher<X, J, V, K> {
 
     // Looks once at what is published, and says whether the watcher goes on.
     fn look<R: Wait>(&mut self, rt: &R, alloc: Global) -> bool
-        ensures since { (first : WatcherState X) → WatchedSince X.tells first self.old → WatchedSince X.tells first self.new }
+        ensures since { (first : WatcherState X) → WatchedSince X.tells first self.old
+            → WatchedSince X.tells first self.new }
         ensures stays { (why : WatchEnd) → self.old.written.end ≡ Some why → self.new.written ≡ self.old.written }
     {
         if self.end.is_some() {
@@ -182,7 +186,8 @@ impl<X: Extent, J: Naming, V: LiveView<X>, K: Sink> Watcher<X, J, V, K> {
     /// `tried`, which the writer raises once it has tried to seal the directory, was raised before it looked and found no end.
     /// One that has ended writes nothing more. The directory isn't closed before `finish`.
     pub fn run<R: Wait>(&mut self, rt: &R, alloc: Global, tried: &AtomicBool)
-        ensures since { (first : WatcherState X) → WatchedSince X.tells first self.old → WatchedSince X.tells first self.new }
+        ensures since { (first : WatcherState X) → WatchedSince X.tells first self.old
+            → WatchedSince X.tells first self.new }
         ensures stays { (why : WatchEnd) → self.old.written.end ≡ Some why → self.new.written ≡ self.old.written }
     {
         let parker = Parker::new();
@@ -219,7 +224,8 @@ impl<X: Extent, J: Naming, V: LiveView<X>, K: Sink> Watcher<X, J, V, K> {
 
     // Takes in what the note tells.
     fn learn(&mut self, note: &Note<X, J>)
-        ensures since { (first : WatcherState X) → WatchedSince X.tells first self.old → WatchedSince X.tells first self.new }
+        ensures since { (first : WatcherState X) → WatchedSince X.tells first self.old
+            → WatchedSince X.tells first self.new }
         ensures stays { self.new.written ≡ self.old.written }
         ensures learnt { IsPrefix note.now self.new.reader.known }
         ensures rises { AtLeast (published_front note.now) (published_front self.new.reader.known) }
@@ -230,7 +236,8 @@ impl<X: Extent, J: Naming, V: LiveView<X>, K: Sink> Watcher<X, J, V, K> {
     // Writes the end, unless the watcher has ended, and says why it has.
     fn conclude<R: Wait>(&mut self, rt: &R, alloc: Global) -> WatchEnd
         requires sealed { (end : Last) × (end_of self.old.reader.known ≡ Some end) }
-        ensures since { (first : WatcherState X) → WatchedSince X.tells first self.old → WatchedSince X.tells first self.new }
+        ensures since { (first : WatcherState X) → WatchedSince X.tells first self.old
+            → WatchedSince X.tells first self.new }
         ensures stays { (why : WatchEnd) → self.old.written.end ≡ Some why → self.new.written ≡ self.old.written }
         ensures knows { IsPrefix self.old.reader.known self.new.reader.known }
         ensures rises { AtLeast (published_front self.old.reader.known) (published_front self.new.reader.known) }
@@ -252,9 +259,12 @@ impl<X: Extent, J: Naming, V: LiveView<X>, K: Sink> Watcher<X, J, V, K> {
     /// before.
     pub fn finish<R: Wait>(self, rt: &R, alloc: Global, note: &Note<X, J>) -> Watched<V, K>
         requires sealed { (end : Last) × (end_of note.now ≡ Some end) }
-        ensures watches { (first : WatcherState X) (end : Last) → WatchedSince X.tells first self → end_of note.now ≡ Some end
-            → Watches X.tells first.range (entries_of note.now) (sealed_by end) first.written (written_by (K.state result.sink) (V.failures result.view) result.report) }
-        ensures stays { (why : WatchEnd) → self.written.end ≡ Some why → written_by (K.state result.sink) (V.failures result.view) result.report ≡ self.written }
+        ensures watches { (first : WatcherState X) (end : Last) → WatchedSince X.tells first self
+            → end_of note.now ≡ Some end
+            → Watches X.tells first.range (entries_of note.now) (sealed_by end) first.written
+            (written_by (K.state result.sink) (V.failures result.view) result.report) }
+        ensures stays { (why : WatchEnd) → self.written.end ≡ Some why
+            → written_by (K.state result.sink) (V.failures result.view) result.report ≡ self.written }
     {
         let mut watcher = self;
         watcher.learn(note);
@@ -265,9 +275,11 @@ impl<X: Extent, J: Naming, V: LiveView<X>, K: Sink> Watcher<X, J, V, K> {
 
     // Writes that there is no end, unless the watcher has ended, and says why it has.
     fn conclude_unsealed(&mut self) -> WatchEnd
-        ensures since { (first : WatcherState X) → WatchedSince X.tells first self.old → EndsUnsealed X.tells first self.old.reader self.new.written }
+        ensures since { (first : WatcherState X) → WatchedSince X.tells first self.old
+            → EndsUnsealed X.tells first self.old.reader self.new.written }
         ensures stays { (why : WatchEnd) → self.old.written.end ≡ Some why → self.new.written ≡ self.old.written }
-        ensures ends { self.old.written.end ≡ None → (result ≡ watch_ends.Unsealed) ⊎ RisesOnce self.old.written.sink.faults self.new.written.sink.faults }
+        ensures ends { self.old.written.end ≡ None
+            → (result ≡ watch_ends.Unsealed) ⊎ RisesOnce self.old.written.sink.faults self.new.written.sink.faults }
         ensures ended { self.new.written.end ≡ Some result }
     {
         match self.end {
@@ -290,9 +302,13 @@ impl<X: Extent, J: Naming, V: LiveView<X>, K: Sink> Watcher<X, J, V, K> {
     /// directory wasn't sealed.
     pub fn finish_unsealed(self) -> Watched<V, K>
         ensures watches { (first : WatcherState X) → WatchedSince X.tells first self
-            → EndsUnsealed X.tells first self.reader (written_by (K.state result.sink) (V.failures result.view) result.report) }
-        ensures stays { (why : WatchEnd) → self.written.end ≡ Some why → written_by (K.state result.sink) (V.failures result.view) result.report ≡ self.written }
-        ensures ends { self.written.end ≡ None → (result.report.end ≡ watch_ends.Unsealed) ⊎ RisesOnce self.written.sink.faults (K.state result.sink).faults }
+            → EndsUnsealed X.tells first self.reader (written_by (K.state result.sink) (V.failures result.view)
+            result.report) }
+        ensures stays { (why : WatchEnd) → self.written.end ≡ Some why
+            → written_by (K.state result.sink) (V.failures result.view) result.report ≡ self.written }
+        ensures ends { self.written.end ≡ None
+            → (result.report.end ≡ watch_ends.Unsealed)
+            ⊎ RisesOnce self.written.sink.faults (K.state result.sink).faults }
     {
         let mut watcher = self;
         let end = watcher.conclude_unsealed();
