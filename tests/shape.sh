@@ -87,21 +87,21 @@ sub enums_of {
 }
 
 sub count_refusals {
-    my (@places, $named, $shared);
+    my (@named, @others, $shared);
     for my $file (@sources) {
         for my $enum (enums_of($file)) {
             my ($name, @variants) = @$enum;
             my @reasons = grep { $is_reason{$_} } @variants;
-            next if $name !~ /Refused$/ && (grep { $is_reason{$_} || $is_reason_of_intake{$_} } @variants) < 2;
-            $named++ if $name =~ /Refused$/;
+            my $has_two = (grep { $is_reason{$_} || $is_reason_of_intake{$_} } @variants) > 1;
+            next if $name !~ /Refused$/ && !$has_two;
             $shared++ if @reasons > 1;
             my ($crate) = $file =~ m{^crates/(\w+)};
-            push @places, sprintf('%-18s %-16s %s', $crate, $name, join ' ', @variants);
+            push @{$name =~ /Refused$/ ? \@named : \@others}, sprintf('%-18s %-16s %s', $crate, $name, join ' ', @variants);
         }
     }
-    figure('enums of refusals, named *Refused or with at least two such reasons', scalar @places, 'floor: 10', @places);
-    figure('of these, named *Refused', $named // 0, '');
-    figure('of these, with at least two reasons of a reading or a writing', $shared // 0, '');
+    figure('enums of refusals, named *Refused', scalar @named, 'floor: 10', @named);
+    figure('other enums with at least two such reasons', scalar @others, '', @others);
+    figure('of all these, with at least two reasons of a reading or a writing', $shared // 0, '');
 }
 
 # ---- loops over the records of chunks
