@@ -1,8 +1,8 @@
 //! Texts, bytes and records that own what they hold.
 use crate::data_records::{CHANNEL_RECORD, MESSAGE_RECORD, SCHEMA_RECORD};
 use crate::same::holds_at;
-use mcap_wire::Text;
-use rec_data::{Rec, RecRefused};
+use mcap_wire::{Memory, Text};
+use rec_data::Rec;
 use std::alloc::Global;
 use std::test::Fail;
 
@@ -16,44 +16,37 @@ fn a_text_is_its_bytes(rt: HostRuntime) -> Result<(), Fail> {
 }
 
 // Reads a record, and says whether it is framed as it was.
-fn read(alloc: Global, bytes: &[u8]) -> Result<bool, RecRefused> {
-    let record = match Rec::from_framed(alloc, bytes) {
-        Ok(record) => record,
-        Err(why) => return Err(why),
+fn read(alloc: Global, bytes: &[u8]) -> Result<Option<bool>, Memory> {
+    let Some(record) = Rec::from_framed(alloc, bytes)? else {
+        return Ok(None);
     };
     let mut out = Vec::new(alloc);
-    Ok(
-        record.frame(&mut out) == Ok(())
-            && out.as_slice() == bytes
-            && record.framed_len() == bytes.len() as u64,
-    )
+    let is_framed = record.frame(&mut out) == Ok(()) && out.as_slice() == bytes;
+    Ok(Some(is_framed && record.framed_len() == bytes.len() as u64))
 }
 
 // Records; and a head that is cut, an opcode of 0, a Header, a Message with a byte behind it, and a Channel whose topic isn't
 // UTF-8.
-const ROWS: [(&[u8], Result<bool, RecRefused>); 8] = [
-    (SCHEMA_RECORD, Ok(true)),
-    (CHANNEL_RECORD, Ok(true)),
-    (MESSAGE_RECORD, Ok(true)),
-    (b"\x05\x17\0\0\0\0\0\0", Err(RecRefused::Bad)),
-    (b"\0\0\0\0\0\0\0\0\0", Err(RecRefused::Bad)),
-    (
-        b"\x01\x08\0\0\0\0\0\0\0\0\0\0\0\0\0\0\0",
-        Err(RecRefused::Bad),
-    ),
+const ROWS: [(&[u8], Option<bool>); 8] = [
+    (SCHEMA_RECORD, Some(true)),
+    (CHANNEL_RECORD, Some(true)),
+    (MESSAGE_RECORD, Some(true)),
+    (b"\x05\x17\0\0\0\0\0\0", None),
+    (b"\0\0\0\0\0\0\0\0\0", None),
+    (b"\x01\x08\0\0\0\0\0\0\0\0\0\0\0\0\0\0\0", None),
     (
         b"\x05\x16\0\0\0\0\0\0\0\x01\0\x01\0\0\0\x0a\0\0\0\0\0\0\0\x09\0\0\0\0\0\0\0\xaa",
-        Err(RecRefused::Bad),
+        None,
     ),
     (
         b"\x04\x11\0\0\0\0\0\0\0\x01\0\0\0\x01\0\0\0\xff\0\0\0\0\0\0\0\0",
-        Err(RecRefused::Bad),
+        None,
     ),
 ];
 
 #[test]
-fn a_record_is_owned_and_written_again_and_other_bytes_are_refused(rt: HostRuntime) {
+fn a_record_is_owned_and_written_again_and_other_bytes_are_none(rt: HostRuntime) {
     for (bytes, wanted) in &ROWS {
-        holds_at(&rt, read(rt.alloc(), bytes) == *wanted, bytes);
+        holds_at(&rt, read(rt.alloc(), bytes) == Ok(*wanted), bytes);
     }
 }

@@ -1,8 +1,9 @@
 -- Bytes that are one framed record, and what its content shows.
-use Rattle.std.proofs.Common.{◌≡◌, ℕ, ◌+◌, ◌-◌, ◌^◌, ◌<◌, ◌≤◌, List, [], ◌∷◌, ◌++◌, length, take, drop, slice_index, Result, Ok, Err, None, refl, sym, ap, subst, ◌∙◌, arith}
+use Rattle.std.proofs.Common.{◌≡◌, ℕ, ◌+◌, ◌-◌, ◌^◌, ◌<◌, ◌≤◌, List, [], ◌∷◌, ◌++◌, length, take, drop, slice_index, Result, Ok, Err, Option, Some, None, refl, sym, ap, subst, ◌∙◌, arith}
 use Rattle.std.proofs.lemmas.List.{drop_at, length-drop, take_all}
 use Rattle.mcap_wire.specs.Layout.{le, framed}
 use Rattle.mcap_wire.specs.declared.faults.HeadFault.{HeadFault}
+use Rattle.mcap_wire.specs.declared.faults.Memory.{Memory}
 use Rattle.mcap_wire.specs.declared.faults.HeadFault.TheVariants.{Short, ZeroOp}
 use Rattle.mcap_wire.specs.Reading.{HeadAt, HeadFails}
 use Rattle.mcap_wire.proofs.Numbers.{length-le}
@@ -11,8 +12,6 @@ use Rattle.mcap_wire.proofs.Contents.{shows_decided}
 use Rattle.rec_data.specs.declared.schema.SchemaDef.{SchemaDef}
 use Rattle.rec_data.specs.declared.owned.Rec.{Rec}
 use Rattle.rec_data.specs.declared.owned.Rec.TheVariants.{Schema, Channel, Message}
-use Rattle.rec_data.specs.declared.owned.RecRefused.{RecRefused}
-use Rattle.rec_data.specs.declared.owned.RecRefused.TheVariants.{Bad, Memory}
 use Rattle.rec_data.specs.Fields.{SchemaFields, ChannelFields, MessageFields}
 use Rattle.rec_data.specs.Records.{schema_kinds, schema_values, ShowsSchema, channel_kinds, channel_values, ShowsChannel, ShowsMessage}
 use Rattle.rec_data.specs.Owned.{def_fields, rec_opcode, rec_text, rec_bytes, RecFits, ShowsRec}
@@ -64,14 +63,14 @@ pub not_framed : (bytes : List ℕ) → Unframed bytes None → (r : Rec) → Is
 not_framed bytes none r (op, content, is, shows) = none op content (λ zero_op. absurd (omega (arith, zero_op, shown_opcode op content r shows, opcode_valid r))) is
 
 -- what the content shows is what the bytes are
-found_one : (bytes : List ℕ) (op : ℕ) (content : List ℕ) (result : Result Rec RecRefused) → bytes ≡ framed op content → ContentRead op content result → FramedRead bytes result
-found_one bytes op content (Ok r) is shows = (op, content, is, shows)
-found_one bytes op content (Err Bad) is none = λ r other.
+found_one : (bytes : List ℕ) (op : ℕ) (content : List ℕ) (result : Result (Option Rec) Memory) → bytes ≡ framed op content → ContentRead op content result → FramedRead bytes result
+found_one bytes op content (Ok (Some r)) is shows = (op, content, is, shows)
+found_one bytes op content (Ok None) is none = λ r other.
     let same = frames_same other.0 op other.1 content (sym other.2 ∙ is) in
     none r (subst (λ (l : List ℕ). ShowsRec op l r) same.1 (subst (λ (o : ℕ). ShowsRec o other.1 r) same.0 other.3))
-found_one bytes op content (Err Memory) is lacks = tt
+found_one bytes op content (Err lacks) is read = tt
 
-pub found : (bytes : List ℕ) (op kind : ℕ) (content : List ℕ) (result : Result Rec RecRefused) → op ≡ kind → bytes ≡ framed op content → ContentRead kind content result → FramedRead bytes result
+pub found : (bytes : List ℕ) (op kind : ℕ) (content : List ℕ) (result : Result (Option Rec) Memory) → op ≡ kind → bytes ≡ framed op content → ContentRead kind content result → FramedRead bytes result
 found bytes op kind content result same is read =
     found_one bytes op content result is (subst (λ (o : ℕ). ContentRead o content result) (sym same) read)
 

@@ -1,12 +1,11 @@
 -- What is read of the frame of a record, and which lengths fit.
 use Rattle.std.specs.Prelude.{◌≡◌, ◌≢◌, ℕ, ◌^◌, ◌<◌, List, length, Result, Ok, Err, Option, Some, None}
 use denote.Ref.{Bor}
+use Rattle.mcap_wire.specs.declared.faults.Memory.{Memory}
 use Rattle.mcap_wire.specs.Layout.{framed}
 use Rattle.mcap_wire.specs.Maps.{pair_texts}
 use Rattle.rec_data.specs.declared.owned.Rec.{Rec}
 use Rattle.rec_data.specs.declared.owned.Rec.TheVariants.{Schema, Channel, Message}
-use Rattle.rec_data.specs.declared.owned.RecRefused.{RecRefused}
-use Rattle.rec_data.specs.declared.owned.RecRefused.TheVariants.{Bad, Memory}
 use Rattle.rec_data.specs.Owned.{ShowsRec}
 
 -- its lengths fit in front of what they count
@@ -18,10 +17,10 @@ LengthsFit (Channel id schema topic encoding metadata) =
 LengthsFit (Message channel_id sequence log_time publish_time payload) = Unit {0}
 
 -- what a content of that kind shows, or that it shows nothing, or that memory lacked
-abbrev pub ContentRead : ℕ → List ℕ → Result Rec RecRefused → Type 0
-ContentRead op content (Ok r) = ShowsRec op content r
-ContentRead op content (Err Bad) = (r : Rec) → ShowsRec op content r → ⊥
-ContentRead op content (Err Memory) = Unit {0}
+abbrev pub ContentRead : ℕ → List ℕ → Result (Option Rec) Memory → Type 0
+ContentRead op content (Ok (Some r)) = ShowsRec op content r
+ContentRead op content (Ok None) = (r : Rec) → ShowsRec op content r → ⊥
+ContentRead op content (Err lacks) = Unit {0}
 
 -- the opcode and the content that the bytes are the frame of, or that they are no frame with a valid opcode
 abbrev pub Unframed : List ℕ → Option (ℕ × Bor (List ℕ)) → Type 0
@@ -33,7 +32,7 @@ abbrev pub IsFramed : List ℕ → Rec → Type 0
 IsFramed bytes r = (op : ℕ) × (content : List ℕ) × (bytes ≡ framed op content) × ShowsRec op content r
 
 -- what the bytes are, or that they are no such record, or that memory lacked
-abbrev pub FramedRead : List ℕ → Result Rec RecRefused → Type 0
-FramedRead bytes (Ok r) = IsFramed bytes r
-FramedRead bytes (Err Bad) = (r : Rec) → IsFramed bytes r → ⊥
-FramedRead bytes (Err Memory) = Unit {0}
+abbrev pub FramedRead : List ℕ → Result (Option Rec) Memory → Type 0
+FramedRead bytes (Ok (Some r)) = IsFramed bytes r
+FramedRead bytes (Ok None) = (r : Rec) → IsFramed bytes r → ⊥
+FramedRead bytes (Err lacks) = Unit {0}

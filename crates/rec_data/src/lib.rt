@@ -20,6 +20,6 @@ pub use header::Header;
 pub use message::Message;
 pub use metadata::Metadata;
 pub use opcodes::{ATTACHMENT, CHANNEL, DATA_END, FOOTER, HEADER, MESSAGE, METADATA, SCHEMA};
-pub use owned::{Rec, RecRefused};
+pub use owned::Rec;
 pub use schema::{Schema, SchemaDef};
 pub use section::DataEnd;

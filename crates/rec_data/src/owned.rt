@@ -35,14 +35,6 @@ pub enum Rec {
     },
 }
 
-/// Why bytes were not read as a record.
-#[derive(Clone, Copy, Debug, PartialEq, Eq)]
-pub enum RecRefused {
-    /// They aren't one framed Schema, Channel or Message whose content meets its layout.
-    Bad,
-    Memory,
-}
-
 impl Rec {
     /// Appends the whole record. Memory is lacking only where the vector has no room for it, and then the vector keeps its
     /// bytes.
@@ -121,18 +113,19 @@ impl Rec {
         }
     }
 
-    /// Reads a record that the bytes are, no more and no less. Bytes after a Schema's or Channel's fields are dropped.
-    pub fn from_framed(alloc: Global, bytes: &[u8]) -> Result<Rec, RecRefused>
+    /// Reads a record that the bytes are, no more and no less. Bytes after a Schema's or Channel's fields are dropped. There is
+    /// none exactly where the bytes aren't one framed Schema, Channel or Message whose content meets its layout.
+    pub fn from_framed(alloc: Global, bytes: &[u8]) -> Result<Option<Rec>, Memory>
         ensures { FramedRead bytes.now result }
     {
         let Some((op, content)) = unframed(bytes) else {
-            return Err(RecRefused::Bad);
+            return Ok(None);
         };
         match op {
             SCHEMA => return schema_of(alloc, content),
             CHANNEL => return channel_of(alloc, content),
             MESSAGE => return message_of(alloc, content),
-            _ => return Err(RecRefused::Bad),
+            _ => return Ok(None),
         }
     }
 }
@@ -152,74 +145,74 @@ fn unframed(bytes: &[u8]) -> Option<(u8, &[u8])>
 }
 
 // The Schema that a content shows.
-fn schema_of(alloc: Global, content: &[u8]) -> Result<Rec, RecRefused>
+fn schema_of(alloc: Global, content: &[u8]) -> Result<Option<Rec>, Memory>
     ensures { ContentRead schema_opcode content.now result }
 {
     let schema = match Schema::parse(content) {
         Ok(schema) => schema,
-        Err(_) => return Err(RecRefused::Bad),
+        Err(_) => return Ok(None),
     };
     let Ok(name) = Text::copied(alloc, schema.name) else {
-        return Err(RecRefused::Memory);
+        return Err(Memory);
     };
     let Ok(encoding) = Text::copied(alloc, schema.encoding) else {
-        return Err(RecRefused::Memory);
+        return Err(Memory);
     };
     let Ok(payload) = Bytes::copied(alloc, schema.payload) else {
-        return Err(RecRefused::Memory);
+        return Err(Memory);
     };
-    return Ok(Rec::Schema {
+    return Ok(Some(Rec::Schema {
         id: schema.id,
         schema: SchemaDef {
             name,
             encoding,
             payload,
         },
-    });
+    }));
 }
 
 // The Channel that a content shows.
-fn channel_of(alloc: Global, content: &[u8]) -> Result<Rec, RecRefused>
+fn channel_of(alloc: Global, content: &[u8]) -> Result<Option<Rec>, Memory>
     ensures { ContentRead channel_opcode content.now result }
 {
     let channel = match Channel::parse(content) {
         Ok(channel) => channel,
-        Err(_) => return Err(RecRefused::Bad),
+        Err(_) => return Ok(None),
     };
     let Ok(topic) = Text::copied(alloc, channel.topic) else {
-        return Err(RecRefused::Memory);
+        return Err(Memory);
     };
     let Ok(message_encoding) = Text::copied(alloc, channel.message_encoding) else {
-        return Err(RecRefused::Memory);
+        return Err(Memory);
     };
     let Ok(metadata) = PairList::copied(alloc, &channel.metadata) else {
-        return Err(RecRefused::Memory);
+        return Err(Memory);
     };
-    return Ok(Rec::Channel {
+    return Ok(Some(Rec::Channel {
         id: channel.id,
         schema_id: channel.schema_id,
         topic,
         message_encoding,
         metadata,
-    });
+    }));
 }
 
 // The Message that a content shows.
-fn message_of(alloc: Global, content: &[u8]) -> Result<Rec, RecRefused>
+fn message_of(alloc: Global, content: &[u8]) -> Result<Option<Rec>, Memory>
     ensures { ContentRead message_opcode content.now result }
 {
     let message = match Message::parse(content) {
         Ok(message) => message,
-        Err(_) => return Err(RecRefused::Bad),
+        Err(_) => return Ok(None),
     };
     let Ok(payload) = Bytes::copied(alloc, message.payload) else {
-        return Err(RecRefused::Memory);
+        return Err(Memory);
     };
-    return Ok(Rec::Message {
+    return Ok(Some(Rec::Message {
         channel_id: message.channel_id,
         sequence: message.sequence,
         log_time: message.log_time,
         publish_time: message.publish_time,
         payload,
-    });
+    }));
 }

@@ -31,7 +31,9 @@ fn block() -> &'static [u8] {
 
 // Puts a record.
 fn put(alloc: Global, chunker: &mut Chunker, framed: &[u8]) -> Result<Option<Block>, Fail> {
-    let record = Rec::from_framed(alloc, framed)?;
+    let Some(record) = Rec::from_framed(alloc, framed)? else {
+        return Err(Fail::from("no record"));
+    };
     Ok(chunker.put(&record)?)
 }
 

@@ -82,7 +82,9 @@ fn put(
     framed: &[u8],
     entries: &mut Vec<Entry<Piece>>,
 ) -> Result<(), Fail> {
-    let record = Rec::from_framed(alloc, framed)?;
+    let Some(record) = Rec::from_framed(alloc, framed)? else {
+        return Err(Fail::from("no record"));
+    };
     match put_record(scribe, &record) {
         Ok(entry) => keep(entry, entries),
         Err(_) => Err(Fail::from("a record isn't taken")),

@@ -94,7 +94,9 @@ fn note_each(
     ensures block { IfOk result (λ b. (records : List Rec) × IsBlock b records) }
 {
     for bytes in records {
-        let record = Rec::from_framed(alloc, bytes)?;
+        let Some(record) = Rec::from_framed(alloc, bytes)? else {
+            return Err(Fail::from("no record"));
+        };
         note_and_put(summary, chunker, &record)?;
     }
     match last(chunker)? {
