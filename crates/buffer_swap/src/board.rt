@@ -32,6 +32,7 @@ use std::sync::Wait;
 use std::sync::atomic::AtomicU64;
 use std::sync::atomic::Ordering::SeqCst;
 use std::thread::yield_now;
+use std::time::Duration;
 
 pub(crate) const TURN: usize = 0;
 
@@ -42,6 +43,12 @@ const RIPE: u64 = 262_144;
 
 // How many times as much as is worth a swap may gather before the drain should have come: with a processor of its own it has.
 const OVERDUE: u64 = 4;
+
+// From how many bytes on the drain is far behind, so that a publisher which may wait for room waits for a swap; and for how many
+// nanoseconds at most: where the drain takes longer, the room up to the limit is there for that.
+pub(crate) const FAR_BEHIND: u64 = 2_097_152;
+
+const HEAD_START: u64 = 5_000_000;
 
 // How often a turn that is taken is looked at before a sleep: most turns are shorter than a sleep.
 const LOOKS: u32 = 16;
@@ -710,7 +717,15 @@ impl Board {
         self.room_sleepers.fetch_sub(1, SeqCst);
     }
 
-    // Wakes all who sleep until there is room, if there are any. The events were counted before.
+    /// Sleeps until a swap, a close or a stop behind these events, but not for long.
+    pub(crate) fn sleep_for_swap<R: Wait>(&self, rt: &R, events: u32) {
+        let start = Duration::from_nanos(HEAD_START);
+        self.room_sleepers.fetch_add(1, SeqCst);
+        self.table.shared.park_timeout(rt, EVENTS, events, start);
+        self.room_sleepers.fetch_sub(1, SeqCst);
+    }
+
+    // Wakes all who sleep until there is room or a swap, if there are any. The events were counted before.
     fn wake_for_room(&self) {
         if self.room_sleepers.load(SeqCst) != 0 {
             self.table.shared.wake_all(EVENTS);

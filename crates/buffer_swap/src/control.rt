@@ -32,6 +32,7 @@ impl<'t> Control<'t> {
             number,
             found: None,
             last: 0,
+            awaited: None,
         }
     }
 
@@ -49,6 +50,7 @@ impl<'t> Control<'t> {
             number: _,
             found: _,
             last: _,
+            awaited: _,
         } = publisher;
         self.board
             .table

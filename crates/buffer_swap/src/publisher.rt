@@ -7,6 +7,7 @@ ghost use Rattle.record_core.specs.declared.answers.CallRefused.TheVariants.{Ful
 ghost use Rattle.record_core.specs.Sights.{DefFits};
 ghost use Rattle.buffer_swap.specs.Calls.{PublishesMessage, DeclaresChannel, MayName, last_of, TriesBy, LooksOn, NotFull, NeverFull};
 
+use crate::board::FAR_BEHIND;
 use crate::seats::{EndedPass, Publisher, Rouser};
 use rec_data::ChannelDef;
 use record_core::{CallRefused, Declared, Found, NewMessage, declared_size};
@@ -158,7 +159,53 @@ impl<'t> Publisher<'t> {
         self.board.try_in_turn(&mut self.seat, m, found.held)
     }
 
-    /// Publishes a message, and answers its place. It may wait for the turn, and while the buffer is full.
+    // Whether the last turn found so much in the buffer that the drain is far behind.
+    fn is_far_ahead(&self) -> bool {
+        match &self.found {
+            Some(found) => return found.held >= FAR_BEHIND,
+            None => return false,
+        }
+    }
+
+    // Whether it waited for such a drain since the last swap, and not twice as much has gathered since then.
+    fn has_awaited(&self) -> bool {
+        match &self.awaited {
+            Some(before) => match &self.found {
+                Some(found) => {
+                    return before.taken == found.taken && found.held / 2 < before.held;
+                }
+                None => return true,
+            },
+            None => return false,
+        }
+    }
+
+    // Waits for a swap for a moment. Few messages come here, so it stays out of the way of the others.
+    #[inline(never)]
+    fn await_swap<R: Wait>(&mut self, rt: &R, events: u32)
+        ensures seat { self.new.seat ≡ self.old.seat }
+        ensures number { self.new.number ≡ self.old.number }
+        ensures last { self.new.last ≡ self.old.last }
+    {
+        if !self.has_awaited() {
+            self.awaited = self.found;
+            self.board.sleep_for_swap(rt, events);
+        }
+    }
+
+    // Lets a drain swap first that is far behind: then the buffers stay in the processor's cache.
+    fn let_drain_swap<R: Wait>(&mut self, rt: &R, events: u32)
+        ensures seat { self.new.seat ≡ self.old.seat }
+        ensures number { self.new.number ≡ self.old.number }
+        ensures last { self.new.last ≡ self.old.last }
+    {
+        if self.is_far_ahead() {
+            self.await_swap(rt, events);
+        }
+    }
+
+    /// Publishes a message, and answers its place. It may wait for the turn, while the buffer is full, and for a moment where
+    /// the drain is far behind.
     pub fn publish_lossless<R: Wait>(
         &mut self,
         rt: &R,
@@ -178,6 +225,7 @@ impl<'t> Publisher<'t> {
             let events = self.board.events();
             let answer = self.publish_once(rt, m);
             if !met_full(&answer) {
+                self.let_drain_swap(rt, events);
                 return answer;
             }
             self.board.sleep_for_room(rt, events);

@@ -17,7 +17,7 @@ pub(crate) type Seat = atomic_table::Seat<Desk, View>;
 #[derive(Drop)]
 pub(crate) struct Board {
     pub table: Table<Desk, View, u64, Order, Global>,
-    // How many threads sleep until the turn is free, or until there is room, or are about to. Where there are none, nobody is
+    // How many threads sleep until the turn is free, or until there is room or a swap, or are about to. Where there are none, nobody is
     // woken, which is a call of the system.
     pub turn_sleepers: AtomicU64,
     pub room_sleepers: AtomicU64,
@@ -37,6 +37,8 @@ pub struct Publisher<'t> {
     pub(crate) found: Option<Found>,
     // The id that its last channel got, or 0.
     pub(crate) last: u16,
+    // How it found the intake when it last waited for a drain that was far behind.
+    pub(crate) awaited: Option<Found>,
     ghost fits: { seat.table_id ≡ board.now.table.shared.table_id },
     ghost idle: { IsIdle seat.me },
     ghost kind: { seat.me.0.post ≡ publisher_post number },

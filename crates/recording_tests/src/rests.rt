@@ -15,10 +15,13 @@ use std::sync::atomic::Ordering::SeqCst;
 use std::test::Fail;
 use std::thread;
 use std::thread::{Threads, join_mut};
-use std::time::{Clock, Duration};
+use std::time::{Clock, Duration, Instant};
 
 // From how many bytes on the buffer is full, and ripe: four messages.
 const LIMIT: u64 = 100;
+
+// Room for more than makes a publisher wait for a swap.
+const ROOMY: u64 = 8_388_608;
 
 // What may wake a drain that rests.
 #[derive(Clone, Copy)]
@@ -126,6 +129,37 @@ fn rests_behind<R: Wait>(rt: &R, alloc: Global) -> Result<(), Memory> {
     drain.stop(rt, Stop::Memory);
     drain.rest(rt);
     drain.rest(rt);
+    Ok(())
+}
+
+// Whether 64 messages, four megabytes together, are published without loss beside a drain that never comes.
+fn is_taken_beside_no_drain<R: Wait>(rt: &R, alloc: Global) -> Result<bool, Memory> {
+    let channel = plain(alloc, "/a")?;
+    let desk = Desk::open(alloc, ROOMY)?;
+    let mut turn = Turn::open(alloc, desk)?;
+    let (mut control, _drain) = turn.start();
+    let mut publisher = control.publisher();
+    let Ok(given) = publisher.declare(rt, &channel) else {
+        return Ok(false);
+    };
+    let payload = [7; 65_536];
+    for sequence in 0..64 {
+        let m = message(given.channel, sequence, &payload);
+        if publisher.publish_lossless(rt, &m) != Ok(1 + sequence as u64) {
+            return Ok(false);
+        }
+    }
+    Ok(true)
+}
+
+#[test]
+fn a_lossless_publisher_waits_for_a_drain_and_goes_on_where_none_comes(
+    rt: HostRuntime,
+) -> Result<(), Fail> {
+    let begun = Instant::now(&rt)?;
+    let taken = is_taken_beside_no_drain(&rt, rt.alloc())?;
+    let waited = begun.elapsed(&rt)?;
+    holds(&rt, taken && waited >= Duration::from_millis(5));
     Ok(())
 }
 
