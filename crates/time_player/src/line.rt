@@ -51,6 +51,12 @@ fn add_numbers(out: &mut Vec<u8>, message: &Lent)
     let sequence = write_number(message.sequence as u64, &mut text, NUMBERS);
     let channel = write_number(message.channel as u64, &mut text, sequence);
     let publish_time = write_number(message.publish_time, &mut text, channel);
+    // A recorder without times of publishing sets the log time in their place (MCAP specification, "Message (op=0x05)").
+    if message.log_time == message.publish_time {
+        add_bytes(out, &text[publish_time..channel]);
+        add_bytes(out, &text[publish_time..]);
+        return;
+    }
     let log_time = write_number(message.log_time, &mut text, publish_time);
     add_bytes(out, &text[log_time..]);
 }
