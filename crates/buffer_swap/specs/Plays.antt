@@ -38,6 +38,10 @@ pub record HasDesk (m : Sat) : Type 0 where
   pub holds : m.0.holds ≡ true
   pub out : m.1 ≡ (0, m.0.hand) ∷ []
 
+-- it holds the turn and has the desk out, changed or not since it was counted
+abbrev pub HasDeskOut : Sat → Type 0
+HasDeskOut m = (m.0.holds ≡ true) × (m.1 ≡ (0, desk_out m.1) ∷ [])
+
 -- it neither holds the turn nor has the desk out
 pub record IsIdle (m : Sat) : Type 0 where
   pub holds : m.0.holds ≡ false

@@ -1,5 +1,5 @@
 -- What a seat at the turn is for.
-use Rattle.std.specs.Prelude.{ℕ, List, [], Bool, true, false, Option, None}
+use Rattle.std.specs.Prelude.{◌≡◌, ℕ, List, [], Bool, true, false, Option, None}
 use Rattle.rec_data.specs.declared.owned.Rec.{Rec}
 use Rattle.mcap_model.specs.declared.ends.Stop.{Stop}
 use Rattle.record_core.specs.declared.answers.Found.{Found}
@@ -37,6 +37,10 @@ first_post = record no_post { seated = true; controls = true }
 
 abbrev pub drain_post : Option Stop → List Rec → Post
 drain_post stop taken = record no_post { seated = true; drains = true; stop = stop; taken = taken }
+
+-- that of a drain, whatever it took, and whether it stopped or not
+abbrev pub IsDrain : Post → Type 0
+IsDrain post = post ≡ drain_post post.stop post.taken
 
 abbrev pub publisher_post : ℕ → Post
 publisher_post number = record no_post { seated = true; publishes = true; number = number }

@@ -9,9 +9,9 @@ ghost use Rattle.record_core.specs.Sights.{DefFits};
 ghost use Rattle.record_core.specs.declared.answers.CallRefused.TheVariants.{TooManySchemas, TooManyChannels};
 ghost use Rattle.record_core.specs.Desk.{DeskView, new_desk, found_of, swapped, ended, desk_end, fields_of_message, Published, DeclaredBy, SwapAnswered, EndIsSetAt, IsCause, EndIsLast};
 ghost use Rattle.feed_lane.specs.PassCalls.{message_record, with_found};
-ghost use Rattle.buffer_swap.specs.Posts.{first_post, drain_post};
+ghost use Rattle.buffer_swap.specs.Posts.{first_post, IsDrain};
 ghost use Rattle.buffer_swap.specs.Turns.{newcomer};
-ghost use Rattle.buffer_swap.specs.Plays.{desk_out, HasDesk, IsIdle, Took, MayCount, NamedAt, LacksIdAt, missing, counts, hands_over, closes, stops, frees, frees_counting, same_pass, with_full_hand, with_name, with_lacking};
+ghost use Rattle.buffer_swap.specs.Plays.{desk_out, HasDesk, HasDeskOut, IsIdle, Took, MayCount, NamedAt, LacksIdAt, missing, counts, hands_over, closes, stops, frees, frees_counting, same_pass, with_full_hand, with_name, with_lacking};
 ghost use Rattle.buffer_swap.specs.Calls.{frees_published, frees_behind, counts_declared, pass_declared, PublishedInTurn, DeclaredInTurn, TriedInTurn, pass_named, NamedInTurn, hands_if, SwappedInTurn, closes_if, ClosedInTurn, stops_if, StoppedInTurn};
 
 use crate::doorbell::Doorbell;
@@ -262,7 +262,7 @@ impl Board {
     // The records of a declaration are counted.
     fn count(&self, seat: &mut Seat)
         requires id { seat.old.table_id ≡ self.now.table.shared.table_id }
-        requires desk { (seat.old.me.0.holds ≡ true) × (seat.old.me.1 ≡ (0, desk_out seat.old.me.1) ∷ []) }
+        requires desk { HasDeskOut seat.old.me }
         requires publisher { seat.old.me.0.post.publishes ≡ true }
         requires counts { (records : List Rec) × MayCount seat.old.me.0.hand records (desk_out seat.old.me.1) }
         ensures id { seat.new.table_id ≡ seat.old.table_id }
@@ -276,7 +276,7 @@ impl Board {
     fn hand_over(&self, seat: &mut Seat)
         requires id { seat.old.table_id ≡ self.now.table.shared.table_id }
         requires desk { (seat.old.me.0.holds ≡ true) × (seat.old.me.1 ≡ (0, swapped seat.old.me.0.hand) ∷ []) }
-        requires drain { seat.old.me.0.post ≡ drain_post seat.old.me.0.post.stop seat.old.me.0.post.taken }
+        requires drain { IsDrain seat.old.me.0.post }
         ensures id { seat.new.table_id ≡ seat.old.table_id }
         ensures me { seat.new.me
             ≡ (hands_over seat.old.me.0 (swapped seat.old.me.0.hand), (0, swapped seat.old.me.0.hand) ∷ []) }
@@ -304,7 +304,7 @@ impl Board {
         requires desk { (seat.old.me.0.holds ≡ true)
             × (seat.old.me.1 ≡ (0, ended seat.old.me.0.hand (Stopped _stop)) ∷ []) }
         requires unended { seat.old.me.0.hand.end ≡ None }
-        requires drain { seat.old.me.0.post ≡ drain_post seat.old.me.0.post.stop seat.old.me.0.post.taken }
+        requires drain { IsDrain seat.old.me.0.post }
         ensures id { seat.new.table_id ≡ seat.old.table_id }
         ensures me { seat.new.me
             ≡ (stops seat.old.me.0 (ended seat.old.me.0.hand (Stopped _stop)), (0, ended seat.old.me.0.hand (Stopped _stop)) ∷ []) }
@@ -328,7 +328,7 @@ impl Board {
     // Counts the records that the desk got, and shows nothing more: one step in place of two.
     fn free_counting(&self, seat: &mut Seat)
         requires id { seat.old.table_id ≡ self.now.table.shared.table_id }
-        requires desk { (seat.old.me.0.holds ≡ true) × (seat.old.me.1 ≡ (0, desk_out seat.old.me.1) ∷ []) }
+        requires desk { HasDeskOut seat.old.me }
         requires publisher { seat.old.me.0.post.publishes ≡ true }
         requires counts { (records : List Rec) × MayCount seat.old.me.0.hand records (desk_out seat.old.me.1) }
         ensures id { seat.new.table_id ≡ seat.old.table_id }
@@ -386,7 +386,7 @@ impl Board {
         answer: &Result<u64, CallRefused>,
     )
         requires id { seat.old.table_id ≡ self.now.table.shared.table_id }
-        requires desk { (seat.old.me.0.holds ≡ true) × (seat.old.me.1 ≡ (0, desk_out seat.old.me.1) ∷ []) }
+        requires desk { HasDeskOut seat.old.me }
         requires publisher { seat.old.me.0.post.publishes ≡ true }
         requires counts { OnOk answer.now (MayCount seat.old.me.0.hand (message_record _m.now ∷ [])
             (desk_out seat.old.me.1)) }
@@ -428,7 +428,7 @@ impl Board {
         answer: &Result<Declared, CallRefused>,
     )
         requires id { seat.old.table_id ≡ self.now.table.shared.table_id }
-        requires desk { (seat.old.me.0.holds ≡ true) × (seat.old.me.1 ≡ (0, desk_out seat.old.me.1) ∷ []) }
+        requires desk { HasDeskOut seat.old.me }
         requires publisher { seat.old.me.0.post.publishes ≡ true }
         requires counts { OnOk answer.now (MayCount seat.old.me.0.hand
             (new_records seat.old.me.0.hand.ids _channel.now) (desk_out seat.old.me.1)) }
@@ -447,7 +447,7 @@ impl Board {
     // Counts records, if there are any.
     fn count_some(&self, seat: &mut Seat, count: u8, _channel: &ChannelDef)
         requires id { seat.old.table_id ≡ self.now.table.shared.table_id }
-        requires desk { (seat.old.me.0.holds ≡ true) × (seat.old.me.1 ≡ (0, desk_out seat.old.me.1) ∷ []) }
+        requires desk { HasDeskOut seat.old.me }
         requires publisher { seat.old.me.0.post.publishes ≡ true }
         requires counts { MayCount seat.old.me.0.hand (new_records seat.old.me.0.hand.ids _channel.now)
             (desk_out seat.old.me.1) }
@@ -517,8 +517,8 @@ impl Board {
     // The drain hands over what the desk gave.
     fn hand_swapped(&self, seat: &mut Seat, answer: &Result<Cache, Empty>)
         requires id { seat.old.table_id ≡ self.now.table.shared.table_id }
-        requires desk { (seat.old.me.0.holds ≡ true) × (seat.old.me.1 ≡ (0, desk_out seat.old.me.1) ∷ []) }
-        requires drain { seat.old.me.0.post ≡ drain_post seat.old.me.0.post.stop seat.old.me.0.post.taken }
+        requires desk { HasDeskOut seat.old.me }
+        requires drain { IsDrain seat.old.me.0.post }
         requires swapped { SwapAnswered seat.old.me.0.hand answer.now (desk_out seat.old.me.1) }
         ensures id { seat.new.table_id ≡ seat.old.table_id }
         ensures view { seat.new.me.0 ≡ hands_if seat.old.me.0 answer.now }
@@ -538,7 +538,7 @@ impl Board {
     pub(crate) fn swap_in_turn(&self, seat: &mut Seat, empty: Cache) -> Result<Cache, Empty>
         requires id { seat.old.table_id ≡ self.now.table.shared.table_id }
         requires desk { HasDesk seat.old.me }
-        requires drain { seat.old.me.0.post ≡ drain_post seat.old.me.0.post.stop seat.old.me.0.post.taken }
+        requires drain { IsDrain seat.old.me.0.post }
         requires empty { empty ≡ record { limit = seat.old.me.0.hand.limit; records = [] } }
         ensures id { seat.new.table_id ≡ seat.old.table_id }
         ensures swapped { SwappedInTurn seat.old.me result seat.new.me }
@@ -589,7 +589,7 @@ impl Board {
         requires id { seat.old.table_id ≡ self.now.table.shared.table_id }
         requires desk { (seat.old.me.0.holds ≡ true)
             × (seat.old.me.1 ≡ (0, ended seat.old.me.0.hand (Stopped stop)) ∷ []) }
-        requires drain { seat.old.me.0.post ≡ drain_post seat.old.me.0.post.stop seat.old.me.0.post.taken }
+        requires drain { IsDrain seat.old.me.0.post }
         requires end { end ≡ desk_end seat.old.me.0.hand }
         ensures id { seat.new.table_id ≡ seat.old.table_id }
         ensures view { seat.new.me.0 ≡ stops_if seat.old.me.0 end stop }
@@ -605,7 +605,7 @@ impl Board {
     pub(crate) fn stop_in_turn(&self, seat: &mut Seat, stop: Why) -> u64
         requires id { seat.old.table_id ≡ self.now.table.shared.table_id }
         requires desk { HasDesk seat.old.me }
-        requires drain { seat.old.me.0.post ≡ drain_post seat.old.me.0.post.stop seat.old.me.0.post.taken }
+        requires drain { IsDrain seat.old.me.0.post }
         requires cause { IsCause stop }
         ensures id { seat.new.table_id ≡ seat.old.table_id }
         ensures stopped { StoppedInTurn seat.old.me stop result seat.new.me }
@@ -624,7 +624,7 @@ impl Board {
     // Frees the turn behind the answer to a message. One that was accepted is counted.
     fn free_behind(&self, seat: &mut Seat, _m: &NewMessage<'_>, answer: &Result<u64, CallRefused>)
         requires id { seat.old.table_id ≡ self.now.table.shared.table_id }
-        requires desk { (seat.old.me.0.holds ≡ true) × (seat.old.me.1 ≡ (0, desk_out seat.old.me.1) ∷ []) }
+        requires desk { HasDeskOut seat.old.me }
         requires publisher { seat.old.me.0.post.publishes ≡ true }
         requires counts { OnOk answer.now (MayCount seat.old.me.0.hand (message_record _m.now ∷ [])
             (desk_out seat.old.me.1)) }

@@ -1,6 +1,6 @@
 //! The table of a turn, and those who sit at it.
 ghost use Rattle.std.specs.Prelude.{◌≡◌, ℕ, [], true, false};
-ghost use Rattle.buffer_swap.specs.Posts.{publisher_post, drain_post};
+ghost use Rattle.buffer_swap.specs.Posts.{publisher_post, IsDrain};
 ghost use Rattle.buffer_swap.specs.Plays.{IsIdle};
 
 use crate::doorbell::Doorbell;
@@ -80,5 +80,5 @@ pub struct Drain<'t> {
     pub(crate) seat: Seat,
     ghost fits: { seat.table_id ≡ board.now.table.shared.table_id },
     ghost idle: { IsIdle seat.me },
-    ghost kind: { seat.me.0.post ≡ drain_post seat.me.0.post.stop seat.me.0.post.taken },
+    ghost kind: { IsDrain seat.me.0.post },
 }

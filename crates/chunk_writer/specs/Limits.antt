@@ -1,8 +1,12 @@
 -- What a file may hold, and why a writer stops at a piece.
-use Rattle.std.specs.Prelude.{◌≡◌, ℕ, ◌≤◌}
-use Rattle.mcap_wire.specs.Limits.{block_limit, file_limit}
+use Rattle.std.specs.Prelude.{◌≡◌, ℕ, ◌≤◌, Option, Some}
+use Rattle.mcap_wire.specs.Limits.{block_limit, chunk_size_limit, file_limit}
 use Rattle.mcap_model.specs.declared.ends.Stop.{Stop}
 use Rattle.mcap_model.specs.declared.ends.Stop.TheVariants as stops
+
+-- a chunk, where there are any, is closed at 64 MiB or sooner
+abbrev pub ChunkSizeFits : Option ℕ → Type 0
+ChunkSizeFits chunk = (n : ℕ) → chunk ≡ Some n → (1 ≤ n) × (n ≤ chunk_size_limit)
 
 -- so many blocks, and so many bytes
 pub record Holds (blocks bytes : ℕ) : Type 0 where

@@ -1,6 +1,6 @@
 //! The plan of a file: which piece is to be appended next, and how many blocks and bytes there are with it.
 ghost use Rattle.std.specs.Prelude.{◌≡◌, ◌<◌, ◌≤◌, ◌+◌, ◌^◌, ℕ, List, Option, [], ◌∷◌, ◌++◌, length, drop, true, false, Some, None, IfOk, IfErr, OnOk, OnErr};
-ghost use Rattle.mcap_wire.specs.Limits.{block_limit, chunk_size_limit, file_limit};
+ghost use Rattle.mcap_wire.specs.Limits.{block_limit, file_limit};
 ghost use Rattle.rec_data.specs.declared.owned.Rec.{Rec};
 ghost use Rattle.chunk_build.specs.Chunker.{AreFramed};
 ghost use Rattle.mcap_model.specs.declared.options.FileOptions.{FileOptions};
@@ -13,7 +13,7 @@ ghost use Rattle.mcap_model.specs.Pieces.{back_of};
 ghost use Rattle.summary_write.specs.Tally.{SummaryStandsFor, with_noted_block, with_noted_extra};
 ghost use Rattle.chunk_writer.specs.declared.next.Next.TheVariants as nexts;
 ghost use Rattle.chunk_writer.specs.declared.phase.Phase.TheVariants as phases;
-ghost use Rattle.chunk_writer.specs.Limits.{Holds};
+ghost use Rattle.chunk_writer.specs.Limits.{Holds, ChunkSizeFits};
 ghost use Rattle.chunk_writer.specs.LimitSteps.{HoldsOrStops, IsNoFault};
 ghost use Rattle.chunk_writer.specs.Bodies.{BodyFor, SummaryFor, StandsSo, NextBlock, LastBlock};
 ghost use Rattle.chunk_writer.specs.Waiting.{AreExtra};
@@ -55,7 +55,7 @@ impl Model for Plan {
 
 // The body of a file in chunks of that size, if there is one.
 fn body_for(alloc: Global, size: Option<u64>) -> Result<Option<Body>, Memory>
-    requires { (n : ℕ) → size ≡ Some n → (1 ≤ n) × (n ≤ chunk_size_limit) }
+    requires { ChunkSizeFits size }
     ensures { IfOk result (λ body. (at : ℕ) → BodyFor size at [] body) }
 {
     match size {
@@ -172,7 +172,7 @@ fn note_behind(body: &mut Option<Body>, at: u64, framed: &[u8]) -> Result<(), Me
 impl Plan {
     /// The plan of a file of these options, whose front has so many bytes.
     pub(crate) fn new(alloc: Global, options: &FileOptions, bytes: u64) -> Result<Plan, Memory>
-        requires size { (n : ℕ) → options.now.chunk ≡ Some n → (1 ≤ n) × (n ≤ chunk_size_limit) }
+        requires size { ChunkSizeFits options.now.chunk }
         requires front { bytes ≡ length (front options.now.profile) }
         requires small { bytes ≤ file_limit }
         ensures stands { IfOk result (λ p. Plans options.now [] p) }

@@ -1,8 +1,8 @@
 //! The scribe appends the pieces of a file to its store: the magic and the Header; each block, or each record where there are
 //! no chunks; and the Data End with all behind it.
-ghost use Rattle.std.specs.Prelude.{◌≡◌, ◌<◌, ◌≤◌, ◌+◌, ℕ, List, Option, [], ◌∷◌, ◌++◌, length, map, get_or, Some, None, IsSome, Ok, Err, IfOk, IfErr, OnOk, OnErr};
+ghost use Rattle.std.specs.Prelude.{◌≡◌, ◌<◌, ◌≤◌, ◌+◌, List, Option, [], ◌∷◌, ◌++◌, length, map, get_or, Some, None, IsSome, Ok, Err, IfOk, IfErr, OnOk, OnErr};
 ghost use Rattle.mcap_wire.specs.Layout.{content_limit};
-ghost use Rattle.mcap_wire.specs.Limits.{chunk_size_limit, file_limit};
+ghost use Rattle.mcap_wire.specs.Limits.{file_limit};
 ghost use Rattle.rec_data.specs.declared.owned.Rec.{Rec};
 ghost use Rattle.rec_data.specs.OwnedReading.{LengthsFit};
 ghost use Rattle.mcap_io.specs.Outside.{LiveState};
@@ -17,7 +17,7 @@ ghost use Rattle.mcap_model.specs.ReadBack.{IsExtra};
 ghost use Rattle.mcap_model.specs.File.{front};
 ghost use Rattle.live_entry.specs.Entries.{seen_before};
 ghost use Rattle.chunk_writer.specs.declared.phase.Phase.TheVariants as phases;
-ghost use Rattle.chunk_writer.specs.Limits.{Holds};
+ghost use Rattle.chunk_writer.specs.Limits.{Holds, ChunkSizeFits};
 ghost use Rattle.chunk_writer.specs.Plans.{Plans, StoppedBefore};
 ghost use Rattle.chunk_writer.specs.Stops.{numbers, StopsAt, Cause, StopCause, Ends};
 ghost use Rattle.chunk_writer.specs.StopSteps.{StopsBehind, Appends, Added, refusal};
@@ -105,7 +105,7 @@ fn taken<X>(full: Cache, entries: Vec<Entry<X>>, end: Result<(), Stop>) -> Taken
 
 // The front of a file, and the plan of what follows it.
 fn opening(alloc: Global, options: &FileOptions) -> Result<(Plan, Vec<u8>), Memory>
-    requires size { (n : ℕ) → options.now.chunk ≡ Some n → (1 ≤ n) × (n ≤ chunk_size_limit) }
+    requires size { ChunkSizeFits options.now.chunk }
     requires profile { length options.now.profile ≤ content_limit }
     ensures front { IfOk result (λ o. o.1.items ≡ front options.now.profile) }
     ensures stands { IfOk result (λ o. Plans options.now [] o.0) }
@@ -127,7 +127,7 @@ fn begin_file<L: LiveStore>(
     store: &mut L,
     options: &FileOptions,
 ) -> Result<Plan, Stop>
-    requires size { (n : ℕ) → options.now.chunk ≡ Some n → (1 ≤ n) × (n ≤ chunk_size_limit) }
+    requires size { ChunkSizeFits options.now.chunk }
     requires profile { length options.now.profile ≤ content_limit }
     ensures stands { IfOk result (λ plan. ScribeStands options.now (L.state store.old).held (L.state store.new).held []
         plan) }
@@ -167,7 +167,7 @@ impl<L: LiveStore> Scribe<L> {
     /// magic and the Header are one append, appended through. Where it is refused, or memory lacks, the store is given back
     /// with what it took of them.
     pub fn open(alloc: Global, store: L, options: &FileOptions) -> Result<Scribe<L>, (L, Stop)>
-        requires size { (n : ℕ) → options.now.chunk ≡ Some n → (1 ≤ n) × (n ≤ chunk_size_limit) }
+        requires size { ChunkSizeFits options.now.chunk }
         requires profile { length options.now.profile ≤ content_limit }
         ensures stands { IfOk result (λ s. WritesHistory L.state options.now [] (L.state store) [] s) }
         ensures goes_on { IfOk result (λ s. phase_of s ≡ phases.Going) }

@@ -1,7 +1,7 @@
 -- Which options a recording of generated feeds may have.
-use Rattle.std.specs.Prelude.{◌≡◌, ◌≤◌, ℕ, length, Some}
+use Rattle.std.specs.Prelude.{◌≤◌, length}
 use Rattle.mcap_wire.specs.RecordingLimits.{buffer_limit, profile_limit}
-use Rattle.mcap_wire.specs.Limits.{chunk_size_limit}
+use Rattle.chunk_writer.specs.Limits.{ChunkSizeFits}
 use Rattle.recorder.specs.declared.options.RecordOptions.{RecordOptions}
 
 -- the options of a recording are in their ranges: a buffer of 1 byte to 1 GiB, chunks of 1 byte to 64 MiB, and a profile of at
@@ -9,5 +9,5 @@ use Rattle.recorder.specs.declared.options.RecordOptions.{RecordOptions}
 pub record OptionsAllowed (options : RecordOptions) : Type 0 where
   pub some : 1 ≤ options.limit
   pub small : options.limit ≤ buffer_limit
-  pub size : (n : ℕ) → options.file.chunk ≡ Some n → (1 ≤ n) × (n ≤ chunk_size_limit)
+  pub size : ChunkSizeFits options.file.chunk
   pub short : length options.file.profile ≤ profile_limit

@@ -1,8 +1,7 @@
 //! The command: recording generated feeds, reading the file back, and telling of both.
 ghost use Rattle.std.specs.Prelude.{◌≡◌, ◌≤◌, ◌<◌, ◌^◌, ◌↔◌, ◌||◌, ◌⊎◌, ◌++◌, List, ℕ, Some, true, IsTrue};
 ghost use Rattle.mcap_io.specs.Outside.{Rose};
-ghost use Rattle.mcap_model.specs.Places.{Each};
-ghost use Rattle.feed_lane.specs.Steps.{ListsMessages};
+ghost use Rattle.recorder.specs.Lanes.{AreMessagesListed};
 ghost use Rattle.command_base.specs.Texts.{fault, output_limit, output_fault, no_memory};
 ghost use Rattle.command_base.specs.ComplaintTroubles.{complained};
 ghost use Rattle.command_base.specs.Printing.{Takes};
@@ -190,7 +189,7 @@ pub fn generate_file<R: AllocGlobal + Threads + Wait + Sync, W: World, O: Sink, 
         (scene (W.state world.old) (O.state out.old) (E.state err.old))
         (scene (W.state world.new) (O.state out.new) (E.state err.new))
         result.report result.status }
-    ensures listed { (r : _) → result.report ≡ Some r → Each (λ f. ListsMessages f listed) r.feeds.items }
+    ensures listed { AreMessagesListed result.report listed }
 {
     let before = Counts::of(world, out);
     let written = write_generated(rt, rt.alloc(), options, numbers, out_name, world, listed);

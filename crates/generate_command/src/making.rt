@@ -1,8 +1,7 @@
 //! Recording generated feeds into the file under a name.
-ghost use Rattle.std.specs.Prelude.{◌≡◌, ◌≤◌, ◌<◌, ◌^◌, ◌∷◌, ◌++◌, [], map, vec_len, Some, IfOk, OnOk};
+ghost use Rattle.std.specs.Prelude.{◌≡◌, ◌≤◌, ◌<◌, ◌^◌, ◌∷◌, ◌++◌, [], map, vec_len, IfOk, OnOk};
 ghost use Rattle.mcap_io.specs.OutsideCalls.{went_well};
-ghost use Rattle.mcap_model.specs.Places.{Each};
-ghost use Rattle.feed_lane.specs.Steps.{ListsMessages};
+ghost use Rattle.recorder.specs.Lanes.{AreMessagesListed};
 ghost use Rattle.generate_command.specs.Making.{generated_source, sources_of, NameWritten};
 ghost use Rattle.generate_command.specs.Allowed.{OptionsAllowed};
 
@@ -91,7 +90,7 @@ fn write_feeds<R: Threads + Wait + Sync, W: World>(
     requires outputs_fit { (W.state world.old).output_faults < 2 ^ 64 }
     ensures written { NameWritten options.now (map (λ f. ⟦<GeneratedFeed as Source>⟧.state f) feeds.items) out.now
         (W.state world.old) (W.state world.new) result }
-    ensures listed { (r : _) → result.report ≡ Some r → Each (λ f. ListsMessages f listed) r.feeds.items }
+    ensures listed { AreMessagesListed result.report listed }
 {
     let live = match world.live(out) {
         Ok(live) => live,
@@ -139,7 +138,7 @@ pub fn write_generated<R: Threads + Wait + Sync, W: World>(
     requires outputs_fit { (W.state world.old).output_faults < 2 ^ 64 }
     ensures written { NameWritten options.now (sources_of numbers) out.now (W.state world.old) (W.state world.new)
         result }
-    ensures listed { (r : _) → result.report ≡ Some r → Each (λ f. ListsMessages f listed) r.feeds.items }
+    ensures listed { AreMessagesListed result.report listed }
 {
     match make_feeds(alloc, numbers) {
         Ok(feeds) => return write_feeds(rt, alloc, options, feeds, out, world, listed),

@@ -1,12 +1,11 @@
 //! The program: what each command does to the world and to both outputs.
-ghost use Rattle.std.specs.Prelude.{◌≡◌, ◌⊎◌, ◌≤◌, ◌++◌, ℕ, [], ◌∷◌, length, None, Some};
+ghost use Rattle.std.specs.Prelude.{◌≡◌, ◌⊎◌, ◌++◌, [], ◌∷◌, length, None, Some};
+ghost use Rattle.recorder.specs.Lanes.{AreMessagesListed};
 ghost use Rattle.command_words.specs.declared.command.Command.{Command as Wanted};
 ghost use Rattle.command_words.specs.Commands.{AreBad, Derives, usage_text};
 ghost use Rattle.command_base.specs.declared.statuses.Status.TheVariants as statuses;
 ghost use Rattle.command_base.specs.Texts.{no_memory, said, status_number};
 ghost use Rattle.command_base.specs.ComplaintTroubles.{bad_words_line};
-ghost use Rattle.mcap_model.specs.Places.{Each};
-ghost use Rattle.feed_lane.specs.Steps.{ListsMessages};
 ghost use Rattle.command_base.specs.Printing.{Takes};
 ghost use Rattle.command_base.specs.Scenes.{scene};
 ghost use Rattle.record_command.specs.RecordSteps.{AreAllowed, AreFew};
@@ -78,7 +77,7 @@ fn run_generate<R: AllocGlobal + Threads + Wait + Sync, W: World, O: Sink, E: Si
         (scene (W.state world.old) (O.state out.old) (E.state err.old))
         (scene (W.state world.new) (O.state out.new) (E.state err.new))
         result.report result.status }
-    ensures listed { (r : _) → result.report ≡ Some r → Each (λ f. ListsMessages f listed) r.feeds.items }
+    ensures listed { AreMessagesListed result.report listed }
 {
     let Command::Generate {
         seed,
@@ -130,7 +129,7 @@ fn run_record<R: AllocGlobal + Threads + Wait + Sync, W: World, O: Sink, E: Sink
         (scene (W.state world.new) (O.state out.new) (E.state err.new)) result.report result.status
         ⊎ LacksForWords (scene (W.state world.old) (O.state out.old) (E.state err.old))
         (scene (W.state world.new) (O.state out.new) (E.state err.new)) result.report result.status }
-    ensures listed { (r : _) → result.report ≡ Some r → Each (λ f. ListsMessages f listed) r.feeds.items }
+    ensures listed { AreMessagesListed result.report listed }
 {
     let Watching { range, watchers } = watching;
     if watchers == 0 {
@@ -169,7 +168,7 @@ fn run_recording<R: AllocGlobal + Threads + Wait + Sync, W: World, O: Sink, E: S
         (scene (W.state world.old) (O.state out.old) (E.state err.old))
         (scene (W.state world.new) (O.state out.new) (E.state err.new))
         result.report result.status }
-    ensures listed { (r : _) → result.report ≡ Some r → Each (λ f. ListsMessages f listed) r.feeds.items }
+    ensures listed { AreMessagesListed result.report listed }
 {
     let Command::Record {
         out: name,
@@ -280,7 +279,7 @@ fn run_command<R: AllocGlobal + Threads + Wait + Sync, W: World, O: Sink, E: Sin
         (scene (W.state world.old) (O.state out.old) (E.state err.old))
         (scene (W.state world.new) (O.state out.new) (E.state err.new))
         result.report result.status }
-    ensures listed { (r : _) → result.report ≡ Some r → Each (λ f. ListsMessages f listed) r.feeds.items }
+    ensures listed { AreMessagesListed result.report listed }
 {
     match command {
         Command::Record { .. } => return run_recording(rt, command, world, out, err, listed),
@@ -346,7 +345,7 @@ pub fn run<R: AllocGlobal + Threads + Wait + Sync, W: World, O: Sink, E: Sink>(
         result.report result.number }
 
     // A report lists messages, or only counts them.
-    ensures listed { (r : _) → result.report ≡ Some r → Each (λ f. ListsMessages f listed) r.feeds.items }
+    ensures listed { AreMessagesListed result.report listed }
 {
     match parse_words(rt.alloc(), words) {
         Ok(command) => return exit_of(run_command(rt, command, world, out, err, listed)),

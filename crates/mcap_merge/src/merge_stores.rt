@@ -1,8 +1,9 @@
 //! Merging stores into a live store.
-ghost use Rattle.std.specs.Prelude.{◌≡◌, ◌<◌, ◌≤◌, ℕ, List, Some, Ok, length, map, IfOk, IfErr};
+ghost use Rattle.std.specs.Prelude.{◌≡◌, ◌<◌, ◌≤◌, List, Some, Ok, length, map, IfOk, IfErr};
 ghost use Rattle.std.specs.List.{AllZip};
 ghost use Rattle.mcap_wire.specs.Layout.{content_limit};
 ghost use Rattle.mcap_wire.specs.Limits.{chunk_size_limit};
+ghost use Rattle.chunk_writer.specs.Limits.{ChunkSizeFits};
 ghost use Rattle.chunk_walk.specs.Stores.{files_of, StoresFit, StoresStay, AskedWithin, unasked, none_left};
 ghost use Rattle.chunk_walk.specs.Walks.{pieces_in};
 ghost use Rattle.mcap_merge.specs.Inputs.{HoldInputs};
@@ -101,7 +102,7 @@ fn write_file<T: Store, L: LiveStore>(
     requires many { length stores.old.items ≡ length inputs.now }
     requires ready { IsBegun inputs.now begun }
     requires fits { StoresFit (map (λ s. T.state s) stores.old.items) (pieces_in begun.walk) }
-    requires size { (n : ℕ) → options.now.chunk ≡ Some n → (1 ≤ n) × (n ≤ chunk_size_limit) }
+    requires size { ChunkSizeFits options.now.chunk }
     requires profile { length options.now.profile ≤ content_limit }
     ensures written { IfOk result.1 (λ m. WholeStands (FilesAs options.now (Ok tt))
         (record { files = files_of (map (λ s. T.state s) stores.old.items); inputs = inputs.now; walk = begun.walk })

@@ -4,9 +4,9 @@ use Rattle.std.specs.List.{list_any}
 use Rattle.mcap_io.specs.Outside.{WorldState, Opening}
 use Rattle.mcap_io.specs.declared.outside.ObjectKind.TheVariants as kinds
 use Rattle.mcap_wire.specs.RecordingLimits.{buffer_limit, profile_limit}
-use Rattle.mcap_wire.specs.Limits.{chunk_size_limit}
 use Rattle.mcap_model.specs.Places.{Each}
 use Rattle.feed_lane.specs.declared.report.FeedReport.{FeedReport}
+use Rattle.chunk_writer.specs.Limits.{ChunkSizeFits}
 use Rattle.recorder.specs.declared.options.RecordOptions.{RecordOptions}
 use Rattle.recorder.specs.declared.report.Report.{Report}
 use Rattle.record_command.specs.declared.answering.Outcome.{Outcome}
@@ -21,7 +21,7 @@ use Rattle.record_command.specs.Record.{Reported, Unreported, SparesOutput, end_
 pub record AreAllowed (options : RecordOptions) : Type 0 where
   pub some : 1 ≤ options.limit
   pub small : options.limit ≤ buffer_limit
-  pub size : (n : ℕ) → options.file.chunk ≡ Some n → (1 ≤ n) × (n ≤ chunk_size_limit)
+  pub size : ChunkSizeFits options.file.chunk
   pub short : length options.file.profile ≤ profile_limit
 
 -- so many feeds are recorded at once

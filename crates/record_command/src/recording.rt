@@ -1,11 +1,10 @@
 //! Recording feeds under their names into a file under another.
-ghost use Rattle.std.specs.Prelude.{◌≡◌, ◌+◌, ◌≤◌, ◌<◌, ◌^◌, ◌++◌, ℕ, [], ◌∷◌, length, map, take, vec_len, vec_capacity, Some, true, false, IfOk, IfErr, OnOk, OnErr};
+ghost use Rattle.std.specs.Prelude.{◌≡◌, ◌+◌, ◌≤◌, ◌<◌, ◌^◌, ◌++◌, [], ◌∷◌, length, map, take, vec_len, vec_capacity, Some, true, false, IfOk, IfErr, OnOk, OnErr};
 ghost use Rattle.mcap_io.specs.Outside.{LiveState, WorldState};
 ghost use Rattle.mcap_wire.specs.Layout.{content_limit};
-ghost use Rattle.mcap_wire.specs.Limits.{chunk_size_limit};
 ghost use Rattle.mcap_wire.specs.RecordingLimits.{buffer_limit};
-ghost use Rattle.mcap_model.specs.Places.{Each};
-ghost use Rattle.feed_lane.specs.Steps.{ListsMessages};
+ghost use Rattle.chunk_writer.specs.Limits.{ChunkSizeFits};
+ghost use Rattle.recorder.specs.Lanes.{AreMessagesListed};
 ghost use Rattle.command_base.specs.Scenes.{scene};
 ghost use Rattle.record_command.specs.Sources.{FeedsOpened, FeedRefused, SourceKept, FeedsKept, feed_flags_with};
 ghost use Rattle.record_command.specs.Record.{Records};
@@ -148,7 +147,7 @@ fn record_opened<R: Threads + Wait + Sync, W: World>(
 ) -> Outcome
     requires some { 1 ≤ options.now.limit }
     requires small { options.now.limit ≤ buffer_limit }
-    requires size { (n : ℕ) → options.now.file.chunk ≡ Some n → (1 ≤ n) × (n ≤ chunk_size_limit) }
+    requires size { ChunkSizeFits options.now.file.chunk }
     requires profile { length options.now.file.profile ≤ content_limit }
     requires few { AreFew feeds.now }
     requires many { vec_len room.sources ≡ length feeds.now }
@@ -158,7 +157,7 @@ fn record_opened<R: Threads + Wait + Sync, W: World>(
         → FeedsOpened before (W.state world.old) feeds.now (map W.Source.state room.sources.items)
         → before.faults < 2 ^ 64 → before.input_faults < 2 ^ 64 → before.output_faults < 2 ^ 64
         → NamesRecorded options.now out.now feeds.now before (W.state world.new) result }
-    ensures listed { (r : _) → result.report ≡ Some r → Each (λ f. ListsMessages f listed) r.feeds.items }
+    ensures listed { AreMessagesListed result.report listed }
 {
     let Room {
         sources,
@@ -198,14 +197,14 @@ fn record_names<R: Threads + Wait + Sync, W: World>(
 ) -> Outcome
     requires some { 1 ≤ options.now.limit }
     requires small { options.now.limit ≤ buffer_limit }
-    requires size { (n : ℕ) → options.now.file.chunk ≡ Some n → (1 ≤ n) × (n ≤ chunk_size_limit) }
+    requires size { ChunkSizeFits options.now.file.chunk }
     requires profile { length options.now.file.profile ≤ content_limit }
     requires few { AreFew feeds.now }
     requires world_fits { (W.state world.old).faults < 2 ^ 64 }
     requires inputs_fit { (W.state world.old).input_faults < 2 ^ 64 }
     requires outputs_fit { (W.state world.old).output_faults < 2 ^ 64 }
     ensures recorded { NamesRecorded options.now out.now feeds.now (W.state world.old) (W.state world.new) result }
-    ensures listed { (r : _) → result.report ≡ Some r → Each (λ f. ListsMessages f listed) r.feeds.items }
+    ensures listed { AreMessagesListed result.report listed }
 {
     let Room {
         mut sources,
@@ -246,7 +245,7 @@ pub fn record_file<R: AllocGlobal + Threads + Wait + Sync, W: World, O: Sink, E:
         (scene (W.state world.old) (O.state out.old) (E.state err.old))
         (scene (W.state world.new) (O.state out.new) (E.state err.new))
         result.report result.status }
-    ensures listed { (r : _) → result.report ≡ Some r → Each (λ f. ListsMessages f listed) r.feeds.items }
+    ensures listed { AreMessagesListed result.report listed }
 {
     let before = Counts::of(world, out);
     let outcome = record_names(rt, rt.alloc(), options, out_name, feed_names, world, listed);

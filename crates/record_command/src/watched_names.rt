@@ -2,10 +2,9 @@
 ghost use Rattle.std.specs.Prelude.{◌≡◌, ◌≤◌, ◌<◌, ◌^◌, ◌||◌, ℕ, [], length, map, vec_len, vec_capacity, Some, IfOk, true, false};
 ghost use Rattle.mcap_io.specs.Outside.{WorldState};
 ghost use Rattle.mcap_wire.specs.Layout.{content_limit};
-ghost use Rattle.mcap_wire.specs.Limits.{chunk_size_limit};
 ghost use Rattle.mcap_wire.specs.RecordingLimits.{buffer_limit};
-ghost use Rattle.mcap_model.specs.Places.{Each};
-ghost use Rattle.feed_lane.specs.Steps.{ListsMessages};
+ghost use Rattle.chunk_writer.specs.Limits.{ChunkSizeFits};
+ghost use Rattle.recorder.specs.Lanes.{AreMessagesListed};
 ghost use Rattle.command_words.specs.Commands.{NamesDiffer, watcher_limit};
 ghost use Rattle.record_command.specs.RecordSteps.{AreFew};
 ghost use Rattle.record_command.specs.Sources.{FeedsOpened};
@@ -157,7 +156,7 @@ fn record_beside<R: Threads + Wait + Sync, W: World>(
 ) -> WatchedOutcome
     requires some { 1 ≤ options.now.limit }
     requires small { options.now.limit ≤ buffer_limit }
-    requires size { (n : ℕ) → options.now.file.chunk ≡ Some n → (1 ≤ n) × (n ≤ chunk_size_limit) }
+    requires size { ChunkSizeFits options.now.file.chunk }
     requires chunked { (n : ℕ) × (options.now.file.chunk ≡ Some n) }
     requires profile { length options.now.file.profile ≤ content_limit }
     requires few { AreFew feeds.now }
@@ -174,7 +173,7 @@ fn record_beside<R: Threads + Wait + Sync, W: World>(
         → SinksOpened between (W.state world.old) watch_names.now (map W.Sink.state rooms.sinks.items)
         → NamesWatched (requested options.now range out.now watch_names.now feeds.now) before (W.state world.new)
         result }
-    ensures listed { (r : _) → result.report ≡ Some r → Each (λ f. ListsMessages f listed) r.feeds.items }
+    ensures listed { AreMessagesListed result.report listed }
 {
     let Rooms {
         sources,
@@ -224,7 +223,7 @@ fn open_watches<R: Threads + Wait + Sync, W: World>(
 ) -> WatchedOutcome
     requires some { 1 ≤ options.now.limit }
     requires small { options.now.limit ≤ buffer_limit }
-    requires size { (n : ℕ) → options.now.file.chunk ≡ Some n → (1 ≤ n) × (n ≤ chunk_size_limit) }
+    requires size { ChunkSizeFits options.now.file.chunk }
     requires chunked { (n : ℕ) × (options.now.file.chunk ≡ Some n) }
     requires profile { length options.now.file.profile ≤ content_limit }
     requires few { AreFew feeds.now }
@@ -241,7 +240,7 @@ fn open_watches<R: Threads + Wait + Sync, W: World>(
         (W.Live.state live)
         → NamesWatched (requested options.now range out.now watch_names.now feeds.now) before (W.state world.new)
         result }
-    ensures listed { (r : _) → result.report ≡ Some r → Each (λ f. ListsMessages f listed) r.feeds.items }
+    ensures listed { AreMessagesListed result.report listed }
 {
     let mut rooms = rooms;
     match open_sinks(world, watch_names, &mut rooms.sinks) {
@@ -298,7 +297,7 @@ fn open_output<R: Threads + Wait + Sync, W: World>(
 ) -> WatchedOutcome
     requires some { 1 ≤ options.now.limit }
     requires small { options.now.limit ≤ buffer_limit }
-    requires size { (n : ℕ) → options.now.file.chunk ≡ Some n → (1 ≤ n) × (n ≤ chunk_size_limit) }
+    requires size { ChunkSizeFits options.now.file.chunk }
     requires chunked { (n : ℕ) × (options.now.file.chunk ≡ Some n) }
     requires profile { length options.now.file.profile ≤ content_limit }
     requires few { AreFew feeds.now }
@@ -314,7 +313,7 @@ fn open_output<R: Threads + Wait + Sync, W: World>(
         → FeedsOpened before (W.state world.old) feeds.now (map W.Source.state rooms.sources.items) → CountsFit before
         → NamesWatched (requested options.now range out.now watch_names.now feeds.now) before (W.state world.new)
         result }
-    ensures listed { (r : _) → result.report ≡ Some r → Each (λ f. ListsMessages f listed) r.feeds.items }
+    ensures listed { AreMessagesListed result.report listed }
 {
     match world.live(out) {
         Ok(live) => {
@@ -359,7 +358,7 @@ pub(crate) fn record_watched_names<R: Threads + Wait + Sync, W: World>(
 ) -> WatchedOutcome
     requires some { 1 ≤ options.now.limit }
     requires small { options.now.limit ≤ buffer_limit }
-    requires size { (n : ℕ) → options.now.file.chunk ≡ Some n → (1 ≤ n) × (n ≤ chunk_size_limit) }
+    requires size { ChunkSizeFits options.now.file.chunk }
     requires chunked { (n : ℕ) × (options.now.file.chunk ≡ Some n) }
     requires profile { length options.now.file.profile ≤ content_limit }
     requires few { AreFew feeds.now }
@@ -371,7 +370,7 @@ pub(crate) fn record_watched_names<R: Threads + Wait + Sync, W: World>(
     requires watches_fit { (W.state world.old).watch_faults < 2 ^ 64 }
     ensures recorded { NamesWatched (requested options.now range out.now watch_names.now feeds.now) (W.state world.old)
         (W.state world.new) result }
-    ensures listed { (r : _) → result.report ≡ Some r → Each (λ f. ListsMessages f listed) r.feeds.items }
+    ensures listed { AreMessagesListed result.report listed }
 {
     let mut rooms = match make_rooms(alloc, feeds.len(), watch_names.len()) {
         Ok(rooms) => rooms,

@@ -12,6 +12,7 @@ use Rattle.buffer_swap.specs.Calls.{reasoned}
 use Rattle.buffer_swap.specs.Plays.{Unclosed}
 use Rattle.buffer_swap.specs.Posts.{Gathered, Post}
 use Rattle.buffer_swap.specs.declared.view.View.{View}
+use Rattle.recorder.specs.declared.report.Report.{Report}
 use Rattle.recorder.specs.Recorded.{FeedRecorded, AreFeeds}
 use Rattle.recorder.specs.Writing.{empty_buffer}
 
@@ -56,3 +57,7 @@ pub record LanesRan (limit : ℕ) (lossless listed : Bool) (before now : List So
   pub all : length post.known ≡ post.made
   pub unfull : lossless ≡ true → Each (λ f. f.pass.fulls ≡ []) feeds
   pub lists : Each (λ f. ListsMessages f listed) reports
+
+-- a report, where there is one, lists the messages of each feed, or only counts them
+abbrev pub AreMessagesListed : Option Report → Bool → Type 0
+AreMessagesListed report listed = (r : Report) → report ≡ Some r → Each (λ f. ListsMessages f listed) r.feeds.items

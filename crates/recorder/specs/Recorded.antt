@@ -1,7 +1,6 @@
 -- What a recording did to its sources and to its store.
 use Rattle.std.specs.Prelude.{◌≡◌, ℕ, ◌≤◌, length, Some, IsUtf8, ◌-◌, ◌⊎◌, List, [], map, true, Result, Ok, Err, OnOk}
 use Rattle.mcap_wire.specs.Layout.{content_limit}
-use Rattle.mcap_wire.specs.Limits.{chunk_size_limit}
 use Rattle.mcap_model.specs.declared.options.FileOptions.{FileOptions}
 use Rattle.rec_data.specs.declared.owned.Rec.{Rec}
 use Rattle.mcap_io.specs.Outside.{SourceState, LiveState}
@@ -12,7 +11,7 @@ use Rattle.mcap_model.specs.Places.{Each}
 use Rattle.mcap_model.specs.Tops.{flat}
 use Rattle.mcap_model.specs.File.{front}
 use Rattle.record_cache.specs.KeptRecords.{IsKept}
-use Rattle.chunk_writer.specs.Limits.{Holds}
+use Rattle.chunk_writer.specs.Limits.{ChunkSizeFits, Holds}
 use Rattle.chunk_writer.specs.Stops.{numbers, Cause, Ends}
 use Rattle.feed_lane.specs.declared.report.FeedReport.{FeedReport}
 use Rattle.feed_lane.specs.Pass.{PassState}
@@ -92,9 +91,8 @@ pub record Recorded (options : RecordOptions) (before now : Sides) (r : Report) 
 
 -- ---- recordings are read back
 
--- The profile is UTF-8, and so short that a reader takes the Header, which has 17 bytes besides; a chunk, where there are
--- any, is closed at 64 MiB or sooner.
+-- The profile is UTF-8, and so short that a reader takes the Header, which has 17 bytes besides; and the size of chunks fits.
 pub record AreReadable (options : FileOptions) : Type 0 where
   pub profile : IsUtf8 options.profile
   pub short : length options.profile ≤ content_limit - 17
-  pub size : (n : ℕ) → options.chunk ≡ Some n → (1 ≤ n) × (n ≤ chunk_size_limit)
+  pub size : ChunkSizeFits options.chunk

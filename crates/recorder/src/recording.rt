@@ -1,21 +1,21 @@
 //! Recording feeds onto a tape, and into one store.
-ghost use Rattle.std.specs.Prelude.{◌≡◌, ◌≤◌, ℕ, List, [], length, map, vec_len, vec_capacity, None, Some, IfOk};
+ghost use Rattle.std.specs.Prelude.{◌≡◌, ◌≤◌, List, [], length, map, vec_len, vec_capacity, None, Some, IfOk};
 ghost use Rattle.std.specs.List.{AllZip};
 ghost use Rattle.mcap_wire.specs.Layout.{content_limit};
-ghost use Rattle.mcap_wire.specs.Limits.{chunk_size_limit};
 ghost use Rattle.mcap_wire.specs.RecordingLimits.{buffer_limit};
 ghost use Rattle.rec_data.specs.declared.owned.Rec.{Rec};
 ghost use Rattle.mcap_model.specs.declared.ends.Stop.{Stop as Why};
 ghost use Rattle.mcap_model.specs.declared.ends.End.{End as Last};
 ghost use Rattle.mcap_model.specs.declared.ends.End.TheVariants.{Stopped};
 ghost use Rattle.mcap_model.specs.Places.{Each};
+ghost use Rattle.chunk_writer.specs.Limits.{ChunkSizeFits};
 ghost use Rattle.chunk_writer.specs.declared.phase.Phase.TheVariants as phases;
 ghost use Rattle.record_core.specs.Desk.{IsCause};
 ghost use Rattle.feed_lane.specs.PassCalls.{no_calls};
 ghost use Rattle.feed_lane.specs.Steps.{ListsMessages};
 ghost use Rattle.buffer_swap.specs.Calls.{first_limit, IsNewTurn, DrainIsOver};
 ghost use Rattle.recorder.specs.Writing.{empty_buffer, seen_tape};
-ghost use Rattle.recorder.specs.Lanes.{IsFreshControl, AreReady, LanesRan};
+ghost use Rattle.recorder.specs.Lanes.{IsFreshControl, AreReady, LanesRan, AreMessagesListed};
 ghost use Rattle.recorder.specs.Onto.{TapeIsWritten, IsAll, IsReported, tape_sides, RecordedOnto};
 ghost use Rattle.recorder.specs.Recorded.{sides, Recorded};
 
@@ -388,7 +388,7 @@ pub fn record_onto<
         → RecordedOnto (seen_tape T.grows T.ends T.limit_met T.phase T.numbers T.failures) options.now.limit
         options.now.lossless (tape_sides (map S.state feeds.items) tape)
         (tape_sides (map S.state result.feeds.items) result.tape) r }
-    ensures listed { (r : _) → result.report ≡ Some r → Each (λ f. ListsMessages f listed) r.feeds.items }
+    ensures listed { AreMessagesListed result.report listed }
 {
     let Room {
         mut turn,
@@ -440,7 +440,7 @@ pub fn record<
 ) -> Recording<S, L>
     requires some { 1 ≤ options.now.limit }
     requires small { options.now.limit ≤ buffer_limit }
-    requires size { (n : ℕ) → options.now.file.chunk ≡ Some n → (1 ≤ n) × (n ≤ chunk_size_limit) }
+    requires size { ChunkSizeFits options.now.file.chunk }
     requires profile { length options.now.file.profile ≤ content_limit }
     requires feeds { (1 ≤ vec_len feeds) × (vec_len feeds ≤ 64) }
     ensures refused { result.report ≡ None → (result.feeds.items ≡ feeds.items) × (result.live ≡ live) }
@@ -448,7 +448,7 @@ pub fn record<
     ensures recorded { (r : _) → result.report ≡ Some r
         → Recorded options.now (sides (map S.state feeds.items) (L.state live))
         (sides (map S.state result.feeds.items) (L.state result.live)) r }
-    ensures listed { (r : _) → result.report ≡ Some r → Each (λ f. ListsMessages f listed) r.feeds.items }
+    ensures listed { AreMessagesListed result.report listed }
 {
     let Room {
         mut turn,

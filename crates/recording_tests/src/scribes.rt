@@ -1,7 +1,8 @@
 //! Files that are written record by record, the entries of their blocks, and the limits.
-ghost use Rattle.std.specs.Prelude.{◌≡◌, ◌≤◌, ℕ, Some};
+ghost use Rattle.std.specs.Prelude.{◌≡◌, ◌≤◌, Some};
 ghost use Rattle.mcap_wire.specs.Limits.{chunk_size_limit};
 ghost use Rattle.rec_data.specs.OwnedReading.{LengthsFit};
+ghost use Rattle.chunk_writer.specs.Limits.{ChunkSizeFits};
 
 use crate::same::{holds, holds_at};
 use chunk_writer::{Entry, Phase, Scribe, keep_limit};
@@ -106,7 +107,7 @@ fn write_all(
 
 // Begins a file without a profile.
 fn open(alloc: Global, chunk: Option<u64>) -> Result<Scribe<MemoryLive>, Fail>
-    requires { (n : ℕ) → chunk ≡ Some n → (1 ≤ n) × (n ≤ chunk_size_limit) }
+    requires { ChunkSizeFits chunk }
 {
     let options = FileOptions {
         profile: Text::copied(alloc, "")?,
@@ -120,7 +121,7 @@ fn open(alloc: Global, chunk: Option<u64>) -> Result<Scribe<MemoryLive>, Fail>
 
 // Writes a file of the records.
 fn write(alloc: Global, chunk: Option<u64>, records: &[&[u8]]) -> Result<Outcome, Fail>
-    requires { (n : ℕ) → chunk ≡ Some n → (1 ≤ n) × (n ≤ chunk_size_limit) }
+    requires { ChunkSizeFits chunk }
 {
     let mut scribe = open(alloc, chunk)?;
     let mut entries = Vec::new(alloc);

@@ -98,6 +98,10 @@ module _ {X : Type 0} (one two three : Board X) (a b : List (Entry X)) (first : 
 
 -- ---- a tape that publishes
 
+-- there are chunks, and each is closed at 64 MiB or sooner
+abbrev pub IsChunked : Option ℕ → Type 0
+IsChunked chunk = (size : ℕ) × (chunk ≡ Some size) × (1 ≤ size) × (size ≤ chunk_size_limit)
+
 -- A scribe and the directory into which its entries are published.
 pub record Publishing (L X : Type 0) : Type 0 where
   pub scribe : Scribe L

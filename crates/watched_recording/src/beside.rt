@@ -1,8 +1,7 @@
 //! The lanes and the writer of a recording, beside those who read its blocks.
-ghost use Rattle.std.specs.Prelude.{◌≡◌, ◌≤◌, ℕ, [], length, map, vec_len, vec_capacity, Some, IfSome};
+ghost use Rattle.std.specs.Prelude.{◌≡◌, ◌≤◌, [], length, map, vec_len, vec_capacity, Some, IfSome};
 ghost use Rattle.std.specs.List.{AllZip};
 ghost use Rattle.mcap_wire.specs.Layout.{content_limit};
-ghost use Rattle.mcap_wire.specs.Limits.{chunk_size_limit};
 ghost use Rattle.mcap_model.specs.declared.ends.End.{End as Last};
 ghost use Rattle.mcap_model.specs.Places.{Each};
 ghost use Rattle.live_directory.specs.Published.{end_of};
@@ -11,6 +10,7 @@ ghost use Rattle.feed_lane.specs.Steps.{ListsMessages};
 ghost use Rattle.recorder.specs.Lanes.{AreReady};
 ghost use Rattle.recorder.specs.Recorded.{sides};
 ghost use Rattle.watched_recording.specs.WatchedSteps.{RecordedBeside};
+ghost use Rattle.watched_recording.specs.Publishing.{IsChunked};
 
 use crate::publishing::{PublishingTape, Sealed};
 use chunk_writer::Scribe;
@@ -53,7 +53,7 @@ pub(crate) fn write_beside<
     tried: &AtomicBool,
     listed: bool,
 ) -> Wrote<S, L, L::Extent, J>
-    requires chunked { (size : ℕ) × (options.now.file.chunk ≡ Some size) × (1 ≤ size) × (size ≤ chunk_size_limit) }
+    requires chunked { IsChunked options.now.file.chunk }
     requires profile { length options.now.file.profile ≤ content_limit }
     requires few { vec_len feeds ≤ 64 }
     requires ready { AreReady ready.lanes.control.seat.me.0 ready.drain.seat.me.0 ready.spare }

@@ -1,7 +1,6 @@
 //! A tape that publishes the blocks that it writes.
-ghost use Rattle.std.specs.Prelude.{◌≡◌, ◌≤◌, ℕ, List, ◌++◌, length, true, false, None, Some, [], vec_capacity, IfOk, IfErr, IfSome};
+ghost use Rattle.std.specs.Prelude.{◌≡◌, ◌≤◌, List, ◌++◌, length, true, false, None, Some, [], vec_capacity, IfOk, IfErr, IfSome};
 ghost use Rattle.mcap_wire.specs.Layout.{content_limit};
-ghost use Rattle.mcap_wire.specs.Limits.{chunk_size_limit};
 ghost use Rattle.rec_data.specs.declared.owned.Rec.{Rec};
 ghost use Rattle.mcap_model.specs.Tops.{Top};
 ghost use Rattle.live_entry.specs.Entries.{EntriesFollow};
@@ -10,7 +9,7 @@ ghost use Rattle.live_directory.specs.Writing.{empty_directory};
 ghost use Rattle.chunk_writer.specs.declared.phase.Phase.TheVariants as phases;
 ghost use Rattle.chunk_writer.specs.Stops.{numbers, StopsAt, StopCause};
 ghost use Rattle.chunk_writer.specs.Scribes.{WritesHistory, store_of, phase_of};
-ghost use Rattle.watched_recording.specs.Publishing.{KnowsLack, GivesTo, IsNewPublishing, entries_held, publishing};
+ghost use Rattle.watched_recording.specs.Publishing.{KnowsLack, GivesTo, IsNewPublishing, entries_held, publishing, IsChunked};
 
 use chunk_writer::{Finished, Phase, Scribe, Taken, Tape, Written};
 use live_directory::{Directory, Naming, Note};
@@ -69,7 +68,7 @@ impl<'d, L: LiveStore, J: Naming, R: Wait> PublishingTape<'d, L, J, R> {
         directory: &'d mut Directory<L::Extent, J>,
         room: Vec<Entry<L::Extent>>,
     ) -> Result<PublishingTape<'d, L, J, R>, (L, Stop)>
-        requires chunked { (size : ℕ) × (options.now.chunk ≡ Some size) × (1 ≤ size) × (size ≤ chunk_size_limit) }
+        requires chunked { IsChunked options.now.chunk }
         requires profile { length options.now.profile ≤ content_limit }
         requires empty { directory.old ≡ empty_directory }
         requires room { (room.items ≡ []) × (1 ≤ vec_capacity room) }

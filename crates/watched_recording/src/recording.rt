@@ -1,19 +1,20 @@
 //! Recording feeds into a store while watchers replay what is written.
-ghost use Rattle.std.specs.Prelude.{◌≡◌, ◌≤◌, ℕ, [], length, map, vec_len, vec_capacity, None, Some, true, IfOk, IfSome};
+ghost use Rattle.std.specs.Prelude.{◌≡◌, ◌≤◌, [], length, map, vec_len, vec_capacity, None, Some, true, IfOk, IfSome};
 ghost use Rattle.std.specs.List.{AllZip};
 ghost use Rattle.mcap_wire.specs.Layout.{content_limit};
-ghost use Rattle.mcap_wire.specs.Limits.{chunk_size_limit};
 ghost use Rattle.mcap_wire.specs.RecordingLimits.{buffer_limit};
 ghost use Rattle.mcap_model.specs.declared.ends.End.{End as Last};
 ghost use Rattle.mcap_model.specs.Places.{Each};
+ghost use Rattle.chunk_writer.specs.Limits.{ChunkSizeFits};
 ghost use Rattle.feed_lane.specs.Steps.{ListsMessages};
 ghost use Rattle.feed_lane.specs.Lanes.{InStep};
 ghost use Rattle.live_directory.specs.Published.{end_of};
 ghost use Rattle.live_directory.specs.ReaderSteps.{AreUnread};
 ghost use Rattle.live_directory.specs.Writing.{empty_directory};
-ghost use Rattle.recorder.specs.Lanes.{AreReady};
+ghost use Rattle.recorder.specs.Lanes.{AreReady, AreMessagesListed};
 ghost use Rattle.recorder.specs.Recorded.{sides};
 ghost use Rattle.watched_recording.specs.WatchedSteps.{SeatRuns, RecordedBeside, RecordedWatched};
+ghost use Rattle.watched_recording.specs.Publishing.{IsChunked};
 
 use crate::beside::{Wrote, write_beside};
 use crate::publishing::last_room;
@@ -143,7 +144,7 @@ fn record_beside<
     room: WatchRoom<L::Extent, J, L::View, K>,
     listed: bool,
 ) -> WatchedRecording<S, L, K>
-    requires chunked { (size : ℕ) × (options.now.file.chunk ≡ Some size) × (1 ≤ size) × (size ≤ chunk_size_limit) }
+    requires chunked { IsChunked options.now.file.chunk }
     requires profile { length options.now.file.profile ≤ content_limit }
     requires few { vec_len feeds ≤ 64 }
     requires ready { AreReady ready.lanes.control.seat.me.0 ready.drain.seat.me.0 ready.spare }
@@ -168,7 +169,7 @@ fn record_beside<
         (sides (map S.state result.feeds.items) (L.state result.live)) r
         (record
         { handed = map K.state watchers.items; sinks = map K.state result.watchers.items; views = map (λ v. L.View.failures v) result.views.items; reports = result.watches.items; sealed = result.sealed }) }
-    ensures listed { (r : _) → result.report ≡ Some r → Each (λ f. ListsMessages f listed) r.feeds.items }
+    ensures listed { AreMessagesListed result.report listed }
 {
     let WatchRoom { seats, left, last } = room;
     let mut live = live;
@@ -180,8 +181,7 @@ fn record_beside<
             ensures { InStep (SeatRuns (λ e. L.Extent.tells e)) seats.items result.items }
         { run_seats(rt, alloc, seats, &tried) },
         || -> (Report, Vec<S>, L, Option<Note<L::Extent, J>>)
-            requires chunked { (size : ℕ) × (options.now.file.chunk ≡ Some size) × (1 ≤ size)
-                × (size ≤ chunk_size_limit) }
+            requires chunked { IsChunked options.now.file.chunk }
             requires profile { length options.now.file.profile ≤ content_limit }
             requires few { vec_len feeds ≤ 64 }
             requires ready { AreReady ready.lanes.control.seat.me.0 ready.drain.seat.me.0 ready.spare }
@@ -248,7 +248,7 @@ fn record_over<
 ) -> WatchedRecording<S, L, K>
     requires some { 1 ≤ options.now.limit }
     requires small { options.now.limit ≤ buffer_limit }
-    requires chunked { (size : ℕ) × (options.now.file.chunk ≡ Some size) × (1 ≤ size) × (size ≤ chunk_size_limit) }
+    requires chunked { IsChunked options.now.file.chunk }
     requires profile { length options.now.file.profile ≤ content_limit }
     requires feeds { (1 ≤ vec_len feeds) × (vec_len feeds ≤ 64) }
     requires empty { directory.old ≡ empty_directory }
@@ -263,7 +263,7 @@ fn record_over<
         (sides (map S.state result.feeds.items) (L.state result.live)) r
         (record
         { handed = map K.state watchers.items; sinks = map K.state result.watchers.items; views = map (λ v. L.View.failures v) result.views.items; reports = result.watches.items; sealed = result.sealed }) }
-    ensures listed { (r : _) → result.report ≡ Some r → Each (λ f. ListsMessages f listed) r.feeds.items }
+    ensures listed { AreMessagesListed result.report listed }
 {
     let watched = match watch_room(alloc, watchers.len()) {
         Ok(room) => room,
@@ -317,7 +317,7 @@ fn record_as<
     requires book { opened.seen.book ≡ J.book }
     requires some { 1 ≤ options.now.limit }
     requires small { options.now.limit ≤ buffer_limit }
-    requires chunked { (size : ℕ) × (options.now.file.chunk ≡ Some size) × (1 ≤ size) × (size ≤ chunk_size_limit) }
+    requires chunked { IsChunked options.now.file.chunk }
     requires profile { length options.now.file.profile ≤ content_limit }
     requires feeds { (1 ≤ vec_len feeds) × (vec_len feeds ≤ 64) }
     requires watchers { (watchers.items ≡ [] → ⊥) × (vec_len watchers ≤ 16) }
@@ -330,7 +330,7 @@ fn record_as<
         (sides (map S.state result.feeds.items) (L.state result.live)) r
         (record
         { handed = map K.state watchers.items; sinks = map K.state result.watchers.items; views = map (λ v. L.View.failures v) result.views.items; reports = result.watches.items; sealed = result.sealed }) }
-    ensures listed { (r : _) → result.report ≡ Some r → Each (λ f. ListsMessages f listed) r.feeds.items }
+    ensures listed { AreMessagesListed result.report listed }
 {
     match open_directory::<L::Extent, J, R>(alloc, rt, opened, watchers.len() as u32) {
         Ok((directory, readers)) => {
@@ -376,7 +376,7 @@ pub fn record_watched<
 ) -> WatchedRecording<S, L, K>
     requires some { 1 ≤ options.now.limit }
     requires small { options.now.limit ≤ buffer_limit }
-    requires size { (n : ℕ) → options.now.file.chunk ≡ Some n → (1 ≤ n) × (n ≤ chunk_size_limit) }
+    requires size { ChunkSizeFits options.now.file.chunk }
     requires profile { length options.now.file.profile ≤ content_limit }
     requires feeds { (1 ≤ vec_len feeds) × (vec_len feeds ≤ 64) }
     requires watchers { vec_len watchers ≤ 16 }
@@ -390,7 +390,7 @@ pub fn record_watched<
         (sides (map S.state result.feeds.items) (L.state result.live)) r
         (record
         { handed = map K.state watchers.items; sinks = map K.state result.watchers.items; views = map (λ v. L.View.failures v) result.views.items; reports = result.watches.items; sealed = result.sealed }) }
-    ensures listed { (r : _) → result.report ≡ Some r → Each (λ f. ListsMessages f listed) r.feeds.items }
+    ensures listed { AreMessagesListed result.report listed }
 {
     if watchers.is_empty() {
         return alone(
