@@ -44,6 +44,9 @@ pub channel_len : (id : ℕ) (f : ChannelFields) (a b : List ℕ) (n : ℕ) → 
 channel_len id f a b n p q r =
     omega (arith, length-framed 4 (channel_text id f), length-channel_text id f, ap length p, ap length q, r)
 
+pub extra_len : (op : ℕ) (content a : List ℕ) → a ≡ content → 9 + length a ≡ length (framed op content)
+extra_len op content a p = omega (arith, length-framed op content, ap length p)
+
 pub message_len : (channel_id : ℕ) (m : MessageFields) (a : List ℕ) → a ≡ m.payload → 31 + length a ≡ length (framed 5 (message_text channel_id m))
 message_len channel_id m a p =
     omega (arith, length-framed 5 (message_text channel_id m), length-message_text channel_id m, ap length p)

@@ -5,8 +5,8 @@ use Rattle.mcap_wire.specs.declared.faults.Memory.{Memory}
 use Rattle.mcap_wire.specs.Layout.{framed}
 use Rattle.mcap_wire.specs.Maps.{pair_texts}
 use Rattle.rec_data.specs.declared.owned.Rec.{Rec}
-use Rattle.rec_data.specs.declared.owned.Rec.TheVariants.{Schema, Channel, Message}
-use Rattle.rec_data.specs.Owned.{ShowsRec}
+use Rattle.rec_data.specs.declared.owned.Rec.TheVariants.{Schema, Channel, Message, Extra}
+use Rattle.rec_data.specs.Owned.{IsExtraContent, ShowsRec}
 
 -- its lengths fit in front of what they count
 abbrev pub LengthsFit : Rec → Type 0
@@ -15,6 +15,14 @@ LengthsFit (Schema id schema) =
 LengthsFit (Channel id schema topic encoding metadata) =
     (length topic < 2 ^ 32) × (length encoding < 2 ^ 32) × (length (pair_texts metadata) < 2 ^ 32)
 LengthsFit (Message channel_id sequence log_time publish_time payload) = Unit {0}
+LengthsFit (Extra op content) = Unit {0}
+
+-- where it is an extra its content meets its layout
+abbrev pub ExtraMeets : Rec → Type 0
+ExtraMeets (Schema id schema) = Unit {0}
+ExtraMeets (Channel id schema topic encoding metadata) = Unit {0}
+ExtraMeets (Message channel_id sequence log_time publish_time payload) = Unit {0}
+ExtraMeets (Extra op content) = IsExtraContent op content
 
 -- what a content of that kind shows, or that it shows nothing, or that memory lacked
 abbrev pub ContentRead : ℕ → List ℕ → Result (Option Rec) Memory → Type 0

@@ -30,6 +30,10 @@ metadata_opcode = 12
 abbrev pub data_end_opcode : ℕ
 data_end_opcode = 15
 
+-- the first of the opcodes that applications give to records of their own
+abbrev pub application_opcode : ℕ
+application_opcode = 128
+
 -- ---- Header
 
 abbrev pub header_kinds : List Kind

@@ -19,7 +19,9 @@ pub use footer::Footer;
 pub use header::Header;
 pub use message::Message;
 pub use metadata::Metadata;
-pub use opcodes::{ATTACHMENT, CHANNEL, DATA_END, FOOTER, HEADER, MESSAGE, METADATA, SCHEMA};
+pub use opcodes::{
+    APPLICATION, ATTACHMENT, CHANNEL, DATA_END, FOOTER, HEADER, MESSAGE, METADATA, SCHEMA,
+};
 pub use owned::Rec;
 pub use schema::{Schema, SchemaDef};
 pub use section::DataEnd;

@@ -23,3 +23,6 @@ pub const METADATA: u8 = 0x0c;
 
 /// The opcode of a Data End.
 pub const DATA_END: u8 = 0x0f;
+
+/// The first of the opcodes that applications give to records of their own.
+pub const APPLICATION: u8 = 0x80;

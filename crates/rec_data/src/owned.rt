@@ -1,18 +1,25 @@
-//! Records that own what they hold: Schema, Channel and Message.
-ghost use Rattle.std.specs.Prelude.{◌≡◌, ◌≤◌, ◌++◌, length, vec_capacity, OnOk, OnErr};
+//! Records that own what they hold: Schema, Channel, Message, and extras.
+ghost use Rattle.std.specs.Prelude.{◌≡◌, ◌≤◌, ◌+◌, ◌++◌, length, true, false, vec_capacity, OnOk, OnErr};
+ghost use Rattle.mcap_wire.specs.Layout.{framed};
 ghost use Rattle.mcap_wire.specs.Writing.{LacksRoom};
-ghost use Rattle.rec_data.specs.Owned.{rec_bytes};
+ghost use Rattle.rec_data.specs.Owned.{rec_bytes, IsExtraContent};
 ghost use Rattle.rec_data.specs.OwnedReading.{LengthsFit, ContentRead, Unframed, FramedRead};
 ghost use Rattle.rec_data.specs.Records.{schema_opcode, channel_opcode, message_opcode};
 
+use crate::attachment::Attachment;
 use crate::channel::Channel;
 use crate::message::Message;
-use crate::opcodes::{CHANNEL, MESSAGE, SCHEMA};
+use crate::metadata::Metadata;
+use crate::opcodes::{APPLICATION, ATTACHMENT, CHANNEL, MESSAGE, METADATA, SCHEMA};
 use crate::schema::{Schema, SchemaDef};
-use mcap_wire::{Bytes, HEAD_LENGTH, Head, Memory, PairList, PairsRef, Text, take_head};
+use mcap_wire::{
+    Bytes, HEAD_LENGTH, Head, Memory, PairList, PairsRef, Text, add_bytes, add_head, make_room,
+    take_head,
+};
 use std::alloc::Global;
 
-/// A record of the data section that owns what it holds (MCAP specification, "Schema", "Channel", "Message").
+/// A record of the data section that owns what it holds (MCAP specification, "Schema", "Channel", "Message"); or an extra, which is
+/// an Attachment, a Metadata or a record of an application (opcodes from 0x80 on), by its content.
 #[derive(Debug, Drop)]
 pub enum Rec {
     Schema {
@@ -32,6 +39,10 @@ pub enum Rec {
         log_time: u64,
         publish_time: u64,
         payload: Bytes,
+    },
+    Extra {
+        op: u8,
+        content: Bytes,
     },
 }
 
@@ -87,6 +98,7 @@ impl Rec {
                 };
                 return record.frame(out);
             }
+            Rec::Extra { op, content } => return frame_content(out, *op, content.as_slice()),
         }
     }
 
@@ -110,11 +122,13 @@ impl Rec {
                 return (25 + texts + PairsRef::of(metadata.as_slice()).byte_len()) as u64;
             }
             Rec::Message { payload, .. } => return 31 + payload.as_slice().len() as u64,
+            Rec::Extra { content, .. } => return 9 + content.as_slice().len() as u64,
         }
     }
 
-    /// Reads a record that the bytes are, no more and no less. Bytes after a Schema's or Channel's fields are dropped. There is
-    /// none exactly where the bytes aren't one framed Schema, Channel or Message whose content meets its layout.
+    /// Reads a record that the bytes are, no more and no less. Bytes after a Schema's or Channel's fields are dropped, those of an
+    /// extra stay. There is none exactly where the bytes aren't one framed Schema, Channel, Message or extra whose content meets
+    /// its layout.
     pub fn from_framed(alloc: Global, bytes: &[u8]) -> Result<Option<Rec>, Memory>
         ensures { FramedRead bytes.now result }
     {
@@ -125,9 +139,22 @@ impl Rec {
             SCHEMA => return schema_of(alloc, content),
             CHANNEL => return channel_of(alloc, content),
             MESSAGE => return message_of(alloc, content),
-            _ => return Ok(None),
+            _ => return extra_of(alloc, op, content),
         }
     }
+}
+
+// Appends a whole record of that opcode.
+fn frame_content(out: &mut Vec<u8>, op: u8, content: &[u8]) -> Result<(), Memory>
+    ensures ok { OnOk result (out.new.items ≡ out.old.items ++ framed op content.now) }
+    ensures err { OnErr result (out.new.items ≡ out.old.items) }
+    ensures full { OnErr result (LacksRoom out.old (9 + length content.now)) }
+    ensures capacity { vec_capacity out.old ≤ vec_capacity out.new }
+{
+    make_room(out, HEAD_LENGTH as usize + content.len())?;
+    add_head(out, op, content.len() as u64);
+    add_bytes(out, content);
+    Ok(())
 }
 
 // The opcode and the content of the one record that the bytes are.
@@ -215,4 +242,38 @@ fn message_of(alloc: Global, content: &[u8]) -> Result<Option<Rec>, Memory>
         publish_time: message.publish_time,
         payload,
     }));
+}
+
+// Whether a record of that opcode with that content is an extra.
+fn is_extra(op: u8, content: &[u8]) -> bool
+    ensures found { result ≡ true → IsExtraContent op content.now }
+    ensures none { result ≡ false → IsExtraContent op content.now → ⊥ }
+{
+    match op {
+        ATTACHMENT => match Attachment::parse(content) {
+            Ok(_) => return true,
+            Err(_) => return false,
+        },
+        METADATA => match Metadata::parse(content) {
+            Ok(_) => return true,
+            Err(_) => return false,
+        },
+        _ => return op >= APPLICATION,
+    }
+}
+
+// The extra that a content is.
+fn extra_of(alloc: Global, op: u8, content: &[u8]) -> Result<Option<Rec>, Memory>
+    requires no_schema { op ≡ schema_opcode → ⊥ }
+    requires no_channel { op ≡ channel_opcode → ⊥ }
+    requires no_message { op ≡ message_opcode → ⊥ }
+    ensures { ContentRead op content.now result }
+{
+    if !is_extra(op, content) {
+        return Ok(None);
+    }
+    let Ok(content) = Bytes::copied(alloc, content) else {
+        return Err(Memory);
+    };
+    return Ok(Some(Rec::Extra { op, content }));
 }

@@ -3,7 +3,7 @@ use Rattle.mcap_wire.specs.Maps.{pair_texts}
 use Rattle.mcap_wire.specs.Writing.{LacksRoom}
 use Rattle.rec_data.specs.declared.owned.Rec.{Rec}
 use Rattle.rec_data.specs.Owned.{rec_bytes, def_fields}
-use Rattle.rec_data.proofs.OwnedLengths.{schema_len, channel_len, message_len}
+use Rattle.rec_data.proofs.OwnedLengths.{schema_len, channel_len, message_len, extra_len}
 use Rattle.rec_data.proofs.owned.Rec.frame.Goals as goal
 
 pub returns-in-Schema-clause-full : goal.returns-in-Schema-clause-full
@@ -39,3 +39,12 @@ returns-in-Message-clause-full c =
 
 pub returns-in-Message-clause-ok : goal.returns-in-Message-clause-ok
 returns-in-Message-clause-ok c = search rules
+
+pub returns-in-Extra-clause-full : goal.returns-in-Extra-clause-full
+returns-in-Extra-clause-full c =
+    let same : 9 + length c.as_slice-in-Extra.result.now ≡ length (rec_bytes c.args.self.now) =
+    let P : Rec → Type 0 = λ r. 9 + length c.as_slice-in-Extra.result.now ≡ length (rec_bytes r) in
+    subst P (sym c.in-Extra.is) (extra_len c.in-Extra.op c.in-Extra.content _ c.as_slice-in-Extra.ensures)
+    in
+    let Q : ℕ → Type 0 = λ n. OnErr c.frame_content.result (LacksRoom c.args.out.now n) in
+    subst Q same c.frame_content.ensures.full

@@ -2,7 +2,7 @@ use Rattle.std.proofs.Common.{◌≡◌, ◌∙◌, ℕ, ◌+◌, List, length, 
 use Rattle.rec_data.specs.declared.owned.Rec.{Rec}
 use Rattle.rec_data.specs.Owned.{rec_bytes, def_fields}
 use Rattle.mcap_wire.specs.Maps.{pair_texts}
-use Rattle.rec_data.proofs.OwnedLengths.{schema_len, channel_len, message_len}
+use Rattle.rec_data.proofs.OwnedLengths.{schema_len, channel_len, message_len, extra_len}
 use Rattle.rec_data.proofs.owned.Rec.framed_len.Goals as goal
 
 pub returns-in-Schema : goal.returns-in-Schema
@@ -20,3 +20,8 @@ pub returns-in-Message : goal.returns-in-Message
 returns-in-Message c =
     let P : Rec → Type 0 = λ r. 31 + length c.as_slice-in-Message.result.now ≡ length (rec_bytes r) in
     subst P (sym c.in-Message.is) (message_len c.in-Message.channel_id (record { sequence = c.in-Message.sequence; log_time = c.in-Message.log_time; publish_time = c.in-Message.publish_time; payload = c.in-Message.payload }) _ c.as_slice-in-Message.ensures)
+
+pub returns-in-Extra : goal.returns-in-Extra
+returns-in-Extra c =
+    let P : Rec → Type 0 = λ r. 9 + length c.as_slice-in-Extra.result.now ≡ length (rec_bytes r) in
+    subst P (sym c.in-Extra.is) (extra_len c.in-Extra.op c.in-Extra.content _ c.as_slice-in-Extra.ensures)
