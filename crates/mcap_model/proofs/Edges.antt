@@ -1,5 +1,5 @@
 -- The front and the end of a file, and its pieces without a chunk size.
-use Rattle.std.proofs.Common.{◌≡◌, ℕ, ◌≤◌, List, [], ◌∷◌, ◌++◌, length, map, None, refl, sym, ap, ◌∙◌, append_assoc, arith}
+use Rattle.std.proofs.Common.{◌≡◌, ℕ, ◌≤◌, List, [], ◌∷◌, ◌++◌, length, map, Option, None, refl, sym, ap, ◌∙◌, append_assoc, arith}
 use Rattle.std.specs.Prelude.{fold, IsUtf8}
 use Rattle.std.proofs.lemmas.List.{append-nil}
 use Rattle.rec_data.specs.declared.owned.Rec.{Rec}
@@ -31,10 +31,10 @@ header_fits profile is short = record {
 }
 
 -- without a chunk size each record is a piece
-pub cuts_alone : (c : Cuts) (history : List Rec) → fold (put_behind None) c history ≡ record { pieces = c.pieces ++ map alone history; waiting = c.waiting }
-cuts_alone c [] = ap (λ (l : List Piece). record { pieces = l; waiting = c.waiting }) (sym (append-nil c.pieces))
-cuts_alone c (r ∷ rs) =
-    cuts_alone (put_behind None c r) rs
+pub cuts_alone : (span : Option ℕ) (c : Cuts) (history : List Rec) → fold (put_behind None span) c history ≡ record { pieces = c.pieces ++ map alone history; waiting = c.waiting }
+cuts_alone span c [] = ap (λ (l : List Piece). record { pieces = l; waiting = c.waiting }) (sym (append-nil c.pieces))
+cuts_alone span c (r ∷ rs) =
+    cuts_alone span (put_behind None span c r) rs
     ∙ ap (λ (l : List Piece). record { pieces = l; waiting = c.waiting }) (append_assoc c.pieces (alone r ∷ []) (map alone rs))
 
 pub ascii : IsUtf8 library

@@ -3,7 +3,7 @@ use Rattle.std.proofs.Common.{ℕ, zero, suc, ◌+◌, ◌≤◌, Bool, true, fa
 use Rattle.std.proofs.lemmas.List.{length-append, length-take, length-drop}
 use Rattle.mcap_wire.proofs.Framing.{length-framed}
 use Rattle.rec_data.specs.declared.owned.Rec.{Rec}
-use Rattle.rec_data.specs.declared.owned.Rec.TheVariants.{Schema, Channel, Message}
+use Rattle.rec_data.specs.declared.owned.Rec.TheVariants.{Schema, Channel, Message, Extra}
 use Rattle.rec_data.specs.Owned.{rec_bytes, rec_opcode, rec_text}
 use Rattle.mcap_model.specs.Tops.{first_top, behind_first, begins_record, first_records, records_in, chunk_records}
 use Rattle.mcap_model.specs.History.{history_bytes}
@@ -39,3 +39,4 @@ logged_few at (r ∷ rs) =
     one_few at (Schema id schema) = omega arith
     one_few at (Channel id schema topic encoding metadata) = omega arith
     one_few at (Message channel sequence log_time publish_time payload) = omega arith
+    one_few at (Extra op content) = omega arith

@@ -3,6 +3,7 @@ pub mod Lists
 pub mod Readings
 pub mod Halting
 pub mod Unpacking
+pub mod Asides
 pub mod ReadBack
 pub mod Histories
 pub mod Edges

@@ -10,7 +10,7 @@ use Rattle.mcap_wire.specs.Arrays.{entry_text, entry_texts}
 use Rattle.mcap_wire.proofs.Numbers.{length-le}
 use Rattle.mcap_wire.specs.Layout.{le}
 use Rattle.rec_data.specs.declared.owned.Rec.{Rec}
-use Rattle.rec_data.specs.declared.owned.Rec.TheVariants.{Schema, Channel, Message}
+use Rattle.rec_data.specs.declared.owned.Rec.TheVariants.{Schema, Channel, Message, Extra}
 use Rattle.rec_data.specs.Owned.{rec_bytes}
 use Rattle.mcap_model.specs.Places.{At, Has, Each}
 use Rattle.mcap_model.specs.Tops.{Top, spelled}
@@ -69,6 +69,7 @@ logged_is at (Message own sequence log_time publish_time payload ∷ rs) zero e 
     })
 logged_is at (Message own sequence log_time publish_time payload ∷ rs) (suc k) e there =
     let r = Message own sequence log_time publish_time payload in later at r rs e (logged_is (at + length (rec_bytes r)) rs k e there)
+logged_is at (Extra op content ∷ rs) k e there = let r = Extra op content in later at r rs e (logged_is (at + length (rec_bytes r)) rs k e there)
 
 abbrev pub logged_as : ℕ → ℕ → ℕ → Logged
 logged_as channel time offset = record { channel = channel; time = time; offset = offset }
@@ -93,12 +94,15 @@ logged_has at (Message own sequence log_time publish_time payload ∷ rs) (suc n
     let r = Message own sequence log_time publish_time payload in
     let more = logged_has (at + length (rec_bytes r)) rs n channel m there in
     offset_more at r rs n channel m.log_time (logged_from at (r ∷ rs)) (suc more.0, more.1)
+logged_has at (Extra op content ∷ rs) (suc n) channel m there =
+    let r = Extra op content in offset_more at r rs n channel m.log_time (logged_from at (r ∷ rs)) (logged_has (at + length (rec_bytes r)) rs n channel m there)
 
 -- the offsets rise
 pub logged_rises : (at : ℕ) (records : List Rec) → AllPairs (λ e f. e.offset < f.offset) (logged_from at records)
 logged_rises at [] = pairs_from (λ e f. e.offset < f.offset) [] (λ i j x y less there other. absurd (at_none i x there))
 logged_rises at (Schema id s ∷ rs) = logged_rises (at + length (rec_bytes (Schema id s))) rs
 logged_rises at (Channel id schema topic encoding metadata ∷ rs) = logged_rises (at + length (rec_bytes (Channel id schema topic encoding metadata))) rs
+logged_rises at (Extra op content ∷ rs) = logged_rises (at + length (rec_bytes (Extra op content))) rs
 logged_rises at (Message own sequence log_time publish_time payload ∷ rs) =
     let r = Message own sequence log_time publish_time payload in
     pairs_cons (λ e f. e.offset < f.offset) (logged_as own log_time at) (logged_from (at + length (rec_bytes r)) rs)

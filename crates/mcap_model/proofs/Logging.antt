@@ -7,7 +7,7 @@ use Rattle.mcap_wire.proofs.ArrayLemmas.{length-entry_texts}
 use Rattle.mcap_wire.proofs.Numbers.{length-le}
 use Rattle.mcap_wire.proofs.Contents.{row_shown}
 use Rattle.rec_data.specs.declared.owned.Rec.{Rec}
-use Rattle.rec_data.specs.declared.owned.Rec.TheVariants.{Schema, Channel, Message}
+use Rattle.rec_data.specs.declared.owned.Rec.TheVariants.{Schema, Channel, Message, Extra}
 use Rattle.rec_data.specs.Owned.{rec_text, rec_bytes}
 use Rattle.rec_index.specs.Records.{message_index_kinds, message_index_values}
 use Rattle.mcap_model.specs.Places.{Each}
@@ -58,6 +58,9 @@ logs_fit at end (Message channel sequence log_time publish_time payload ∷ rs) 
     each_cons (LogFits end) (record { channel = channel; time = log_time; offset = at }) (logged_from (at + length (rec_bytes r)) rs)
     (record { channel = fit.0; time = fit.1.1.0; before = omega (arith, room, size, length-top (rec_top r)) })
     (logs_fit (at + length (rec_bytes r)) end rs (λ n x there. back (suc n) x there) (omega (arith, room, size)))
+logs_fit at end (Extra op content ∷ rs) back room =
+    let r = Extra op content in
+    logs_fit (at + length (rec_bytes r)) end rs (λ n x there. back (suc n) x there) (omega (arith, room, length-append (rec_bytes r) (history_bytes rs)))
 
 -- a message has more bytes than its entry
 length-message : (channel sequence log_time publish_time : ℕ) (payload : List ℕ) → length (rec_text (Message channel sequence log_time publish_time payload)) ≡ 22 + length payload
@@ -72,6 +75,8 @@ logs_few at (Channel id schema topic encoding metadata ∷ rs) =
 logs_few at (Message channel sequence log_time publish_time payload ∷ rs) =
     let r = Message channel sequence log_time publish_time payload in
     omega (arith, logs_few (at + length (rec_bytes r)) rs, length-append (rec_bytes r) (history_bytes rs), length-top (rec_top r), length-message channel sequence log_time publish_time payload)
+logs_few at (Extra op content ∷ rs) =
+    let r = Extra op content in omega (arith, logs_few (at + length (rec_bytes r)) rs, length-append (rec_bytes r) (history_bytes rs))
 
 -- ---- their channels
 

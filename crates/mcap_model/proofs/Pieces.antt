@@ -25,7 +25,7 @@ join_four f p e d t = simp (append_assoc, append-nil) refl
 pub pieces_make_files : PiecesMakeFiles
 unfolding file_of
 pieces_make_files options extras history =
-    let ps = pieces_of options.chunk history in
+    let ps = pieces_of options.chunk options.span history in
     let back = back_of options extras history in
     let head = front options.profile in
     let tail = tail_by options.chunk (noted options extras history) (length (section options extras history ++ data_end)) in

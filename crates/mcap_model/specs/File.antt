@@ -6,6 +6,7 @@ use Rattle.rec_data.specs.declared.owned.Rec.{Rec}
 use Rattle.mcap_model.specs.declared.options.FileOptions.{FileOptions}
 use Rattle.mcap_model.specs.Tops.{Top, top_bytes, spelled}
 use Rattle.mcap_model.specs.Blocks.{Piece, block, alone, pieces_of, piece_bytes, pieces_bytes}
+use Rattle.mcap_model.specs.History.{rec_top, body_of}
 use Rattle.mcap_model.specs.Summary.{Noted, footer_of_offsets, summary_text}
 
 abbrev pub library : List ℕ
@@ -29,6 +30,15 @@ abbrev pub blocks_from : ℕ → List Piece → List (ℕ × List Rec)
 blocks_from at [] = []
 blocks_from at (p ∷ ps) = block_at at p ++ blocks_from (at + length (piece_bytes p)) ps
 
+-- the records at top level among pieces, with their offsets
+abbrev pub alone_at : ℕ → Piece → List (ℕ × Top)
+alone_at at (block records) = []
+alone_at at (alone r) = (at, rec_top r) ∷ []
+
+abbrev pub alone_from : ℕ → List Piece → List (ℕ × Top)
+alone_from at [] = []
+alone_from at (p ∷ ps) = alone_at at p ++ alone_from (at + length (piece_bytes p)) ps
+
 -- records with their offsets, where the first one stands at that offset
 abbrev pub extras_from : ℕ → List Top → List (ℕ × Top)
 extras_from at [] = []
@@ -37,15 +47,16 @@ extras_from at (t ∷ ts) = (at, t) ∷ extras_from (at + length (top_bytes t)) 
 -- all in front of the Data End
 abbrev pub section : FileOptions → List Top → List Rec → List ℕ
 section options extras history =
-    front options.profile ++ (pieces_bytes (pieces_of options.chunk history) ++ spelled extras)
+    front options.profile ++ (pieces_bytes (pieces_of options.chunk options.span history) ++ spelled extras)
 
--- what the summary is made of
+-- what the summary is made of; of the records at top level it takes the Attachments and the Metadata
 abbrev pub noted : FileOptions → List Top → List Rec → Noted
 noted options extras history = record {
-  records = history;
-  blocks = blocks_from (length (front options.profile)) (pieces_of options.chunk history);
-  extras =
-      extras_from (length (front options.profile) + length (pieces_bytes (pieces_of options.chunk history))) extras;
+  records = body_of history;
+  blocks = blocks_from (length (front options.profile)) (pieces_of options.chunk options.span history);
+  extras = alone_from (length (front options.profile)) (pieces_of options.chunk options.span history)
+      ++ extras_from
+      (length (front options.profile) + length (pieces_bytes (pieces_of options.chunk options.span history))) extras;
 }
 
 -- what stands behind the Data End: without a chunk size a Footer that names no summary
@@ -68,7 +79,8 @@ until_block (suc n) (alone r ∷ ps) = alone r ∷ until_block (suc n) ps
 
 -- the file of this history up to the end of its n-th block; the magic and the Header where n is 0
 abbrev pub front_of : FileOptions → List Rec → ℕ → List ℕ
-front_of options history n = front options.profile ++ pieces_bytes (until_block n (pieces_of options.chunk history))
+front_of options history n =
+    front options.profile ++ pieces_bytes (until_block n (pieces_of options.chunk options.span history))
 
 -- a first part of the whole
 abbrev pub IsPrefix : List ℕ → List ℕ → Type 0

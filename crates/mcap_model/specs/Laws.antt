@@ -1,5 +1,5 @@
 -- What holds of the definitions.
-use Rattle.std.specs.Prelude.{◌≡◌, ◌⊎◌, ◌↔◌, ℕ, suc, ◌^◌, ◌<◌, List, [], ◌∷◌, ◌++◌, length, Bool, false, ◌≤◌, take, filter, map, Option, Some, IsUtf8}
+use Rattle.std.specs.Prelude.{◌≡◌, ◌⊎◌, ◌↔◌, ℕ, suc, ◌^◌, ◌<◌, List, [], ◌∷◌, ◌++◌, length, Bool, true, false, ◌≤◌, take, filter, map, Option, Some, IsUtf8}
 use Rattle.std.specs.List.{AllZip}
 use Rattle.mcap_wire.specs.Layout.{content_limit}
 use Rattle.mcap_wire.specs.Limits.{chunk_size_limit, file_limit}
@@ -16,9 +16,9 @@ use Rattle.mcap_model.specs.Rules.{V1, HasDataEnd, V6, V8, Agrees}
 use Rattle.mcap_model.specs.Kept.{Limits, Good, Kept, Halt, HaltsThere, Halts, reading_limits, at_end, grammar}
 use Rattle.mcap_model.specs.Readings.{SameHalt}
 use Rattle.mcap_model.specs.Scan.{Seen, Scan, InRange, Replay}
-use Rattle.mcap_model.specs.History.{schema_of, message_of, is_message, Numbered, history_bytes, rec_top, without_repeats}
-use Rattle.mcap_model.specs.Histories.{flat_history, Ripens, AreBlocks, pieces_by, IdsAgree}
-use Rattle.mcap_model.specs.Blocks.{Piece, block, alone, chunk_content, entries_for, index_content, logged_channels, reaches, blocks_in, pieces_of}
+use Rattle.mcap_model.specs.History.{schema_of, message_of, is_message, is_inner, body_of, Numbered, history_bytes, rec_top, extras_in, without_repeats}
+use Rattle.mcap_model.specs.Histories.{flat_history, Ripens, AreBlocks, StandInTurn, pieces_by, IdsAgree}
+use Rattle.mcap_model.specs.Blocks.{Piece, block, alone, chunk_content, entries_for, index_content, logged_channels, is_ripe, blocks_in, pieces_of}
 use Rattle.mcap_model.specs.Summary.{messages_on, attachment_index_content, metadata_index_content}
 use Rattle.mcap_model.specs.AttachmentIndexes.{indexed_attachment}
 use Rattle.mcap_model.specs.declared.ends.Stop.{Stop}
@@ -94,10 +94,14 @@ IsNumberedRec r = (id : ℕ) (f : SchemaFields) → r ≡ schema_of id f → id 
 abbrev pub chunk_top : List Rec → Top
 chunk_top history = record { op = chunk_opcode; content = chunk_content history }
 
--- the Chunk that is written of records is right, and its records are theirs
+-- the record is no extra
+abbrev pub IsInner : Rec → Type 0
+IsInner r = is_inner r ≡ true
+
+-- the Chunk that is written of records without extras is right, and its records are theirs
 abbrev pub ChunksAreWritten : Type 0
 ChunksAreWritten = (history : List Rec) → Each IsReadBack history → Each (λ r. length (rec_text r) < 2 ^ 64) history
-    → Each IsNumberedRec history → length (history_bytes history) < 2 ^ 64
+    → Each IsNumberedRec history → Each IsInner history → length (history_bytes history) < 2 ^ 64
     → (inner_tops (chunk_top history) ≡ map rec_top history) × V6 (chunk_top history) × V8 (chunk_top history)
 
 -- a Message Index of a block
@@ -123,16 +127,23 @@ abbrev pub ReplaysAreOne : Type 0
 ReplaysAreOne = (range : Range) (topic : Option (List ℕ)) (messages one other : List Seen)
     → Replay range topic messages one → Replay range topic messages other → one ≡ other
 
--- a history is cut into blocks in one way, which is that of its pieces
+-- a history without its extras is cut into blocks in one way, which is that of its pieces
 abbrev pub BlocksAreOne : Type 0
 BlocksAreOne = (ripe : List Rec → Bool) (history : List Rec) → Ripens ripe
-    → AreBlocks ripe history (blocks_in (pieces_by ripe history))
-    × ((blocks : List (List Rec)) → AreBlocks ripe history blocks → blocks ≡ blocks_in (pieces_by ripe history))
+    → AreBlocks ripe (body_of history) (blocks_in (pieces_by ripe history))
+    × ((blocks : List (List Rec)) → AreBlocks ripe (body_of history) blocks
+    → blocks ≡ blocks_in (pieces_by ripe history))
 
--- a chunk size makes such blocks
+-- its extras and its blocks stand in the order of their places, an extra at its own and a ripe block at that of its last
+-- record
+abbrev pub PiecesStandInTurn : Type 0
+PiecesStandInTurn = (ripe : List Rec → Bool) (history : List Rec) (place : ℕ) → Ripens ripe
+    → StandInTurn ripe history (pieces_by ripe history) place
+
+-- a chunk size, with a span or none, makes such blocks
 abbrev pub SizesRipen : Type 0
-SizesRipen = (size : ℕ) → 0 < size
-    → Ripens (reaches size) × ((history : List Rec) → pieces_of (Some size) history ≡ pieces_by (reaches size) history)
+SizesRipen = (size : ℕ) (span : Option ℕ) → 0 < size → Ripens (is_ripe size span)
+    × ((history : List Rec) → pieces_of (Some size) span history ≡ pieces_by (is_ripe size span) history)
 
 -- the flat records of a good list meet their layouts, and each agrees with those before it
 abbrev pub GoodListsAgree : Type 0
@@ -150,19 +161,19 @@ GoodListsAreScanned = (limits : Limits) (tops : List Top) → Good limits tops
 abbrev pub EntriesFit : List Rec → Type 0
 EntriesFit records = Each (λ channel. messages_on records channel < 2 ^ 28) (logged_channels records)
 
--- Records and extras of which a file can be written: the ids agree, the extras meet their rules, and each number that
--- the file holds fits its field. Offsets, lengths and counts of messages do where the length of the file does.
+-- Records and extras of which a file can be written: the ids agree, the extras, those among the records too, meet their
+-- rules, and each number that the file holds fits its field. Offsets, lengths and counts of messages do where the length of the file does.
 pub record CanBeWritten (options : FileOptions) (extras : List Top) (history : List Rec) : Type 0 where
   pub profile : IsUtf8 options.profile
   pub profile_fits : length options.profile < 2 ^ 32
   pub records_fit : Each IsReadBack history
   pub numbered : Each IsNumberedRec history
   pub ids_agree : IdsAgree history
-  pub extras_meet : Each IsExtra extras
-  pub entries_fit : Each EntriesFit (blocks_in (pieces_of options.chunk history))
-  pub few_blocks : length (blocks_in (pieces_of options.chunk history)) < 2 ^ 32
-  pub few_attachments : count_of attachment_opcode extras < 2 ^ 32
-  pub few_metadata : count_of metadata_opcode extras < 2 ^ 32
+  pub extras_meet : Each IsExtra (extras_in history ++ extras)
+  pub entries_fit : Each EntriesFit (blocks_in (pieces_of options.chunk options.span history))
+  pub few_blocks : length (blocks_in (pieces_of options.chunk options.span history)) < 2 ^ 32
+  pub few_attachments : count_of attachment_opcode (extras_in history ++ extras) < 2 ^ 32
+  pub few_metadata : count_of metadata_opcode (extras_in history ++ extras) < 2 ^ 32
   pub size_fits : length (file_of options extras history) < 2 ^ 64
 
 -- the content that is written of a piece may be read; a Message Index is shorter than its chunk
@@ -173,7 +184,7 @@ PieceIsShort (block records) = length (chunk_content records) ≤ content_limit
 -- no content up to the Data End, and not the file, is longer than what is read
 pub record CanBeRead (options : FileOptions) (extras : List Top) (history : List Rec) : Type 0 where
   pub header : length (header_text (record { profile = options.profile; library = library })) ≤ content_limit
-  pub pieces : Each PieceIsShort (pieces_of options.chunk history)
+  pub pieces : Each PieceIsShort (pieces_of options.chunk options.span history)
   pub extras_short : Each (λ t. length t.content ≤ content_limit) extras
   pub file : length (file_of options extras history) ≤ file_limit
 
@@ -182,10 +193,10 @@ abbrev pub NumberedIdsAgree : Type 0
 NumberedIdsAgree =
     (history : List Rec) → Each IsReadBack history → Numbered history → IdsAgree history × Each IsNumberedRec history
 
--- so it is without what declares an id again
+-- so it is without what declares an id again, where there are no extras
 abbrev pub RepeatsMayGo : Type 0
-RepeatsMayGo = (history : List Rec) → Each IsReadBack history → Each IsNumberedRec history → IdsAgree history
-    → IdsAgree (without_repeats history) × Each IsReadBack (without_repeats history)
+RepeatsMayGo = (history : List Rec) → Each IsReadBack history → Each IsNumberedRec history → Each IsInner history
+    → IdsAgree history → IdsAgree (without_repeats history) × Each IsReadBack (without_repeats history)
     × Each IsNumberedRec (without_repeats history)
 
 -- bytes decide what is kept of them when they are repaired
@@ -202,8 +213,8 @@ FlawsExcludeValidity = (file : List ℕ) (rule : Rule) (offset : ℕ) → Flaw f
 -- a file is read to its Data End, and its messages are those of the history, in order
 abbrev pub FilesAreScanned : Type 0
 FilesAreScanned = (options : FileOptions) (extras : List Top) (history : List Rec) → IsUtf8 options.profile
-    → Each IsReadBack history → Each IsNumberedRec history → IdsAgree history → Each IsExtra extras
-    → CanBeRead options extras history
+    → Each IsReadBack history → Each IsNumberedRec history → IdsAgree history
+    → Each IsExtra (extras_in history ++ extras) → CanBeRead options extras history
     → (tops : List Top) × (end : ℕ) × Halts reading_limits (file_of options extras history) tops (at_end end)
     × (flat tops ≡ flat_history history)
     × ((messages : List Seen) → Scan tops messages → AllZip HoldsSeen (filter is_message history) messages)
@@ -224,8 +235,8 @@ WholeFilesAreOne = (file : List ℕ) (tops others : List Top) → IsWhole file t
 
 -- in blocks that are cut at a size of at most 64 MiB the entries fit
 abbrev pub SmallBlocksFit : Type 0
-SmallBlocksFit = (size : ℕ) (history : List Rec) → 0 < size → size ≤ chunk_size_limit
-    → Each EntriesFit (blocks_in (pieces_of (Some size) history))
+SmallBlocksFit = (size : ℕ) (span : Option ℕ) (history : List Rec) → 0 < size → size ≤ chunk_size_limit
+    → Each EntriesFit (blocks_in (pieces_of (Some size) span history))
 
 -- Where a file is read to its Data End, what is kept of a first part of it that holds the magic are the records up to
 -- the Data End that are whole there.

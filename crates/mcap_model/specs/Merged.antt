@@ -3,7 +3,7 @@ use Rattle.std.specs.Prelude.{◌≡◌, ◌⊎◌, ℕ, suc, ◌<◌, ◌≤◌
 use Rattle.std.specs.List.{flat_map, AllZip}
 use Rattle.mcap_wire.specs.Maps.{KeysAscend}
 use Rattle.rec_data.specs.declared.owned.Rec.{Rec}
-use Rattle.rec_data.specs.declared.owned.Rec.TheVariants.{Schema, Channel, Message}
+use Rattle.rec_data.specs.declared.owned.Rec.TheVariants.{Schema, Channel, Message, Extra}
 use Rattle.rec_data.specs.declared.schema.SchemaDef.{SchemaDef}
 use Rattle.rec_data.specs.declared.channel.ChannelDef.{ChannelDef}
 use Rattle.rec_data.specs.Owned.{def_fields}
@@ -62,18 +62,21 @@ abbrev pub HasThatSchema : Rec → ℕ → Type 0
 HasThatSchema (Schema id schema) wanted = ⊥
 HasThatSchema (Channel id schema topic encoding metadata) wanted = schema ≡ wanted
 HasThatSchema (Message channel sequence log_time publish_time payload) wanted = ⊥
+HasThatSchema (Extra op content) wanted = ⊥
 
 -- the record is a Message on that channel
 abbrev pub IsOnChannel : Rec → ℕ → Type 0
 IsOnChannel (Schema id schema) wanted = ⊥
 IsOnChannel (Channel id schema topic encoding metadata) wanted = ⊥
 IsOnChannel (Message channel sequence log_time publish_time payload) wanted = channel ≡ wanted
+IsOnChannel (Extra op content) wanted = ⊥
 
 -- the record is what that one was declared for: of a Schema a Channel that has it, of a Channel a Message on it
 abbrev pub IsUseOf : Rec → Rec → Type 0
 IsUseOf (Schema id schema) next = HasThatSchema next id
 IsUseOf (Channel id schema topic encoding metadata) next = IsOnChannel next id
 IsUseOf (Message channel sequence log_time publish_time payload) next = Unit {0}
+IsUseOf (Extra op content) next = Unit {0}
 
 -- a Schema stands directly before a Channel that has it, and a Channel directly before a Message on it
 abbrev pub StandBeforeUse : List Rec → Type 0

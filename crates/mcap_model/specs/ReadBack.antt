@@ -1,6 +1,6 @@
 -- Which extras a file may have, and that it is read back.
-use Rattle.std.specs.Prelude.{◌≡◌, ◌⊎◌}
-use Rattle.rec_data.specs.Records.{attachment_opcode, metadata_opcode}
+use Rattle.std.specs.Prelude.{◌≡◌, ◌⊎◌, ◌≤◌, ℕ}
+use Rattle.rec_data.specs.Records.{attachment_opcode, metadata_opcode, application_opcode}
 use Rattle.rec_data.specs.declared.owned.Rec.{Rec}
 use Rattle.rec_data.specs.Owned.{rec_opcode, rec_text, ShowsRec}
 use Rattle.mcap_model.specs.Tops.{Top}
@@ -10,8 +10,12 @@ use Rattle.mcap_model.specs.Rules.{V6, V10}
 abbrev pub IsReadBack : Rec → Type 0
 IsReadBack r = ShowsRec (rec_opcode r) (rec_text r) r
 
--- an Attachment or a Metadata that meets its layout, and V10
+-- the opcode of an Attachment, of a Metadata, or of an application's record
+abbrev pub IsExtraKind : ℕ → Type 0
+IsExtraKind op = (op ≡ attachment_opcode) ⊎ ((op ≡ metadata_opcode) ⊎ (application_opcode ≤ op))
+
+-- an Attachment or a Metadata that meets its layout, and V10; or an application's record
 pub record IsExtra (t : Top) : Type 0 where
-  pub kind : (t.op ≡ attachment_opcode) ⊎ (t.op ≡ metadata_opcode)
+  pub kind : IsExtraKind t.op
   pub v6 : V6 t
   pub v10 : V10 t

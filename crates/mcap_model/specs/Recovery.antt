@@ -11,7 +11,7 @@ use Rattle.mcap_model.specs.Tops.{Top, Tops, offset_behind}
 use Rattle.mcap_model.specs.Rules.{V1}
 use Rattle.mcap_model.specs.Kept.{Good, Kept, Halts, reading_limits, at_end, grammar}
 use Rattle.mcap_model.specs.Scan.{Seen, Scan}
-use Rattle.mcap_model.specs.History.{is_message, without_repeats}
+use Rattle.mcap_model.specs.History.{is_message, body_of, extras_in, without_repeats}
 use Rattle.mcap_model.specs.Blocks.{Piece, block, alone, pieces_of, blocks_in, chunk_bytes, pieces_bytes}
 use Rattle.mcap_model.specs.File.{front, section, file_of, IsPrefix}
 use Rattle.mcap_model.specs.Whole.{count_of}
@@ -28,7 +28,7 @@ IsFirstOf {X} some whole = (rest : List X) × (some ++ rest ≡ whole)
 abbrev pub RepairsCanBeWritten : Type 0
 RepairsCanBeWritten = (options : FileOptions) (tops extras : List Top) (history : List Rec) (size : ℕ)
     → Good reading_limits tops → Repairs tops options.profile extras history → options.chunk ≡ Some size → 0 < size
-    → size ≤ chunk_size_limit → length (blocks_in (pieces_of options.chunk history)) ≤ block_limit
+    → size ≤ chunk_size_limit → length (blocks_in (pieces_of options.chunk options.span history)) ≤ block_limit
     → length (file_of options extras history) ≤ file_limit → count_of attachment_opcode extras < 2 ^ 32
     → count_of metadata_opcode extras < 2 ^ 32 → CanBeWritten options extras history
 
@@ -49,12 +49,13 @@ abbrev pub GoodRecordsAreKept : Type 0
 GoodRecordsAreKept = (bytes : List ℕ) (tops kept : List Top) (rest : List ℕ) → Tops bytes tops rest
     → Good reading_limits tops → Kept reading_limits bytes kept → IsFirstOf tops kept
 
--- A file is read to its Data End, and repairing makes of it what it was written of, without what declares an id again.
+-- A file is read to its Data End, and repairing makes of it what it was written of, without what declares an id again; the
+-- extras of the history come before those behind it.
 abbrev pub FilesAreRepaired : Type 0
 FilesAreRepaired = (options : FileOptions) (extras : List Top) (history : List Rec)
     → CanBeWritten options extras history → CanBeRead options extras history
     → (tops : List Top) × (end : ℕ) × Halts reading_limits (file_of options extras history) tops (at_end end)
-    × Repairs tops options.profile extras (without_repeats history)
+    × Repairs tops options.profile (extras_in history ++ extras) (without_repeats (body_of history))
 
 -- ---- a first part of a file
 
@@ -93,11 +94,14 @@ pub record FrontIsRepaired (options : FileOptions) (extras : List Top) (history 
   pub header : length (front options.profile) ≤ length some → profile ≡ options.profile
   pub no_header : length some < length (front options.profile) → profile ≡ []
   pub piece_count : ℕ
-  pub first_is : first ≡ without_repeats (flat_map piece_records (take piece_count (pieces_of options.chunk history)))
-  pub pieces_are : (n : ℕ) (p : Piece) → At (pieces_of options.chunk history) n p
-      → (n < piece_count) ↔ (offset_behind_piece options (take n (pieces_of options.chunk history)) p ≤ length some)
+  pub first_is : first ≡ without_repeats (body_of
+      (flat_map piece_records (take piece_count (pieces_of options.chunk options.span history))))
+  pub pieces_are : (n : ℕ) (p : Piece) → At (pieces_of options.chunk options.span history) n p
+      → (n < piece_count) ↔ (offset_behind_piece options (take n (pieces_of options.chunk options.span history)) p ≤ length some)
   pub extra_count : ℕ
-  pub kept_is : kept ≡ take extra_count extras
+  pub kept_is : kept ≡ extras_in
+      (flat_map piece_records (take piece_count (pieces_of options.chunk options.span history)))
+      ++ take extra_count extras
   pub extras_are : (n : ℕ) (t : Top) → At extras n t
       → (n < extra_count) ↔ (length (section options (take n extras ++ t ∷ []) history) ≤ length some)
 

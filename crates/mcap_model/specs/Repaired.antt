@@ -1,16 +1,16 @@
 -- What is kept of a file that may be broken, as a profile, extras and a history.
-use Rattle.std.specs.Prelude.{◌≡◌, ℕ, List, [], ◌∷◌, filter, Bool, ◌==◌, ◌||◌}
+use Rattle.std.specs.Prelude.{◌≡◌, ℕ, List, [], ◌∷◌, filter, Bool, ◌==◌, ◌||◌, nat_le}
 use Rattle.rec_data.specs.declared.owned.Rec.{Rec}
-use Rattle.rec_data.specs.Records.{attachment_opcode, metadata_opcode}
+use Rattle.rec_data.specs.Records.{attachment_opcode, metadata_opcode, application_opcode}
 use Rattle.mcap_model.specs.Tops.{Top}
 use Rattle.mcap_model.specs.Fields.{IsHeader}
 use Rattle.mcap_model.specs.Kept.{Kept, reading_limits}
 use Rattle.mcap_model.specs.History.{without_repeats}
 use Rattle.mcap_model.specs.Written.{AreFlatRecords}
 
--- an Attachment or a Metadata
+-- an Attachment, a Metadata, or a record of an application
 abbrev pub is_extra : Top → Bool
-is_extra t = (t.op == attachment_opcode) || (t.op == metadata_opcode)
+is_extra t = (t.op == attachment_opcode) || ((t.op == metadata_opcode) || nat_le application_opcode t.op)
 
 -- the profile of the Header, or none where there is no record
 abbrev pub ProfileIs : List Top → List ℕ → Type 0
