@@ -8,7 +8,7 @@ use Rattle.std.proofs.lemmas.Grind.{flat_map-append}
 use Rattle.mcap_wire.specs.Layout.{le}
 use Rattle.mcap_wire.specs.Arrays.{entry_text, entry_texts}
 use Rattle.rec_data.specs.declared.owned.Rec.{Rec}
-use Rattle.rec_data.specs.declared.owned.Rec.TheVariants.{Schema, Channel, Message}
+use Rattle.rec_data.specs.declared.owned.Rec.TheVariants.{Schema, Channel, Message, Extra}
 use Rattle.rec_data.specs.Owned.{rec_bytes}
 use Rattle.mcap_model.specs.History.{history_bytes}
 use Rattle.mcap_model.specs.Blocks.{least, greatest, Logged, logged_one, logged, with_id}
@@ -138,6 +138,7 @@ quiet ws r none one =
 pub opened_more : (ws : List Rec) (r : Rec) → chunk_of_records (ws ++ r ∷ []) ≡ record_counted (with_bytes (chunk_of_records ws) (rec_bytes r)) (length (history_bytes ws)) (mark_of r)
 opened_more ws (Schema id schema) = quiet ws (Schema id schema) refl refl
 opened_more ws (Channel id schema topic encoding metadata) = quiet ws (Channel id schema topic encoding metadata) refl refl
+opened_more ws (Extra op content) = quiet ws (Extra op content) refl refl
 opened_more ws (Message channel sequence log_time publish_time payload) =
     let r = Message channel sequence log_time publish_time payload in
     let l : Logged = record { channel = channel; time = log_time; offset = length (history_bytes ws) } in

@@ -1,16 +1,20 @@
 -- What framed records are logged as.
-use Rattle.std.proofs.Common.{◌≡◌, ℕ, ◌-◌, ◌≤◌, List, length, get_or, take, drop, Option, Some, None, refl, sym, ap, subst, ◌∙◌, arith}
+use Rattle.std.proofs.Common.{◌≡◌, ℕ, ◌-◌, ◌≤◌, min, max, inl, inr, Bool, true, false, List, length, get_or, take, drop, Option, Some, None, refl, sym, ap, subst, ◌∙◌, arith}
+use Rattle.std.specs.Prelude.{not, nat_le, ◌==◌, if◌then◌else◌}
+use Rattle.std.proofs.lemmas.Bool.{both_ways}
 use Rattle.std.proofs.lemmas.List.{take_rest, drop_at}
 use Rattle.mcap_wire.specs.Layout.{le}
 use Rattle.mcap_wire.proofs.Numbers.{length-le}
 use Rattle.mcap_wire.proofs.Framing.{length-framed}
 use Rattle.rec_data.specs.declared.owned.Rec.{Rec}
-use Rattle.rec_data.specs.declared.owned.Rec.TheVariants.{Schema, Channel, Message}
+use Rattle.rec_data.specs.declared.owned.Rec.TheVariants.{Schema, Channel, Message, Extra}
 use Rattle.rec_data.specs.Owned.{rec_opcode, rec_text, rec_bytes}
 use Rattle.rec_data.specs.Records.{ShowsMessage}
 use Rattle.rec_data.proofs.Contents.{message_decided, length-message_text}
+use Rattle.rec_data.proofs.OwnedReading.{extra_not}
 use Rattle.chunk_build.specs.declared.building.Mark.{Mark}
-use Rattle.chunk_build.specs.Building.{mark_of, IsLong}
+use Rattle.chunk_build.specs.Opened.{Opened}
+use Rattle.chunk_build.specs.Building.{mark_of, IsLong, spans_with, IsOver}
 use Rattle.chunk_build.specs.Chunker.{AreFramed}
 use Rattle.rec_data.specs.Fields.{MessageFields}
 
@@ -23,6 +27,7 @@ rec_long (Schema id schema) = omega (arith, length-framed 3 (rec_text (Schema id
 rec_long (Channel id schema topic encoding metadata) = omega (arith, length-framed 4 (rec_text (Channel id schema topic encoding metadata)))
 rec_long (Message channel sequence log_time publish_time payload) =
     omega (arith, length-framed 5 (rec_text (Message channel sequence log_time publish_time payload)), length-message_text channel (record { sequence = sequence; log_time = log_time; publish_time = publish_time; payload = payload }))
+rec_long (Extra op content) = omega (arith, length-framed op content)
 
 pub bytes_long : (bytes : List ℕ) (r : Rec) → AreFramed bytes r → IsLong (length bytes) (mark_of r)
 bytes_long bytes r is = subst (λ (l : List ℕ). IsLong (length l) (mark_of r)) (sym is.spelled) (rec_long r)
@@ -47,6 +52,7 @@ no_mark bytes (Schema id schema) is other = refl
 no_mark bytes (Channel id schema topic encoding metadata) is other = refl
 no_mark bytes (Message channel sequence log_time publish_time payload) is other =
     absurd (other (first_is bytes (Message channel sequence log_time publish_time payload) is))
+no_mark bytes (Extra op content) is other = refl
 
 -- one that does is the Message that its content shows
 pub one_mark : (bytes : List ℕ) (r : Rec) (channel : ℕ) (m : MessageFields) → AreFramed bytes r → get_or bytes 0 0 ≡ 5
@@ -61,6 +67,8 @@ one_mark bytes (Message id sequence log_time publish_time payload) channel m is 
     let own = subst (λ (l : List ℕ). ShowsMessage l id n) (sym (content_is bytes r is)) is.shown.1 in
     let same = message_decided (take (length bytes - 9) (drop 9 bytes)) channel id m n shown own in
     ap (λ (k : ℕ). some_mark k m.log_time) same.0 ∙ ap (λ (f : MessageFields). some_mark id f.log_time) same.1
+one_mark bytes (Extra op content) channel m is first shown =
+    let kind = is.shown.2 in absurd (extra_not op content 5 kind (omega arith) (sym (first_is bytes (Extra op content) is) ∙ first))
 
 -- a Message's content shows it, where the record begins with the opcode of a Message
 pub some_message : (bytes : List ℕ) (r : Rec) → AreFramed bytes r → get_or bytes 0 0 ≡ 5
@@ -71,3 +79,24 @@ some_message bytes (Message channel sequence log_time publish_time payload) is f
     let r = Message channel sequence log_time publish_time payload in
     let m : MessageFields = record { sequence = sequence; log_time = log_time; publish_time = publish_time; payload = payload } in
     none channel m (subst (λ (l : List ℕ). ShowsMessage l channel m) (sym (content_is bytes r is)) is.shown.1)
+some_message bytes (Extra op content) is first none =
+    let kind = is.shown.2 in extra_not op content 5 kind (omega arith) (sym (first_is bytes (Extra op content) is) ∙ first)
+
+-- ---- how far the log times are apart
+
+pub not_so : (b : Bool) → not b ≡ true → b ≡ false
+not_so true is = absurd (both_ways false refl is)
+not_so false is = refl
+
+-- only the times and the number of messages count
+pub near_same : (span : Option ℕ) (o p : Opened) (mark : Option Mark) (b : Bool) → p.start ≡ o.start → p.end ≡ o.end → p.messages ≡ o.messages → spans_with span o mark ≡ b → spans_with span p mark ≡ b
+near_same None o p mark b start end messages is = is
+near_same (Some span) o p None b start end messages is = is
+near_same (Some span) o p (Some mark) b start end messages is =
+    ap (λ (n : ℕ). nat_le span (max n mark.time - (if p.messages == 0 then mark.time else min p.start mark.time))) end
+    ∙ ap (λ (n : ℕ). nat_le span (max o.end mark.time - (if n == 0 then mark.time else min p.start mark.time))) messages
+    ∙ ap (λ (n : ℕ). nat_le span (max o.end mark.time - (if o.messages == 0 then mark.time else min n mark.time))) start ∙ is
+
+pub over_same : (size : ℕ) (span : Option ℕ) (len : ℕ) (mark : Option Mark) (o p : Opened) → length p.bytes ≡ length o.bytes → p.start ≡ o.start → p.end ≡ o.end → p.messages ≡ o.messages → IsOver size span len mark o → IsOver size span len mark p
+over_same size span len mark o p bytes start end messages (inl many) = inl (omega (arith, bytes, many))
+over_same size span len mark o p bytes start end messages (inr far) = inr (near_same span o p mark true start end messages far)

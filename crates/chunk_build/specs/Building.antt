@@ -1,5 +1,5 @@
 -- The open chunk as it lies in memory.
-use Rattle.std.specs.Prelude.{◌≡◌, ℕ, ◌+◌, ◌*◌, ◌<◌, ◌≤◌, [], length, drop, Option, Some, None, vec_capacity}
+use Rattle.std.specs.Prelude.{◌≡◌, ◌⊎◌, ℕ, ◌+◌, ◌*◌, ◌-◌, ◌<◌, ◌≤◌, [], length, drop, min, max, Bool, true, false, ◌==◌, ◌&&◌, nat_lt, nat_le, if◌then◌else◌, Option, Some, None, vec_capacity}
 use Rattle.mcap_wire.specs.Writing.{HasRoom}
 use Rattle.chunk_build.specs.declared.building.Building.{Building}
 use Rattle.chunk_build.specs.declared.building.Mark.{Mark}
@@ -8,7 +8,7 @@ use Rattle.chunk_build.specs.declared.building.Closing.{Closing}
 use Rattle.chunk_build.specs.declared.row.Rows.{Rows}
 use Rattle.chunk_build.specs.Rows.{rows_in, RowsSound, IsRowReady, rows_size}
 use Rattle.rec_data.specs.declared.owned.Rec.{Rec}
-use Rattle.rec_data.specs.declared.owned.Rec.TheVariants.{Schema, Channel, Message}
+use Rattle.rec_data.specs.declared.owned.Rec.TheVariants.{Schema, Channel, Message, Extra}
 use Rattle.mcap_model.specs.declared.block.Block.{Block}
 use Rattle.chunk_build.specs.Opened.{Opened, chunk_of_records, with_indexed_message, with_declaration, IsBuilt}
 
@@ -35,6 +35,7 @@ abbrev pub mark_of : Rec → Option Mark
 mark_of (Schema id schema) = None
 mark_of (Channel id schema topic encoding metadata) = None
 mark_of (Message channel sequence log_time publish_time payload) = Some (record { channel = channel; time = log_time })
+mark_of (Extra op content) = None
 
 -- a record is counted whose bytes stand at the end already
 abbrev pub record_counted : Opened → ℕ → Option Mark → Opened
@@ -62,18 +63,40 @@ pub record CanClose (chunk : Building) (more : ℕ) (closing : Closing) : Type 0
   pub none : closing.parts.items ≡ []
   pub parts : length chunk.rows.used.items + more ≤ vec_capacity closing.parts
 
--- With so many bytes more the chunk stays open, or it can be closed. An entry more takes at most 31 bytes in the Message
+-- with such a record more the log times are so far apart
+abbrev pub spans_with : Option ℕ → Opened → Option Mark → Bool
+spans_with None o mark = false
+spans_with (Some span) o None = false
+spans_with (Some span) o (Some mark) =
+    nat_le span (max o.end mark.time - (if o.messages == 0 then mark.time else min o.start mark.time))
+
+-- they are so far apart, and there is a message
+abbrev pub spans_open : Option ℕ → Opened → Bool
+spans_open None o = false
+spans_open (Some span) o = nat_lt 0 o.messages && nat_le span (o.end - o.start)
+
+-- the chunk stays open behind such a record of so many bytes
+pub record StaysOpen (size : ℕ) (span : Option ℕ) (len : ℕ) (mark : Option Mark) (o : Opened) : Type 0 where
+  pub short : length o.bytes + len < size
+  pub near : spans_with span o mark ≡ false
+
+-- it doesn't
+abbrev pub IsOver : ℕ → Option ℕ → ℕ → Option Mark → Opened → Type 0
+IsOver size span len mark o = (size ≤ length o.bytes + len) ⊎ (spans_with span o mark ≡ true)
+
+-- With such a record more the chunk stays open, or it can be closed. An entry more takes at most 31 bytes in the Message
 -- Indexes.
-abbrev pub ClosingReady : ℕ → ℕ → Building → Option Closing → Type 0
-ClosingReady size len chunk None = (length (drop 49 chunk.bytes.items) + len < size) × HasRoom chunk.bytes len
-ClosingReady size len chunk (Some closing) = (size ≤ length (drop 49 chunk.bytes.items) + len)
+abbrev pub ClosingReady : ℕ → Option ℕ → ℕ → Option Mark → Building → Option Closing → Type 0
+ClosingReady size span len mark chunk None = StaysOpen size span len mark (chunk_in_memory chunk) × HasRoom chunk.bytes len
+ClosingReady size span len mark chunk (Some closing) = IsOver size span len mark (chunk_in_memory chunk)
     × HasRoom chunk.bytes (len + (chunk.index + 31)) × CanClose chunk 1 closing
 
 -- a record of so many bytes can be put with no refusal
-pub record IsReady (size len : ℕ) (mark : Option Mark) (chunk : Building) (ready : Ready) : Type 0 where
+pub record IsReady (size : ℕ) (span : Option ℕ) (len : ℕ) (mark : Option Mark) (chunk : Building) (ready : Ready)
+    : Type 0 where
   pub begun : 49 ≤ length chunk.bytes.items
   pub row : RowReady chunk.rows mark ready.row
-  pub closing : ClosingReady size len chunk ready.closing
+  pub closing : ClosingReady size span len mark chunk ready.closing
 
 -- an entry more takes at most 31 bytes in the Message Indexes
 abbrev pub CanCloseBy : Building → Option Closing → Type 0

@@ -1,8 +1,9 @@
 -- A chunker as a plain value.
-use Rattle.std.specs.Prelude.{ℕ}
+use Rattle.std.specs.Prelude.{ℕ, Option}
 use Rattle.chunk_build.specs.Opened.{Opened}
 
--- a chunk size, and what the open chunk holds
+-- a chunk size, a span of log times if there is one, and what the open chunk holds
 pub record Chunking : Type 0 where
   pub size : ℕ
+  pub span : Option ℕ
   pub chunk : Opened

@@ -1,12 +1,12 @@
 //! The open chunk: its records stand where they will in the block, behind room for the head of the Chunk.
-ghost use Rattle.std.specs.Prelude.{◌≡◌, ◌+◌, ◌*◌, ◌^◌, ◌<◌, ◌≤◌, ◌++◌, ◌==◌, ℕ, [], length, drop, min, if◌then◌else◌, vec_len, vec_capacity, IfOk, OnOk, Option, Some, None, true};
+ghost use Rattle.std.specs.Prelude.{◌≡◌, ◌+◌, ◌*◌, ◌^◌, ◌<◌, ◌≤◌, ◌++◌, ◌==◌, ℕ, [], length, drop, min, if◌then◌else◌, vec_len, vec_capacity, IfOk, OnOk, Option, Some, None, true, false};
 ghost use Rattle.mcap_wire.specs.Layout.{framed};
 ghost use Rattle.mcap_wire.specs.Limits.{chunk_size_limit};
 ghost use Rattle.mcap_wire.specs.Writing.{HasRoom};
 ghost use Rattle.rec_index.specs.Records.{chunk_opcode, chunk_text};
 ghost use Rattle.chunk_build.specs.Rows.{IsRowReady};
 ghost use Rattle.chunk_build.specs.Opened.{plain_chunk, chunk_of_records, with_indexed_message, IsBuilt};
-ghost use Rattle.chunk_build.specs.Building.{chunk_in_memory, IsSound, RowReady, CanClose, IsReady, record_counted, StandsBehind, CanCloseBy, Settles};
+ghost use Rattle.chunk_build.specs.Building.{chunk_in_memory, IsSound, RowReady, CanClose, spans_with, StaysOpen, IsOver, IsReady, record_counted, StandsBehind, CanCloseBy, Settles};
 
 use crate::row::{Rows, put_entry, ready_row, take_indexes};
 use mcap_crc::crc_of;
@@ -146,11 +146,50 @@ pub(crate) fn closing_for(alloc: Global, chunk: &Building) -> Result<Closing, Me
     return Ok(Closing { head, parts });
 }
 
+// Whether with a message more the log times of a chunk are so far apart.
+fn reaches_span(chunk: &Building, span: Option<u64>, mark: Option<Mark>) -> bool
+    ensures { result ≡ spans_with span (chunk_in_memory chunk.now) mark }
+{
+    let Some(span) = span else {
+        return false;
+    };
+    let Some(mark) = mark else {
+        return false;
+    };
+    let first = first_time(chunk.messages, chunk.start, mark.time);
+    span <= chunk.end.max(mark.time).saturating_sub(first)
+}
+
+/// Whether a chunk that is begun stays open behind a record of so many bytes.
+#[inline(always)]
+pub(crate) fn stays_open(
+    chunk: &Building,
+    size: u64,
+    span: Option<u64>,
+    len: u64,
+    mark: Option<Mark>,
+) -> bool
+    ensures begun { result ≡ true → 49 ≤ length chunk.now.bytes.items }
+    ensures open { result ≡ true → StaysOpen size span len mark (chunk_in_memory chunk.now) }
+    ensures over { result ≡ false → 49 ≤ length chunk.now.bytes.items
+        → IsOver size span len mark (chunk_in_memory chunk.now) }
+{
+    if chunk.bytes.len() < HEAD {
+        return false;
+    }
+    let held = (chunk.bytes.len() - HEAD) as u64;
+    if held < size && len < size - held {
+        return !reaches_span(chunk, span, mark);
+    }
+    false
+}
+
 /// Makes all room for a record of so many bytes. What the chunk holds stays.
 pub(crate) fn prepare(
     alloc: Global,
     chunk: &mut Building,
     size: u64,
+    span: Option<u64>,
     len: u64,
     mark: Option<Mark>,
 ) -> Result<Ready, Memory>
@@ -159,12 +198,11 @@ pub(crate) fn prepare(
     requires size { size ≤ chunk_size_limit }
     ensures same { chunk_in_memory chunk.new ≡ chunk_in_memory chunk.old }
     ensures sound { IsSound chunk.new }
-    ensures ready { IfOk result (λ ready. IsReady size len mark chunk.new ready) }
+    ensures ready { IfOk result (λ ready. IsReady size span len mark chunk.new ready) }
 {
     let row = row_of(alloc, chunk, mark)?;
     begin_chunk(&mut chunk.bytes, &mut chunk.spare, size)?;
-    let records = (chunk.bytes.len() - HEAD) as u64;
-    if records < size && len < size - records {
+    if stays_open(chunk, size, span, len, mark) {
         make_room(&mut chunk.bytes, len as usize)?;
         return Ok(Ready { row, closing: None });
     }
@@ -175,22 +213,6 @@ pub(crate) fn prepare(
         row,
         closing: Some(closing),
     });
-}
-
-/// Whether a chunk that is begun stays open behind a record of so many bytes.
-#[inline(always)]
-pub(crate) fn stays_open(chunk: &Building, size: u64, len: u64) -> bool
-    ensures begun { result ≡ true → 49 ≤ length chunk.now.bytes.items }
-    ensures open { result ≡ true → length (drop 49 chunk.now.bytes.items) + len < size }
-{
-    if chunk.bytes.len() < HEAD {
-        return false;
-    }
-    let held = (chunk.bytes.len() - HEAD) as u64;
-    if held < size && len < size - held {
-        return true;
-    }
-    false
 }
 
 /// Makes room for a record of so many bytes behind which the chunk stays open, and gives the place of its channel's row. What

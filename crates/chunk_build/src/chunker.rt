@@ -1,11 +1,12 @@
 //! The chunker takes a history record by record, and gives the blocks into which it is cut.
-ghost use Rattle.std.specs.Prelude.{◌≡◌, ◌≤◌, ℕ, List, [], length, IfOk, OnErr};
+ghost use Rattle.std.specs.Prelude.{◌≡◌, ◌≤◌, ℕ, List, [], length, true, IfOk, OnErr};
 ghost use Rattle.mcap_wire.specs.Limits.{chunk_size_limit};
 ghost use Rattle.rec_data.specs.declared.owned.Rec.{Rec};
 ghost use Rattle.rec_data.specs.Owned.{rec_bytes};
 ghost use Rattle.rec_data.specs.OwnedReading.{LengthsFit};
 ghost use Rattle.chunk_build.specs.Building.{mark_of, IsLong};
-ghost use Rattle.chunk_build.specs.Chunker.{StandsFor, PutsRecord, AreFramed, Finishes};
+ghost use Rattle.mcap_model.specs.History.{is_inner};
+ghost use Rattle.chunk_build.specs.Chunker.{StandsFor, PutsRecord, AreFramed, AreInner, Finishes};
 
 use crate::building::{
     Building, HEAD, Mark, begin, close, closing_for, keep_room, note, prepare, prepare_open,
@@ -18,14 +19,15 @@ use rec_data::Rec;
 use std::alloc::Global;
 use std::marker::Model;
 
-/// Cuts a history into blocks of a size. A chunk is closed behind the record that brings its records, framed, to at least that
-/// many bytes. Its Chunk isn't compressed; a Message Index stands behind it for each channel with a message, in ascending channel
-/// id. Contracts see the size and what the open chunk holds: the chunker stands for each history (`StandsFor`) of which these are
+/// Cuts a history without extras into blocks of a size. A chunk is closed behind the record that brings its records, framed, to at
+/// least that many bytes, and, where a span is given, behind the message that brings its log times at least that far apart. Its Chunk isn't compressed; a Message Index stands behind it for each channel with a message, in ascending channel
+/// id. Contracts see the size, the span and what the open chunk holds: the chunker stands for each history (`StandsFor`) of which these are
 /// the records that wait for their block.
 #[derive(Drop)]
 pub struct Chunker {
     alloc: Global,
     size: u64,
+    span: Option<u64>,
     chunk: Building,
 }
 
@@ -43,28 +45,30 @@ impl Model for Chunker {
 
 impl Chunker {
     /// A chunker that stands for no records yet. The size is in bytes of framed records.
-    pub fn new(alloc: Global, size: u64) -> Result<Chunker, Memory>
+    pub fn new(alloc: Global, size: u64, span: Option<u64>) -> Result<Chunker, Memory>
         requires some { 1 ≤ size }
         requires within { size ≤ chunk_size_limit }
-        ensures { IfOk result (λ c. StandsFor c [] × (c.size ≡ size)) }
+        ensures { IfOk result (λ c. StandsFor c [] × (c.size ≡ size) × (c.span ≡ span)) }
     {
         Ok(Chunker {
             alloc,
             size,
+            span,
             chunk: begin(alloc),
         })
     }
 
     /// Adds a record, and gives the block exactly where this closes one. Where memory lacks nothing changes.
     pub fn put(&mut self, r: &Rec) -> Result<Option<Block>, Memory>
-        requires { LengthsFit r.now }
+        requires fits { LengthsFit r.now }
+        requires inner { is_inner r.now ≡ true }
         ensures put { IfOk result (λ closed. (history : List Rec) → StandsFor self.old history
-            → PutsRecord self.old.size history r.now closed self.new) }
+            → PutsRecord self.old.size self.old.span history r.now closed self.new) }
         ensures err { OnErr result (self.new ≡ self.old) }
     {
         let mark = mark_of_record(r);
         let len = r.framed_len();
-        let ready = match prepare(self.alloc, &mut self.chunk, self.size, len, mark) {
+        let ready = match prepare(self.alloc, &mut self.chunk, self.size, self.span, len, mark) {
             Ok(ready) => ready,
             Err(memory) => return Err(memory),
         };
@@ -79,16 +83,16 @@ impl Chunker {
     /// Adds a record by its framed bytes, and gives the block exactly where this closes one. The bytes are copied once, to where
     /// they stand in the block. Where memory lacks nothing changes.
     pub fn put_framed(&mut self, bytes: &[u8]) -> Result<Option<Block>, Memory>
-        requires { (r : Rec) × AreFramed bytes.now r }
-        ensures put { IfOk result (λ closed. (r : Rec) → AreFramed bytes.now r → (history : List Rec)
-            → StandsFor self.old history → PutsRecord self.old.size history r closed self.new) }
+        requires { (r : Rec) × AreInner bytes.now r }
+        ensures put { IfOk result (λ closed. (r : Rec) → AreInner bytes.now r → (history : List Rec)
+            → StandsFor self.old history → PutsRecord self.old.size self.old.span history r closed self.new) }
         ensures err { OnErr result (self.new ≡ self.old) }
     {
         let len = bytes.len() as u64;
-        if !stays_open(&self.chunk, self.size, len) {
+        let mark = mark_of_bytes(bytes);
+        if !stays_open(&self.chunk, self.size, self.span, len, mark) {
             return self.put_any(bytes);
         }
-        let mark = mark_of_bytes(bytes);
         let chunk = &mut self.chunk;
         let row = match prepare_open(self.alloc, chunk, len, mark) {
             Ok(row) => row,
@@ -103,14 +107,14 @@ impl Chunker {
     // Does the same with any record. What waits for a block that closes is kept out of the other way.
     #[inline(never)]
     fn put_any(&mut self, bytes: &[u8]) -> Result<Option<Block>, Memory>
-        requires { (r : Rec) × AreFramed bytes.now r }
-        ensures put { IfOk result (λ closed. (r : Rec) → AreFramed bytes.now r → (history : List Rec)
-            → StandsFor self.old history → PutsRecord self.old.size history r closed self.new) }
+        requires { (r : Rec) × AreInner bytes.now r }
+        ensures put { IfOk result (λ closed. (r : Rec) → AreInner bytes.now r → (history : List Rec)
+            → StandsFor self.old history → PutsRecord self.old.size self.old.span history r closed self.new) }
         ensures err { OnErr result (self.new ≡ self.old) }
     {
         let mark = mark_of_bytes(bytes);
         let len = bytes.len() as u64;
-        let ready = match prepare(self.alloc, &mut self.chunk, self.size, len, mark) {
+        let ready = match prepare(self.alloc, &mut self.chunk, self.size, self.span, len, mark) {
             Ok(ready) => ready,
             Err(memory) => return Err(memory),
         };
@@ -130,7 +134,7 @@ impl Chunker {
     /// memory lacks nothing changes.
     pub fn finish(&mut self) -> Result<Option<Block>, Memory>
         ensures last { IfOk result (λ last. (history : List Rec) → StandsFor self.old history
-            → Finishes self.old.size history last self.new) }
+            → Finishes self.old.size self.old.span history last self.new) }
         ensures err { OnErr result (self.new ≡ self.old) }
     {
         if self.chunk.bytes.len() <= HEAD {

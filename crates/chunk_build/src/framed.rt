@@ -2,7 +2,7 @@
 ghost use Rattle.std.specs.Prelude.{◌≡◌, length, IfOk};
 ghost use Rattle.rec_data.specs.declared.owned.Rec.{Rec};
 ghost use Rattle.rec_data.specs.Owned.{RecFits};
-ghost use Rattle.rec_data.specs.OwnedReading.{LengthsFit};
+ghost use Rattle.rec_data.specs.OwnedReading.{LengthsFit, ExtraMeets};
 ghost use Rattle.chunk_build.specs.Building.{mark_of, IsLong};
 ghost use Rattle.chunk_build.specs.Chunker.{AreFramed};
 
@@ -13,7 +13,8 @@ use std::alloc::Global;
 
 /// The bytes of a whole record.
 pub fn framed_of(alloc: Global, r: &Rec) -> Result<Bytes, Memory>
-    requires { LengthsFit r.now }
+    requires fits { LengthsFit r.now }
+    requires extra { ExtraMeets r.now }
     ensures { IfOk result (λ bytes. AreFramed bytes r.now) }
 {
     let mut bytes = Vec::new(alloc);
@@ -26,7 +27,8 @@ pub fn framed_of(alloc: Global, r: &Rec) -> Result<Bytes, Memory>
 
 // Reads what the types say of a record: its numbers fit their fields, its texts are UTF-8 and the keys of its map differ.
 fn look(r: &Rec)
-    requires { LengthsFit r.now }
+    requires fits { LengthsFit r.now }
+    requires extra { ExtraMeets r.now }
     ensures { RecFits r.now }
 {
     match r {
@@ -57,6 +59,7 @@ fn look(r: &Rec)
             let _ids = (*channel_id, *sequence);
             let _times = (*log_time, *publish_time);
         }
+        Rec::Extra { .. } => {}
     }
 }
 
