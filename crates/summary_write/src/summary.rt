@@ -1,12 +1,13 @@
 //! The summary as it grows (MCAP specification, "Summary Section").
-ghost use Rattle.std.specs.Prelude.{◌≡◌, ◌+◌, ◌^◌, ◌<◌, ◌≤◌, ◌++◌, ◌==◌, Some, List, map, min, if◌then◌else◌, All, IfOk, OnOk, OnErr};
+ghost use Rattle.std.specs.Prelude.{◌≡◌, ◌+◌, ◌^◌, ◌<◌, ◌≤◌, ◌++◌, ◌==◌, Some, List, true, map, min, if◌then◌else◌, All, IfOk, OnOk, OnErr};
 ghost use Rattle.mcap_wire.specs.Limits.{record_count_limit};
 ghost use Rattle.rec_data.specs.declared.owned.Rec.{Rec};
 ghost use Rattle.rec_data.specs.OwnedReading.{LengthsFit};
 ghost use Rattle.rec_data.specs.Fields.{AttachmentFields, MetadataFields};
 ghost use Rattle.rec_data.specs.Records.{attachment_opcode, metadata_opcode, ShowsAttachment, ShowsMetadata};
 ghost use Rattle.chunk_build.specs.Building.{mark_of};
-ghost use Rattle.chunk_build.specs.Chunker.{AreFramed};
+ghost use Rattle.chunk_build.specs.Chunker.{AreInner};
+ghost use Rattle.mcap_model.specs.History.{is_inner};
 ghost use Rattle.mcap_model.specs.Built.{IsBlock};
 ghost use Rattle.mcap_model.specs.Summary.{Noted, summary_text};
 ghost use Rattle.summary_write.specs.Tally.{SummaryStandsFor, no_notes, id_in_record, with_record, with_id_once, with_bytes_once, with_noted_record, with_noted_block, with_noted_extra, index_of_block};
@@ -81,10 +82,11 @@ impl Summary {
         })
     }
 
-    /// Notes a record of the history. Of Schemas and of Channels the first of each id is kept. Where memory lacks nothing
+    /// Notes a record of the history that is no extra. Of Schemas and of Channels the first of each id is kept. Where memory lacks nothing
     /// changes.
     pub fn note_record(&mut self, r: &Rec) -> Result<(), Memory>
         requires fits { LengthsFit r.now }
+        requires inner { is_inner r.now ≡ true }
         requires few { self.old.messages < record_count_limit }
         ensures ok { OnOk result ((n : Noted) → SummaryStandsFor self.old n
             → SummaryStandsFor self.new (with_noted_record n r.now)) }
@@ -107,9 +109,9 @@ impl Summary {
 
     /// Does the same with a record that is given by its framed bytes.
     pub fn note_framed(&mut self, bytes: &[u8]) -> Result<(), Memory>
-        requires framed { (r : Rec) × AreFramed bytes.now r }
+        requires framed { (r : Rec) × AreInner bytes.now r }
         requires few { self.old.messages < record_count_limit }
-        ensures ok { OnOk result ((r : Rec) → AreFramed bytes.now r → (n : Noted) → SummaryStandsFor self.old n
+        ensures ok { OnOk result ((r : Rec) → AreInner bytes.now r → (n : Noted) → SummaryStandsFor self.old n
             → SummaryStandsFor self.new (with_noted_record n r)) }
         ensures err { OnErr result (self.new ≡ self.old) }
         ensures messages { self.new.messages ≤ self.old.messages + 1 }
@@ -279,8 +281,8 @@ fn first_time(messages: u64, start: u64, time: u64) -> u64
 
 // The id that a framed record declares, or that it is on: the first field of its content.
 fn id_of_bytes(bytes: &[u8]) -> u16
-    requires { (r : Rec) × AreFramed bytes.now r }
-    ensures { (r : Rec) → AreFramed bytes.now r → result ≡ id_in_record r }
+    requires { (r : Rec) × AreInner bytes.now r }
+    ensures { (r : Rec) → AreInner bytes.now r → result ≡ id_in_record r }
 {
     match take_u16(bytes, 9) {
         Ok((id, _)) => return id,

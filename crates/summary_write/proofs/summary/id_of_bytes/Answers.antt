@@ -3,7 +3,7 @@ use Rattle.summary_write.proofs.Framed.{id_there, id_not_refused}
 use Rattle.summary_write.proofs.summary.id_of_bytes.Goals as goal
 
 pub take_u16-requires : goal.take_u16-requires
-take_u16-requires c = has_head c.args.bytes.now c.requires.0 c.requires.1
+take_u16-requires c = has_head c.args.bytes.now c.requires.0 c.requires.1.framed
 
 pub returns-in-Ok : goal.returns-in-Ok
 returns-in-Ok c r is = id_there c.args.bytes.now r _ _ is c.in-Ok.ensures
