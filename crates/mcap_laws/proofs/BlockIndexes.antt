@@ -38,7 +38,7 @@ module _ (tops before : List Top) (records : List Rec) (stands : BlockStands top
   own_there k id at = subst (λ (l : List Top). At l k (index_top records id)) (sym (behind_block tops before records stands)) (at_mapped (index_top records) (logged_channels records) k id at)
 
   opened_there : inner_tops (chunk_top records) ≡ map rec_top records
-  opened_there = (written_chunk records back numbered sound.0).0
+  opened_there = (written_chunk records back numbered sound.2 sound.0).0
 
   -- the Message Index at a place is that of the channel there
   pub own_index : (k : ℕ) (t : Top) → At (indexes_behind tops (length before)) k t → (id : ℕ) × At (logged_channels records) k id × (t ≡ index_top records id)
@@ -161,7 +161,7 @@ belongs_by all before chunk earlier t front kind each right = by earlier front e
 module _ (header : Top) (ps : List Piece) (extras summary : List Top) (foot : Top) (are : Each IsExtra extras) (back : (n : ℕ) (p : Piece) → At ps n p → Each IsReadBack (piece_records p)) (numbered : (n : ℕ) (p : Piece) → At ps n p → Each IsNumberedRec (piece_records p)) (sound : (n : ℕ) (p : Piece) → At ps n p → PieceIsSound p) where
   pub index_belongs : (j : ℕ) (t : Top) → At (flat_map piece_tops ps ++ extras) j t → t.op ≡ 7 → BelongsTo (take (suc j) (whole (header ∷ (flat_map piece_tops ps ++ extras)) summary foot)) t
   index_belongs j t at kind =
-      let b = in_block ps extras j t are at (inr kind) in
+      let b = in_block ps extras j t back are at (inr kind) in
       by b.k b.records b.at b.i b.at_top b.there
     where
       by : (k : ℕ) (records : List Rec) → At ps k (block records) → (i : ℕ) → At (piece_tops (block records)) i t → j ≡ in_front piece_tops ps k + i → BelongsTo (take (suc j) (whole (header ∷ (flat_map piece_tops ps ++ extras)) summary foot)) t
@@ -169,7 +169,7 @@ module _ (header : Top) (ps : List Piece) (extras summary : List Top) (foot : To
       by k records at_p (suc i) at_t there =
           let tops = whole (header ∷ (flat_map piece_tops ps ++ extras)) summary foot in
           let before = header ∷ flat_map piece_tops (take k ps) in
-          let stands = block_stands header ps extras summary foot k records are at_p in
+          let stands = block_stands header ps extras summary foot k records back are at_p in
           let within : At (indexes_behind tops (length before)) i t = subst (λ (l : List Top). At l i t) (sym (behind_block tops before records stands)) at_t in
           let indexes = map (index_top records) (logged_channels records) in
           let earlier = take i indexes in
@@ -188,7 +188,7 @@ module _ (header : Top) (ps : List Piece) (extras summary : List Top) (foot : To
 
   pub chunk_of : (j : ℕ) (t : Top) → At (flat_map piece_tops ps ++ extras) j t → t.op ≡ 6 → IsChunkOf j t
   chunk_of j t at kind =
-      let b = in_block ps extras j t are at (inl kind) in
+      let b = in_block ps extras j t back are at (inl kind) in
       by b.k b.records b.at b.i b.at_top b.there
     where
       by : (k : ℕ) (records : List Rec) → At ps k (block records) → (i : ℕ) → At (piece_tops (block records)) i t → j ≡ in_front piece_tops ps k + i → IsChunkOf j t
@@ -202,6 +202,6 @@ module _ (header : Top) (ps : List Piece) (extras summary : List Top) (foot : To
       let c = chunk_of j t at kind in
       let tops = whole (header ∷ (flat_map piece_tops ps ++ extras)) summary foot in
       let before = header ∷ flat_map piece_tops (take c.k ps) in
-      let stands = block_stands header ps extras summary foot c.k c.records are c.at in
+      let stands = block_stands header ps extras summary foot c.k c.records back are c.at in
       let indexed = block_indexed tops before c.records stands (back c.k (block c.records) c.at) (numbered c.k (block c.records) c.at) (sound c.k (block c.records) c.at) in
       subst (λ (k : ℕ). IsIndexed tops k t) (sym c.there) (subst (λ (x : Top). IsIndexed tops (length before) x) (sym c.is) indexed)

@@ -14,7 +14,8 @@ use Rattle.mcap_model.specs.Places.{At, Each}
 use Rattle.mcap_model.specs.Tops.{Top, top_bytes, spelled, offset_behind, flat, flattened}
 use Rattle.mcap_model.specs.Rules.{V1}
 use Rattle.mcap_model.specs.Kept.{Kept, Halts, reading_limits, at_end, grammar}
-use Rattle.mcap_model.specs.History.{rec_top, without_repeats}
+use Rattle.mcap_model.specs.History.{rec_top, body_of, extras_in, without_repeats}
+use Rattle.mcap_model.proofs.Asides.{body_append, extras_append, each_body}
 use Rattle.mcap_model.specs.Blocks.{Piece, block, alone, pieces_of, pieces_bytes, logged_channels}
 use Rattle.mcap_model.specs.File.{front, section, file_of, IsPrefix}
 use Rattle.mcap_model.specs.Written.{IsRec}
@@ -26,14 +27,14 @@ use Rattle.mcap_model.proofs.Places.{at_none, at_kept}
 use Rattle.mcap_model.proofs.Lists.{cut_at, cut_flat, take_second, length-take_at, each_taken, each_joined}
 use Rattle.mcap_model.proofs.Readings.{kept_once}
 use Rattle.mcap_model.proofs.Edges.{header_top, end_top}
-use Rattle.mcap_model.proofs.Section.{piece_tops, held, pieces_hold, pieces_spelled, indexes_flat, piece_flat, extra_flat}
+use Rattle.mcap_model.proofs.Section.{piece_tops, held, each_held, pieces_spelled, indexes_flat, piece_flat, extra_flat}
 use Rattle.mcap_model.proofs.Files.{body_tops, section_tops}
-use Rattle.mcap_model.proofs.Body.{CanStand, header_is, pieces_back, pieces_numbered, pieces_sound, standing}
+use Rattle.mcap_model.proofs.Body.{CanStand, header_is, extras_behind, pieces_back, pieces_numbered, pieces_sound, standing}
 use Rattle.mcap_model.proofs.Prefixes.{prefixes_are_kept, ends_there}
 use Rattle.mcap_model.proofs.Fronts.{fronts_keep_whole}
 use Rattle.mcap_model.specs.declared.rules.Rule.TheVariants as rules
 use Rattle.mcap_laws.proofs.Scanned.{read_so}
-use Rattle.mcap_laws.proofs.Repairing.{pieces_no_extra, all_extra}
+use Rattle.mcap_laws.proofs.Repairing.{indexes_no_extra, ExtrasShown, shown_extras, all_extra}
 
 -- ---- fronts of lists
 
@@ -118,7 +119,7 @@ indexes_show_none : (n : ℕ) (p : Piece) → flat (take n (indexes_of p)) ≡ [
 indexes_show_none n (block records) = ap flat (map_taken (index_top records) n (logged_channels records)) ∙ indexes_flat records (take n (logged_channels records))
 indexes_show_none n (alone r) = ap flat (take_none n [] refl)
 
-head_flat : (p : Piece) → flat (piece_tops p) ≡ map rec_top (piece_records p) → flattened (head_of p) ≡ map rec_top (piece_records p)
+head_flat : (p : Piece) → flat (piece_tops p) ≡ map rec_top (body_of (piece_records p)) → flattened (head_of p) ≡ map rec_top (body_of (piece_records p))
 head_flat p is =
     let all : take (length (indexes_of p)) (indexes_of p) ≡ indexes_of p = ap (take (length (indexes_of p))) (sym (append-nil (indexes_of p))) ∙ take-append_seam (indexes_of p) [] in
     let none : flat (indexes_of p) ≡ [] = ap flat (sym all) ∙ indexes_show_none (length (indexes_of p)) p in
@@ -143,21 +144,58 @@ begun_behind (suc j) (q ∷ ps) (suc n) p at =
 next_piece : (p : Piece) (ps : List Piece) (more : List Top) → flat_map piece_tops (p ∷ ps) ++ more ≡ head_of p ∷ (indexes_of p ++ (flat_map piece_tops ps ++ more))
 next_piece p ps more = append_assoc (piece_tops p) (flat_map piece_tops ps) more ∙ ap (λ (l : List Top). l ++ (flat_map piece_tops ps ++ more)) (piece_split p)
 
-begun_flat : (j : ℕ) (ps : List Piece) (more : List Top) → ((n : ℕ) (p : Piece) → At ps n p → flat (piece_tops p) ≡ map rec_top (piece_records p)) → ((n : ℕ) → flat (take n more) ≡ [])
-    → flat (take j (flat_map piece_tops ps ++ more)) ≡ map rec_top (held (take (begun_in j ps) ps))
-begun_flat j [] more shows none = none j ∙ ap (λ (l : List Piece). map rec_top (held l)) (sym (take_none (begun_in j []) [] refl))
+begun_flat : (j : ℕ) (ps : List Piece) (more : List Top) → ((n : ℕ) (p : Piece) → At ps n p → flat (piece_tops p) ≡ map rec_top (body_of (piece_records p))) → ((n : ℕ) → flat (take n more) ≡ [])
+    → flat (take j (flat_map piece_tops ps ++ more)) ≡ map rec_top (body_of (held (take (begun_in j ps) ps)))
+begun_flat j [] more shows none = none j ∙ ap (λ (l : List Piece). map rec_top (body_of (held l))) (sym (take_none (begun_in j []) [] refl))
 begun_flat zero (p ∷ ps) more shows none = refl
 begun_flat (suc j) (p ∷ ps) more shows none =
     let m = j - length (indexes_of p) in
     let rest = flat_map piece_tops ps ++ more in
     let cut : take (suc j) (flat_map piece_tops (p ∷ ps) ++ more) ≡ head_of p ∷ (take j (indexes_of p) ++ take m rest) =
     ap (take (suc j)) (next_piece p ps more) ∙ ap (λ (l : List Top). head_of p ∷ l) (take_parts j (indexes_of p) rest) in
-    let later : flat (take j (indexes_of p) ++ take m rest) ≡ map rec_top (held (take (begun_in m ps) ps)) =
+    let later : flat (take j (indexes_of p) ++ take m rest) ≡ map rec_top (body_of (held (take (begun_in m ps) ps))) =
     flat_map-append flattened (take j (indexes_of p)) (take m rest) ∙ ap (λ (l : List Top). l ++ flat (take m rest)) (indexes_show_none j p) ∙ begun_flat m ps more (λ n q at. shows (suc n) q at) none in
     ap flat cut
     ∙ ap (λ (l : List Top). flattened (head_of p) ++ l) later
-    ∙ ap (λ (l : List Top). l ++ map rec_top (held (take (begun_in m ps) ps))) (head_flat p (shows 0 p refl))
-    ∙ sym (map-append rec_top (piece_records p) (held (take (begun_in m ps) ps)))
+    ∙ ap (λ (l : List Top). l ++ map rec_top (body_of (held (take (begun_in m ps) ps)))) (head_flat p (shows 0 p refl))
+    ∙ sym (ap (map rec_top) (body_append (piece_records p) (held (take (begun_in m ps) ps))) ∙ map-append rec_top (body_of (piece_records p)) (body_of (held (take (begun_in m ps) ps))))
+
+-- of the first so many records the extras are those of the pieces that begin among them, and those behind the pieces
+index_no_extra : (n : ℕ) (p : Piece) → filter is_extra (take n (indexes_of p)) ≡ []
+index_no_extra n (block records) = ap (filter is_extra) (map_taken (index_top records) n (logged_channels records)) ∙ indexes_no_extra records (take n (logged_channels records))
+index_no_extra n (alone r) = ap (filter is_extra) (take_none n [] refl)
+
+head_extra : (p : Piece) → ExtrasShown p → filter is_extra (head_of p ∷ []) ≡ extras_in (piece_records p)
+head_extra p shown =
+    let all : take (length (indexes_of p)) (indexes_of p) ≡ indexes_of p = ap (take (length (indexes_of p))) (sym (append-nil (indexes_of p))) ∙ take-append_seam (indexes_of p) [] in
+    let none : filter is_extra (indexes_of p) ≡ [] = ap (filter is_extra) (sym all) ∙ index_no_extra (length (indexes_of p)) p in
+    sym (append-nil (filter is_extra (head_of p ∷ []))) ∙ ap (λ (l : List Top). filter is_extra (head_of p ∷ []) ++ l) (sym none)
+    ∙ sym (filter-append is_extra (head_of p ∷ []) (indexes_of p)) ∙ ap (filter is_extra) (sym (piece_split p)) ∙ shown
+
+begun_extras : (j : ℕ) (ps : List Piece) (more : List Top) → ((n : ℕ) (p : Piece) → At ps n p → ExtrasShown p)
+    → filter is_extra (take j (flat_map piece_tops ps ++ more)) ≡ extras_in (held (take (begun_in j ps) ps)) ++ filter is_extra (take (j - length (flat_map piece_tops ps)) more)
+begun_extras j [] more shows =
+    let same : j ≡ j - 0 = omega arith in
+    ap (λ (m : ℕ). filter is_extra (take m more)) same ∙ ap (λ (l : List Piece). extras_in (held l) ++ filter is_extra (take (j - 0) more)) (sym (take_none (begun_in j []) [] refl))
+begun_extras zero (p ∷ ps) more shows =
+    let none : zero ≡ zero - length (flat_map piece_tops (p ∷ ps)) = omega arith in
+    ap (λ (m : ℕ). filter is_extra (take m more)) none
+begun_extras (suc j) (p ∷ ps) more shows =
+    let m = j - length (indexes_of p) in
+    let rest = flat_map piece_tops ps ++ more in
+    let head = head_of p ∷ [] in
+    let cut : take (suc j) (flat_map piece_tops (p ∷ ps) ++ more) ≡ head ++ (take j (indexes_of p) ++ take m rest) =
+    ap (take (suc j)) (next_piece p ps more) ∙ ap (λ (l : List Top). head_of p ∷ l) (take_parts j (indexes_of p) rest) in
+    let one = ap (λ (l : List Top). length l) (piece_split p) in
+    let left : m - length (flat_map piece_tops ps) ≡ suc j - length (flat_map piece_tops (p ∷ ps)) = omega (arith, one, length-append (piece_tops p) (flat_map piece_tops ps)) in
+    let later : filter is_extra (take j (indexes_of p) ++ take m rest) ≡ extras_in (held (take (begun_in m ps) ps)) ++ filter is_extra (take (suc j - length (flat_map piece_tops (p ∷ ps))) more) =
+    filter-append is_extra (take j (indexes_of p)) (take m rest) ∙ ap (λ (l : List Top). l ++ filter is_extra (take m rest)) (index_no_extra j p)
+    ∙ begun_extras m ps more (λ n q at. shows (suc n) q at) ∙ ap (λ (k : ℕ). extras_in (held (take (begun_in m ps) ps)) ++ filter is_extra (take k more)) left in
+    ap (filter is_extra) cut ∙ filter-append is_extra head (take j (indexes_of p) ++ take m rest)
+    ∙ ap (λ (l : List Top). l ++ filter is_extra (take j (indexes_of p) ++ take m rest)) (head_extra p (shows 0 p refl))
+    ∙ ap (λ (l : List Top). extras_in (piece_records p) ++ l) later
+    ∙ sym (append_assoc (extras_in (piece_records p)) (extras_in (held (take (begun_in m ps) ps))) (filter is_extra (take (suc j - length (flat_map piece_tops (p ∷ ps))) more)))
+    ∙ ap (λ (l : List Top). l ++ filter is_extra (take (suc j - length (flat_map piece_tops (p ∷ ps))) more)) (sym (extras_append (piece_records p) (held (take (begun_in m ps) ps))))
 
 -- ---- offsets in a file
 
@@ -189,7 +227,7 @@ piece_behind options before p =
 section_behind : (options : FileOptions) (extras : List Top) (history : List Rec) → length (section options extras history) ≡ offset_behind (section_tops options extras history)
 section_behind options extras history =
     let h = header_top options.profile in
-    let ps = pieces_of options.chunk history in
+    let ps = pieces_of options.chunk options.span history in
     let pieces = ap (λ (l : List ℕ). length l) (pieces_spelled ps) in
     let inner = ap (λ (l : List ℕ). length l) (flat_map-append top_bytes (flat_map piece_tops ps) extras) in
     omega (
@@ -212,15 +250,15 @@ record FirstOnes (options : FileOptions) (extras : List Top) (history : List Rec
   header : 0 < k → profile ≡ options.profile
   no_header : k ≡ 0 → profile ≡ []
   piece_count : ℕ
-  flat_are : flat (take k tops) ≡ map rec_top (held (take piece_count (pieces_of options.chunk history)))
-  pieces_are : (n : ℕ) (p : Piece) → At (pieces_of options.chunk history) n p → (n < piece_count) ↔ (length (flat_map piece_tops (take n (pieces_of options.chunk history))) + 2 ≤ k)
+  flat_are : flat (take k tops) ≡ map rec_top (body_of (held (take piece_count (pieces_of options.chunk options.span history))))
+  pieces_are : (n : ℕ) (p : Piece) → At (pieces_of options.chunk options.span history) n p → (n < piece_count) ↔ (length (flat_map piece_tops (take n (pieces_of options.chunk options.span history))) + 2 ≤ k)
   extra_count : ℕ
-  extras_there : filter is_extra (take k tops) ≡ take extra_count extras
-  extras_are : (n : ℕ) (t : Top) → At extras n t → (n < extra_count) ↔ (length (flat_map piece_tops (pieces_of options.chunk history)) + n + 2 ≤ k)
+  extras_there : filter is_extra (take k tops) ≡ extras_in (held (take piece_count (pieces_of options.chunk options.span history))) ++ take extra_count extras
+  extras_are : (n : ℕ) (t : Top) → At extras n t → (n < extra_count) ↔ (length (flat_map piece_tops (pieces_of options.chunk options.span history)) + n + 2 ≤ k)
 
 module _ (options : FileOptions) (extras : List Top) (history : List Rec) (written : CanStand options extras history) where
   abbrev ps : List Piece
-  ps = pieces_of options.chunk history
+  ps = pieces_of options.chunk options.span history
 
   abbrev behind_pieces : List Top
   behind_pieces = extras ++ end_top ∷ []
@@ -232,7 +270,7 @@ module _ (options : FileOptions) (extras : List Top) (history : List Rec) (writt
   tops_are = ap (λ (l : List Top). header_top options.profile ∷ l) (append_assoc (flat_map piece_tops ps) extras (end_top ∷ []))
 
   shows_none : (n : ℕ) → flat (take n behind_pieces) ≡ []
-  shows_none n = flat_none (take n behind_pieces) (each_taken (λ t. flattened t ≡ []) behind_pieces n (each_joined (λ t. flattened t ≡ []) extras (end_top ∷ []) (λ m t at. extra_flat t (written.extras_meet m t at)) (end_shows)))
+  shows_none n = flat_none (take n behind_pieces) (each_taken (λ t. flattened t ≡ []) behind_pieces n (each_joined (λ t. flattened t ≡ []) extras (end_top ∷ []) (λ m t at. extra_flat t (extras_behind options extras history written m t at)) (end_shows)))
     where
       end_shows : Each (λ t. flattened t ≡ []) (end_top ∷ [])
       end_shows zero t at = ap flattened (let same : end_top ≡ t = cc in sym same)
@@ -243,14 +281,12 @@ module _ (options : FileOptions) (extras : List Top) (history : List Rec) (writt
       let past = m - length extras in
       ap (filter is_extra) (take_parts m extras (end_top ∷ [])) ∙ filter-append is_extra (take m extras) (take past (end_top ∷ []))
       ∙ ap (λ (l : List Top). filter is_extra (take m extras) ++ l) (filtered_none is_extra past (end_top ∷ []) refl)
-      ∙ append-nil (filter is_extra (take m extras)) ∙ all_extra (take m extras) (each_taken IsExtra extras m written.extras_meet)
+      ∙ append-nil (filter is_extra (take m extras)) ∙ all_extra (take m extras) (each_taken IsExtra extras m (extras_behind options extras history written))
 
-  all_taken : (j : ℕ) → filter is_extra (take j (flat_map piece_tops ps ++ behind_pieces)) ≡ take (j - length (flat_map piece_tops ps)) extras
+  all_taken : (j : ℕ) → filter is_extra (take j (flat_map piece_tops ps ++ behind_pieces)) ≡ extras_in (held (take (begun_in j ps) ps)) ++ take (j - length (flat_map piece_tops ps)) extras
   all_taken j =
-      let front = flat_map piece_tops ps in
-      let m = j - length front in
-      ap (filter is_extra) (take_parts j front behind_pieces) ∙ filter-append is_extra (take j front) (take m behind_pieces)
-      ∙ ap (λ (l : List Top). l ++ filter is_extra (take m behind_pieces)) (filtered_none is_extra j front (pieces_no_extra ps)) ∙ extras_taken m
+      begun_extras j ps behind_pieces (shown_extras options extras history written)
+      ∙ ap (λ (l : List Top). extras_in (held (take (begun_in j ps) ps)) ++ l) (extras_taken (j - length (flat_map piece_tops ps)))
 
   first_ones : (k : ℕ) → FirstOnes options extras history tops_of_file k
   unfolding header_is
@@ -308,12 +344,12 @@ module _ (options : FileOptions) (extras : List Top) (history : List Rec) (writt
   -- ---- a first part that holds these
 
   repaired_front : (k : ℕ) (first : FirstOnes options extras history tops_of_file k)
-      → Repairs (take k tops_of_file) first.profile (filter is_extra (take k tops_of_file)) (without_repeats (held (take first.piece_count ps)))
+      → Repairs (take k tops_of_file) first.profile (filter is_extra (take k tops_of_file)) (without_repeats (body_of (held (take first.piece_count ps))))
   repaired_front k first = record {
     profile_is = first.profile_is;
     extras_are = refl;
-    flattened = held (take first.piece_count ps);
-    are_flattened = subst (λ (l : List Top). AllZip IsRec l (held (take first.piece_count ps))) (sym first.flat_are) (zip_back (held (take first.piece_count ps)) back);
+    flattened = body_of (held (take first.piece_count ps));
+    are_flattened = subst (λ (l : List Top). AllZip IsRec l (body_of (held (take first.piece_count ps)))) (sym first.flat_are) (zip_back (body_of (held (take first.piece_count ps))) (each_body IsReadBack (held (take first.piece_count ps)) back));
     history_is = refl;
   }
     where
@@ -322,7 +358,7 @@ module _ (options : FileOptions) (extras : List Top) (history : List Rec) (writt
       zip_back (r ∷ rs) each = (each zero r refl, zip_back rs (λ n x at. each (suc n) x at))
 
       all_back : Each IsReadBack (held ps)
-      all_back = subst (Each IsReadBack) (sym (pieces_hold options.chunk history)) written.records_fit
+      all_back = each_held IsReadBack options.chunk options.span history written.records_fit
 
       back : Each IsReadBack (held (take first.piece_count ps))
       back = each_front (held (take first.piece_count ps)) (held (drop first.piece_count ps))
@@ -401,7 +437,7 @@ fronts_are_repaired options some extras history written readable prefix v1 =
     let are = halted.whole_to_there in
     let first = first_ones options extras history stand k in
     let joined : take k tops ++ drop k tops ≡ tops = take-append-drop k tops in
-    let header = whole_to some k tops (header_top options.profile ∷ []) (flat_map piece_tops (pieces_of options.chunk history) ++ (extras ++ end_top ∷ [])) refl are in
+    let header = whole_to some k tops (header_top options.profile ∷ []) (flat_map piece_tops (pieces_of options.chunk options.span history) ++ (extras ++ end_top ∷ [])) refl are in
     let size = header_behind options.profile in
     record {
       whole = take k tops;
@@ -413,7 +449,7 @@ fronts_are_repaired options some extras history written readable prefix v1 =
       short = halted.short;
       profile = first.profile;
       kept = filter is_extra (take k tops);
-      first = without_repeats (held (take first.piece_count (pieces_of options.chunk history)));
+      first = without_repeats (body_of (held (take first.piece_count (pieces_of options.chunk options.span history))));
       repaired = record { tops = take k tops; kept = kept_by k halted; repairs = repaired_front options extras history stand k first };
       header = λ there. first.header (header.1 (omega (arith, there, size)));
       no_header = λ cut. first.no_header (none_by k header.0 cut size);
@@ -421,9 +457,9 @@ fronts_are_repaired options some extras history written readable prefix v1 =
       first_is = refl;
       pieces_are = λ n p at.
           let (more, split) = piece_cut options extras history stand n p at in
-          let (to, from) = whole_to some k tops (header_top options.profile ∷ (flat_map piece_tops (take n (pieces_of options.chunk history)) ++ head_of p ∷ [])) more split are in
-          let place = piece_behind options (take n (pieces_of options.chunk history)) p in
-          let count = length-append (flat_map piece_tops (take n (pieces_of options.chunk history))) (head_of p ∷ []) in
+          let (to, from) = whole_to some k tops (header_top options.profile ∷ (flat_map piece_tops (take n (pieces_of options.chunk options.span history)) ++ head_of p ∷ [])) more split are in
+          let place = piece_behind options (take n (pieces_of options.chunk options.span history)) p in
+          let count = length-append (flat_map piece_tops (take n (pieces_of options.chunk options.span history))) (head_of p ∷ []) in
           let (shown, there) = first.pieces_are n p at in (
             λ less. let few = shown less in let within = to (omega (arith, few, count)) in omega (arith, within, place),
             λ within. let few = from (omega (arith, within, place)) in there (omega (arith, few, count)),
@@ -435,7 +471,7 @@ fronts_are_repaired options some extras history written readable prefix v1 =
           let a = section_tops options (take n extras ++ t ∷ []) history in
           let (to, from) = whole_to some k tops a more split are in
           let place = section_behind options (take n extras ++ t ∷ []) history in
-          let count = length-append (flat_map piece_tops (pieces_of options.chunk history)) (take n extras ++ t ∷ []) in
+          let count = length-append (flat_map piece_tops (pieces_of options.chunk options.span history)) (take n extras ++ t ∷ []) in
           let last = length-append (take n extras) (t ∷ []) in
           let taken = length-take_at extras n t at in
           let (shown, there) = first.extras_are n t at in (

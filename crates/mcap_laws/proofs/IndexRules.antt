@@ -1,42 +1,46 @@
 -- The indexes of chunks, of attachments and of metadata in a summary, and what makes a file fully indexed.
-use Rattle.std.proofs.Common.{◌≡◌, ℕ, suc, ◌+◌, ◌^◌, ◌<◌, ◌≤◌, false, List, [], ◌∷◌, ◌++◌, length, take, map, refl, sym, ap, subst, inl, inr, ◌∙◌, arith}
+use Rattle.std.proofs.Common.{◌≡◌, ℕ, suc, ◌+◌, ◌^◌, ◌<◌, ◌≤◌, ◌⊎◌, true, false, append_assoc, List, [], ◌∷◌, ◌++◌, length, take, map, refl, sym, ap, subst, inl, inr, ◌∙◌, arith}
 use Rattle.std.specs.Prelude.{◌==◌, ◌≢◌, slice_get}
 use Rattle.std.specs.List.{flat_map}
-use Rattle.std.proofs.lemmas.Bool.{eqb-true}
+use Rattle.std.proofs.lemmas.Bool.{eqb-true, both_ways}
 use Rattle.std.proofs.lemmas.List.{length-append, take-append-le}
 use Rattle.std.proofs.lemmas.List.Kept.{AllPairs-filter}
 use Rattle.rec_data.specs.declared.owned.Rec.{Rec}
+use Rattle.rec_data.specs.declared.owned.Rec.TheVariants.{Schema, Channel, Message, Extra}
+use Rattle.rec_data.proofs.OwnedReading.{extra_not}
+use Rattle.std.proofs.Math.Seq.{take-append_seam}
 use Rattle.rec_data.specs.Owned.{rec_text}
 use Rattle.mcap_model.specs.Places.{At, Has, Each, EachBehind}
 use Rattle.mcap_model.specs.Tops.{Top, top_bytes, spelled, offset_behind, flat}
 use Rattle.mcap_model.specs.Fields.{IsHeader, MessageFields, IsMessage, IsChannel, ChunkIndexFields, IsChunkIndex, AttachmentFields, IsAttachment, AttachmentIndexFields, IsAttachmentIndex, IsMetadata, IsMetadataIndex}
 use Rattle.mcap_model.specs.Rules.{Agrees, stands_in_section}
-use Rattle.mcap_model.specs.History.{rec_top, channel_of, is_channel, without_repeats}
-use Rattle.mcap_model.specs.Blocks.{Piece, block, Logged, logged, logged_channels, entries_for, least, greatest, chunk_bytes, indexes_bytes, pieces_bytes, written_fields}
+use Rattle.mcap_model.specs.History.{rec_top, channel_of, is_channel, is_inner, without_repeats}
+use Rattle.mcap_model.specs.Blocks.{Piece, block, alone, Logged, logged, logged_channels, entries_for, least, greatest, chunk_bytes, indexes_bytes, pieces_bytes, written_fields}
 use Rattle.mcap_model.specs.Summary.{Noted, Group, groups_of, extras_of_kind, statistics_content, chunk_index_content, attachment_index_content, metadata_index_content, channels_of, written_index, group_bytes}
 use Rattle.mcap_model.specs.AttachmentIndexes.{indexed_attachment}
-use Rattle.mcap_model.specs.File.{blocks_from, extras_from}
+use Rattle.mcap_model.specs.File.{blocks_from, alone_from, extras_from}
 use Rattle.mcap_model.specs.Whole.{StandsAt, InSummary, ChunkIndexIsRight, V12, AttachmentIndexIsRight, MetadataIndexIsRight, V13}
 use Rattle.mcap_model.specs.Valid.{Keeps, HasIndex, SummaryHasChannel}
 use Rattle.mcap_model.specs.Laws.{IsNumberedRec, chunk_top, index_top}
 use Rattle.mcap_model.specs.ReadBack.{IsReadBack, IsExtra}
-use Rattle.mcap_model.proofs.Places.{at_within, at_kept}
+use Rattle.mcap_model.proofs.Places.{at_none, at_within, at_kept, at_last}
 use Rattle.mcap_model.proofs.ReadBack.{at_map}
 use Rattle.mcap_model.proofs.Readings.{top_of}
 use Rattle.mcap_model.proofs.Histories.{channel_shown}
 use Rattle.mcap_model.proofs.WrittenChunks.{each_map}
-use Rattle.mcap_model.proofs.Lists.{each_cons, each_joined, at_second, take_second, has_taken, filter_passed, pairs_at}
+use Rattle.mcap_model.proofs.Lists.{each_cons, each_joined, at_second, take_second, has_taken, filter_passed, pairs_at, pairs_from, at_either, cut_flat}
+use Rattle.mcap_model.proofs.Readings.{length-top}
 use Rattle.mcap_model.proofs.Edges.{end_top}
 use Rattle.mcap_model.proofs.Shape.{whole, summary_there, within_summary}
 use Rattle.mcap_model.specs.Recovery.{piece_records}
-use Rattle.mcap_model.proofs.Section.{piece_tops, PieceIsSound, IsRight, pieces_spelled, each_flat}
+use Rattle.mcap_model.proofs.Section.{piece_tops, PieceIsSound, IsRight, pieces_spelled, each_flat, extra_not_kind}
 use Rattle.mcap_model.proofs.Files.{groups_tops, group_tops, offset_tops, footer_top, length-spelled_append}
 use Rattle.mcap_model.proofs.Logged.{logs_channel}
 use Rattle.mcap_model.proofs.ShownBack.{length-offsets, is_offset, chunk_index_shown, chunk_index_shows}
 use Rattle.mcap_model.proofs.ExtraIndexes.{attachment_index_shows, metadata_index_shows}
 use Rattle.mcap_model.proofs.Distinct.{rec_id, as_channel}
 use Rattle.mcap_model.proofs.Groups.{in_front, IsOfKind, of_kind_there, kinds_rise, content_there}
-use Rattle.mcap_model.proofs.Standing.{bytes_before, blocks_are, are_blocks, blocks_rise, extras_are, extras_rise, block_stands}
+use Rattle.mcap_model.proofs.Standing.{bytes_before, Rises, blocks_are, are_blocks, blocks_rise, IsAloneAt, alone_are, alone_rise, extras_are, extras_rise, block_stands}
 use Rattle.mcap_laws.proofs.BlockIndexes.{block_index, block_names, is_named, message_logged, chunk_of}
 use Rattle.mcap_model.proofs.Front.{summary_only, body_only, each_kind, tail_not}
 use Rattle.mcap_laws.proofs.Tails.{full_groups, full_tops, full_apart, each_full, chunk_index_group, statistics_group, channel_group, NotedFits, summary_tail, channels_has}
@@ -50,7 +54,11 @@ abbrev pub body_at : Top → ℕ
 body_at header = 8 + length (top_bytes header)
 
 abbrev pub noted_of : Top → List Piece → List Top → List Rec → Noted
-noted_of header ps extras history = record { records = history; blocks = blocks_from (body_at header) ps; extras = extras_from (body_at header + length (pieces_bytes ps)) extras }
+noted_of header ps extras history = record {
+  records = history;
+  blocks = blocks_from (body_at header) ps;
+  extras = alone_from (body_at header) ps ++ extras_from (body_at header + length (pieces_bytes ps)) extras;
+}
 
 module _ (header : Top) (ps : List Piece) (extras : List Top) (history : List Rec) (at : ℕ)
     (is_header : IsHeader header) (right : Each IsRight (flat_map piece_tops ps ++ extras)) (fits : NotedFits (noted_of header ps extras history) at) (at_is : at ≡ offset_behind ((header ∷ (flat_map piece_tops ps ++ extras)) ++ end_top ∷ []))
@@ -122,7 +130,7 @@ module _ (header : Top) (ps : List Piece) (extras : List Top) (history : List Re
       let i = index_at j t at_j is.kind in
       let b = i.block in
       let own = blocks_are (body_at header) ps i.kind.i b i.at_block in
-      let stands = block_stands header ps extras summary foot own.k b.1 are own.at in
+      let stands = block_stands header ps extras summary foot own.k b.1 back are own.at in
       let offset : b.0 ≡ offset_behind (before own.k) = own.offset ∙ before_offset own.k in
       let fields = index_fields j t f i is in
       subst (ChunkIndexIsRight tops p) fields (record {
@@ -157,6 +165,52 @@ module _ (header : Top) (ps : List Piece) (extras : List Top) (history : List Re
       let pieces = ap length (pieces_spelled ps) in
       (suc (m + k), here, omega (arith, bytes, parts, more, pieces, is))
 
+  -- a record at top level of a piece stands at its offset
+  alone_stands : (e : ℕ × Top) → IsAloneAt (body_at header) ps e → StandsAt tops e.0 e.1
+  alone_stands e is =
+      let cut = cut_flat piece_tops ps is.k (alone is.record_there) is.at in
+      let before_it = flat_map piece_tops (take is.k ps) in
+      let rest = end_top ∷ (summary ++ foot ∷ []) in
+      let joined : tops ≡ (header ∷ before_it) ++ (rec_top is.record_there ∷ ((flat_map piece_tops cut.0 ++ extras) ++ rest)) =
+      ap (λ (l : List Top). header ∷ ((l ++ extras) ++ rest)) cut.1 ∙ join_alone header before_it (rec_top is.record_there) (flat_map piece_tops cut.0) extras rest in
+      let here : At tops (length (header ∷ before_it)) e.1 = subst (λ (x : Top). At tops (length (header ∷ before_it)) x) (sym is.top_is) (subst (λ (l : List Top). At l (length (header ∷ before_it)) (rec_top is.record_there)) (sym joined) (at_last (header ∷ before_it) (rec_top is.record_there) ((flat_map piece_tops cut.0 ++ extras) ++ rest))) in
+      let front : take (length (header ∷ before_it)) tops ≡ header ∷ before_it = ap (take (length (header ∷ before_it))) joined ∙ take-append_seam (header ∷ before_it) (rec_top is.record_there ∷ ((flat_map piece_tops cut.0 ++ extras) ++ rest)) in
+      let bytes = ap offset_behind front in
+      let parts = length-append (top_bytes header) (spelled before_it) in
+      (length (header ∷ before_it), here, omega (arith, bytes, parts, is.offset))
+    where
+      join_alone : (h : Top) (a : List Top) (r : Top) (b e z : List Top) → h ∷ (((a ++ ((r ∷ []) ++ b)) ++ e) ++ z) ≡ (h ∷ a) ++ (r ∷ ((b ++ e) ++ z))
+      join_alone h a r b e z = simp append_assoc refl
+
+  -- each that is noted stands at its offset
+  noted_stands : (k : ℕ) (e : ℕ × Top) → At n.extras k e → StandsAt tops e.0 e.1
+  noted_stands k e there = elim (at_either (alone_from (body_at header) ps) (extras_from (body_at header + length (pieces_bytes ps)) extras) k e there) [
+    | inl first ↦ alone_stands e (alone_are (body_at header) ps k e first)
+    | inr (m, is, second) ↦ let own = extras_are (body_at header + length (pieces_bytes ps)) extras m e second in extra_stands m e.1 e.0 own.0 own.1
+  ]
+
+  -- their offsets rise
+  noted_rise : Rises n.extras
+  noted_rise = pairs_from (λ (x y : ℕ × Top). x.0 < y.0) n.extras (λ i j x y less at_x at_y.
+      by i j x y less (at_either (alone_from (body_at header) ps) (extras_from (body_at header + length (pieces_bytes ps)) extras) i x at_x) (at_either (alone_from (body_at header) ps) (extras_from (body_at header + length (pieces_bytes ps)) extras) j y at_y))
+    where
+      by : (i j : ℕ) (x y : ℕ × Top) → i < j → At (alone_from (body_at header) ps) i x ⊎ ((k : ℕ) × (i ≡ length (alone_from (body_at header) ps) + k) × At (extras_from (body_at header + length (pieces_bytes ps)) extras) k x)
+          → At (alone_from (body_at header) ps) j y ⊎ ((k : ℕ) × (j ≡ length (alone_from (body_at header) ps) + k) × At (extras_from (body_at header + length (pieces_bytes ps)) extras) k y) → x.0 < y.0
+      by i j x y less (inl a) (inl b) = pairs_at (λ (u v : ℕ × Top). u.0 < v.0) (alone_from (body_at header) ps) (alone_rise (body_at header) ps) i j x y less a b
+      by i j x y less (inl a) (inr (m, is, b)) =
+          let one = alone_are (body_at header) ps i x a in
+          let two = extras_are (body_at header + length (pieces_bytes ps)) extras m y b in
+          let offset = two.1 in
+          let cut = cut_flat piece_tops ps one.k (alone one.record_there) one.at in
+          let size = ap (λ (l : List Top). length (spelled l)) cut.1 in
+          let parts = length-spelled_append (flat_map piece_tops (take one.k ps)) (rec_top one.record_there ∷ flat_map piece_tops cut.0) in
+          let own = length-append (top_bytes (rec_top one.record_there)) (spelled (flat_map piece_tops cut.0)) in
+          let pieces = ap length (pieces_spelled ps) in
+          omega (arith, one.offset, offset, size, parts, own, pieces, length-top (rec_top one.record_there))
+      by i j x y less (inr (k, is, a)) (inl b) = let within = at_within (alone_from (body_at header) ps) j y b in absurd (omega (arith, less, is, within))
+      by i j x y less (inr (k, is_k, a)) (inr (m, is_m, b)) =
+          pairs_at (λ (u v : ℕ × Top). u.0 < v.0) (extras_from (body_at header + length (pieces_bytes ps)) extras) (extras_rise (body_at header + length (pieces_bytes ps)) extras) k m x y (omega (arith, less, is_k, is_m)) a b
+
   pub record IsExtraAt (op own : ℕ) (content : ℕ × Top → List ℕ) (j : ℕ) (t : Top) : Type 0 where
     pub kind : IsOfKind (full_groups at n) op (map content (extras_of_kind own n.extras)) j t
     pub extra : ℕ × Top
@@ -170,21 +224,20 @@ module _ (header : Top) (ps : List Piece) (extras : List Top) (history : List Re
   extra_at op own content j t k =
       let (e, at_e, same) = at_map content (extras_of_kind own n.extras) k.i k.content k.content_at in
       let (has, passes) = filter_passed (λ (x : ℕ × Top). x.1.op == own) n.extras k.i e at_e in
-      let there = extras_are (body_at header + length (pieces_bytes ps)) extras has.0 e has.1 in
       record {
         kind = k;
         extra = e;
         at_extra = at_e;
         is = k.is ∙ ap (top_of op) {y = content e} same;
         own_kind = eqb-true e.1.op own passes;
-        stands = extra_stands has.0 e.1 e.0 there.0 there.1;
+        stands = noted_stands has.0 e has.1;
         fits_there = fits.extras has.0 e has.1;
       }
 
   extras_up : (op own : ℕ) (content : ℕ × Top → List ℕ) (j m : ℕ) (t u : Top) → j < m → (a : IsExtraAt op own content j t) → (b : IsExtraAt op own content m u) → a.extra.0 < b.extra.0
   extras_up op own content j m t u less a b =
       let rise = kinds_rise (full_groups at n) op (map content (extras_of_kind own n.extras)) j m t u (full_apart at n) less a.kind b.kind in
-      let ups = AllPairs-filter (λ (x y : ℕ × Top). x.0 < y.0) (λ x. x.1.op == own) n.extras (extras_rise (body_at header + length (pieces_bytes ps)) extras) in
+      let ups = AllPairs-filter (λ (x y : ℕ × Top). x.0 < y.0) (λ x. x.1.op == own) n.extras noted_rise in
       pairs_at (λ (x y : ℕ × Top). x.0 < y.0) (extras_of_kind own n.extras) ups a.kind.i b.kind.i a.extra b.extra rise a.at_extra b.at_extra
 
   attachment_at : (j : ℕ) (t : Top) → At summary j t → t.op ≡ 10 → IsExtraAt 10 9 attachment_index_content j t
@@ -273,7 +326,7 @@ module _ (header : Top) (ps : List Piece) (extras : List Top) (history : List Re
       let content : At (map chunk_index_content n.blocks) has.0 (chunk_index_content (offset, records)) = at_mapped chunk_index_content n.blocks has.0 (offset, records) has.1 in
       let (p, there, within) = stands_there 3 (chunk_index_group n) has.0 (chunk_index_content (offset, records)) refl content in
       let one = fits.blocks has.0 (offset, records) has.1 in
-      let stands = block_stands header ps extras summary foot k records are own in
+      let stands = block_stands header ps extras summary foot k records back are own in
       let is = before_offset k in
       record {
         place = p;
@@ -332,18 +385,26 @@ module _ (header : Top) (ps : List Piece) (extras : List Top) (history : List Re
       let shown : IsChannel (top_of 4 (rec_text x)) channel f = subst (λ (k : ℕ). IsChannel (top_of 4 (rec_text x)) k f) (sym id_is) (subst (λ (r : Rec). IsChannel (top_of 4 (rec_text r)) (rec_id x) f) (sym x_is) (channel_shown (rec_id x) f back_x)) in
       record { place = p; top = top_of 4 (rec_text x); shown = f; at = at_p; within = within; is = shown }
 
-  pub no_message : ((k : ℕ) (p : Piece) → At ps k p → (records : List Rec) × (p ≡ block records)) → Each (λ t. t.op ≢ 5) tops
+  pub no_message : ((k : ℕ) (p : Piece) → At ps k p → ((records : List Rec) × (p ≡ block records)) ⊎ ((r : Rec) × (p ≡ alone r) × (is_inner r ≡ false))) → Each (λ t. t.op ≢ 5) tops
   no_message blocks = each_kind header body summary foot at behind_groups (summary_crc n at) is_header right (summary_tail n at fits) (foot_is header body n at is_header right fits at_is) (λ t. t.op ≢ 5)
       (λ e. omega (arith, is_header.kind, e))
       (each_joined (λ t. t.op ≢ 5) (flat_map piece_tops ps) extras
-      (each_flat (λ t. t.op ≢ 5) piece_tops ps (λ k p own. let (records, same) = blocks k p own in subst (λ (q : Piece). Each (λ t. t.op ≢ 5) (piece_tops q)) (sym same) (block_not records)))
-      (λ k t own e. elim (are k t own).kind [
-        | inl a ↦ omega (arith, a, e)
-        | inr b ↦ omega (arith, b, e)
+      (each_flat (λ t. t.op ≢ 5) piece_tops ps (λ k p own. elim (blocks k p own) [
+        | inl (records, same) ↦ subst (λ (q : Piece). Each (λ t. t.op ≢ 5) (piece_tops q)) (sym same) (block_not records)
+        | inr (r, same, aside) ↦
+            let own_back : IsReadBack r = back k (alone r) (subst (λ (q : Piece). At ps k q) same own) 0 r refl in
+            subst (λ (q : Piece). Each (λ t. t.op ≢ 5) (piece_tops q)) (sym same) (alone_not r own_back aside)
       ]))
+      (λ k t own e. extra_not_kind t.op (are k t own).kind 5 (omega arith) (λ a. omega (arith, a)) (λ a. omega (arith, a)) e))
       (λ e. omega (arith, e))
       (λ k t own. tail_not t 5 (summary_tail n at fits k t own) refl)
       (λ e. omega (arith, e))
     where
       block_not : (records : List Rec) → Each (λ t. t.op ≢ 5) (piece_tops (block records))
       block_not records = each_cons (λ t. t.op ≢ 5) (chunk_top records) (map (index_top records) (logged_channels records)) (λ e. omega (arith, e)) (each_map (index_top records) (λ t. t.op ≢ 5) (logged_channels records) (λ k id own e. omega (arith, e)))
+
+      alone_not : (r : Rec) → IsReadBack r → is_inner r ≡ false → Each (λ t. t.op ≢ 5) (piece_tops (alone r))
+      alone_not (Schema id s) own aside = absurd (both_ways true aside refl)
+      alone_not (Channel id schema topic encoding metadata) own aside = absurd (both_ways true aside refl)
+      alone_not (Message channel sequence log_time publish_time payload) own aside = absurd (both_ways true aside refl)
+      alone_not (Extra op content) own aside = each_cons (λ t. t.op ≢ 5) (rec_top (Extra op content)) [] (λ e. extra_not op content 5 own.2 (omega arith) e) (λ k t there. absurd (at_none k t there))

@@ -1,5 +1,5 @@
 -- What the premises of the laws on written files say, and that some files meet them.
-use Rattle.std.proofs.Common.{◌≡◌, ℕ, zero, suc, ◌+◌, ◌^◌, ◌<◌, List, [], ◌∷◌, ◌++◌, length, drop, map, Some, refl, sym, ap, subst, inl, ◌∙◌, arith}
+use Rattle.std.proofs.Common.{◌≡◌, ℕ, zero, suc, ◌+◌, ◌^◌, ◌<◌, List, [], ◌∷◌, ◌++◌, length, drop, map, Some, None, refl, sym, ap, subst, inl, ◌∙◌, arith}
 use Rattle.std.proofs.lemmas.List.{length-append}
 use Rattle.mcap_wire.specs.Layout.{le, string, prefixed}
 use Rattle.mcap_wire.proofs.Numbers.{length-le}
@@ -13,7 +13,7 @@ use Rattle.mcap_model.specs.Tops.{Top, flattened, flat}
 use Rattle.mcap_model.specs.Fields.{AttachmentFields, IsAttachment}
 use Rattle.mcap_model.specs.Rules.{V6, Agrees}
 use Rattle.mcap_model.specs.Kept.{reading_limits}
-use Rattle.mcap_model.specs.History.{rec_top, channel_of, Follows, Numbered}
+use Rattle.mcap_model.specs.History.{rec_top, is_inner, body_of, channel_of, Follows, Numbered}
 use Rattle.mcap_model.specs.Blocks.{pieces_of, blocks_in, logged_channels}
 use Rattle.mcap_model.specs.Summary.{messages_on}
 use Rattle.mcap_model.specs.File.{file_of}
@@ -22,9 +22,9 @@ use Rattle.mcap_model.specs.Laws.{IsNumberedRec, EntriesFit, CanBeWritten, GoodH
 use Rattle.mcap_model.specs.ReadBack.{IsReadBack, IsExtra}
 use Rattle.mcap_model.proofs.Places.{at_none}
 use Rattle.mcap_model.proofs.ReadBack.{schema_back}
-use Rattle.mcap_model.proofs.Histories.{recs_flat, recs_are_flat, numbered_ids_agree}
+use Rattle.mcap_model.proofs.Histories.{flat_of_recs, recs_are_flat, numbered_ids_agree}
 use Rattle.mcap_model.proofs.Meets.{attachment_meets}
-use Rattle.mcap_model.proofs.Lists.{each_cons}
+use Rattle.mcap_model.proofs.Lists.{each_cons, filter_has}
 use Rattle.mcap_model.proofs.ExtraIndexes.{behind_field}
 use Rattle.mcap_model.proofs.Distinct.{rec_id}
 use Rattle.mcap_model.proofs.Flat.{good_lists_agree, at_mapped}
@@ -36,9 +36,10 @@ use Rattle.mcap_model.proofs.WrittenChunks.{empty_utf8}
 
 -- ---- ids agree in a good list
 
-numbered_by : (history : List Rec) → Each IsReadBack history → Each V6 (map rec_top history) → Each IsNumberedRec history
+numbered_by : (history : List Rec) → Each IsReadBack history → Each V6 (map rec_top (body_of history)) → Each IsNumberedRec history
 numbered_by history back meets n r at id f same none =
-    let v6 = meets n (rec_top r) (at_mapped rec_top history n r at) in
+    let has = filter_has is_inner history n r at (ap is_inner same) in
+    let v6 = meets has.0 (rec_top r) (at_mapped rec_top (body_of history) has.0 r has.1) in
     let (own, g, is) = v6.schema (ap rec_opcode same) in
     let ids : id ≡ own = ap rec_id (sym same ∙ schema_back r own g (back n r at) is) in
     is.some (sym ids ∙ none)
@@ -47,8 +48,8 @@ pub good_histories_agree : GoodHistoriesAgree
 good_histories_agree header history back kind good =
     let both = good_lists_agree reading_limits (header ∷ map rec_top history) good in
     let none : flattened header ≡ [] = subst (λ (k : ℕ). flattened (record { op = k; content = header.content }) ≡ []) (sym kind) refl in
-    let same : flat (header ∷ map rec_top history) ≡ map rec_top history = ap (λ (l : List Top). l ++ flat (map rec_top history)) none ∙ recs_flat history in
-    (subst (EachBehind Agrees) (same ∙ sym (recs_are_flat history)) both.1, numbered_by history back (subst (Each V6) same both.0))
+    let same : flat (header ∷ map rec_top history) ≡ map rec_top (body_of history) = ap (λ (l : List Top). l ++ flat (map rec_top history)) none ∙ flat_of_recs history back in
+    (subst (EachBehind Agrees) (same ∙ sym (recs_are_flat history back)) both.1, numbered_by history back (subst (Each V6) same both.0))
 
 -- ---- an Attachment has a CRC
 
@@ -128,7 +129,7 @@ attachment_right = record {
       inl (ap (λ v. v.1.1.1.1.1.0) same);
 }
 
-one_block : blocks_in (pieces_of (Some 786432) one) ≡ one ∷ []
+one_block : blocks_in (pieces_of (Some 786432) None one) ≡ one ∷ []
 unfolding le
 one_block = refl
 

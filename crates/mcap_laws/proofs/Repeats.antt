@@ -5,13 +5,14 @@ use Rattle.std.specs.List.{list_any}
 use Rattle.std.proofs.lemmas.Bool.{both_ways, eqb-true}
 use Rattle.std.proofs.lemmas.List.{append-nil}
 use Rattle.rec_data.specs.declared.owned.Rec.{Rec}
-use Rattle.rec_data.specs.declared.owned.Rec.TheVariants.{Schema, Channel, Message}
+use Rattle.rec_data.specs.declared.owned.Rec.TheVariants.{Schema, Channel, Message, Extra}
 use Rattle.mcap_model.specs.Places.{At, Has, Each, EachBehind}
 use Rattle.mcap_model.specs.Tops.{Top}
 use Rattle.mcap_model.specs.Fields.{SchemaFields, IsSchema, ChannelFields, IsChannel}
 use Rattle.mcap_model.specs.Rules.{HasSchema, HasChannel, Agrees}
 use Rattle.mcap_model.specs.History.{rec_top, schema_of, channel_of, declare_same, kept_with, without_repeats}
-use Rattle.mcap_model.specs.Laws.{IsNumberedRec, RepeatsMayGo}
+use Rattle.mcap_model.specs.Laws.{IsNumberedRec, IsInner, RepeatsMayGo}
+use Rattle.mcap_model.proofs.Asides.{body_whole}
 use Rattle.mcap_model.specs.ReadBack.{IsReadBack}
 use Rattle.mcap_model.proofs.Places.{at_none, at_kept, at_last, at_more, has_kept, has_last, each_more, each_at}
 use Rattle.mcap_model.proofs.ReadBack.{schema_back, channel_back, at_map}
@@ -26,6 +27,7 @@ other_schema id f (Schema other s) same =
     (g, ap (λ (n : ℕ). schema_of n g) (sym (eqb-true id other same)))
 other_schema id f (Channel other schema topic encoding metadata) same = absurd (both_ways false refl same)
 other_schema id f (Message channel sequence log_time publish_time payload) same = absurd (both_ways false refl same)
+other_schema id f (Extra op content) same = absurd (both_ways false refl same)
 
 other_channel : (id : ℕ) (f : ChannelFields) (k : Rec) → declare_same (channel_of id f) k ≡ true → (g : ChannelFields) × (k ≡ channel_of id g)
 other_channel id f (Schema other s) same = absurd (both_ways false refl same)
@@ -33,6 +35,7 @@ other_channel id f (Channel other schema topic encoding metadata) same =
     let g : ChannelFields = record { schema = schema; topic = topic; encoding = encoding; metadata = metadata } in
     (g, ap (λ (n : ℕ). channel_of n g) (sym (eqb-true id other same)))
 other_channel id f (Message channel sequence log_time publish_time payload) same = absurd (both_ways false refl same)
+other_channel id f (Extra op content) same = absurd (both_ways false refl same)
 
 found : (test : Rec → Bool) (xs : List Rec) → list_any test xs ≡ true → (k : Rec) × Has xs k × (test k ≡ true)
 found test [] any = absurd (both_ways false refl any)
@@ -189,15 +192,17 @@ thinned done (r ∷ rs) kept thin back some agrees =
     (thinned (done ++ r ∷ []) rs (kept_with kept r) next backs somes (subst (λ (l : List Rec). EachBehind Agrees (map rec_top l)) joined agrees))
 
 pub repeats_may_go : RepeatsMayGo
-repeats_may_go history back some agree =
+repeats_may_go history back some inner agree =
     let start : Thinned [] [] = record {
       agree = λ n t at. absurd (at_none n t at);
       from = λ r has. has;
       schemas = λ id has. has;
       channels = λ id has. has;
     } in
-    let thin = thinned [] history [] start back some (subst (EachBehind Agrees) (recs_are_flat history) agree) in (
-      subst (EachBehind Agrees) (sym (recs_are_flat (without_repeats history))) thin.agree,
-      (λ n r at. let was = thin.from r (n, at) in back was.0 r was.1),
+    let thin = thinned [] history [] start back some (subst (EachBehind Agrees) (recs_are_flat history back ∙ ap (map rec_top) (body_whole history inner)) agree) in
+    let kept_back : Each IsReadBack (without_repeats history) = λ n r at. let was = thin.from r (n, at) in back was.0 r was.1 in
+    let kept_inner : Each IsInner (without_repeats history) = λ n r at. let was = thin.from r (n, at) in inner was.0 r was.1 in (
+      subst (EachBehind Agrees) (sym (recs_are_flat (without_repeats history) kept_back ∙ ap (map rec_top) (body_whole (without_repeats history) kept_inner))) thin.agree,
+      kept_back,
       λ n r at. let was = thin.from r (n, at) in some was.0 r was.1,
     )

@@ -1,28 +1,32 @@
 -- Of what repairing makes of good records a file can be written.
-use Rattle.std.proofs.Common.{◌≡◌, ◌⊎◌, ℕ, zero, suc, ◌^◌, ◌<◌, Bool, true, false, List, [], ◌∷◌, length, map, take, Option, refl, sym, ap, subst, inl, inr, ◌∙◌, arith}
-use Rattle.std.specs.Prelude.{filter, IsUtf8, if◌then◌else◌, ◌==◌, ◌||◌}
+use Rattle.std.proofs.Common.{◌≡◌, ◌⊎◌, ℕ, zero, suc, ◌^◌, ◌<◌, Bool, true, false, List, [], ◌∷◌, ◌++◌, length, map, take, Option, refl, sym, ap, subst, inl, inr, ◌∙◌, arith}
+use Rattle.std.specs.Prelude.{filter, IsUtf8, if◌then◌else◌, ◌==◌, ◌||◌, nat_le}
 use Rattle.std.specs.List.{AllZip}
 use Rattle.rec_data.specs.declared.owned.Rec.{Rec}
-use Rattle.rec_data.specs.declared.owned.Rec.TheVariants.{Schema, Channel, Message}
+use Rattle.rec_data.specs.declared.owned.Rec.TheVariants.{Schema, Channel, Message, Extra}
 use Rattle.rec_data.proofs.OwnedReading.{rec_shown, shown_once}
 use Rattle.mcap_model.specs.Places.{At, Each, EachBehind}
-use Rattle.mcap_model.specs.Tops.{Top, flat}
+use Rattle.mcap_model.specs.Tops.{Top, is_flat_kind, unchunked, flattened, flat}
+use Rattle.mcap_model.proofs.Lists.{each_joined, filter_passed}
 use Rattle.mcap_model.specs.Fields.{SchemaFields, ChannelFields, MessageFields, IsSchema, IsChannel, IsMessage}
 use Rattle.mcap_model.specs.Rules.{V6, Agrees}
 use Rattle.mcap_model.specs.Kept.{Good, reading_limits}
-use Rattle.mcap_model.specs.History.{rec_top, schema_of, channel_of, message_of}
+use Rattle.mcap_model.specs.History.{rec_top, schema_of, channel_of, message_of, is_inner, extras_in}
+use Rattle.mcap_model.specs.Whole.{count_of}
+use Rattle.mcap_model.proofs.Asides.{body_whole, no_extras}
+use Rattle.std.proofs.lemmas.Bool.{both_ways, eqb-true, leb-true}
 use Rattle.mcap_model.specs.Blocks.{blocks_in, pieces_of}
 use Rattle.mcap_model.specs.Written.{IsRec}
 use Rattle.mcap_model.specs.Histories.{IdsAgree}
 use Rattle.mcap_model.specs.Repaired.{is_extra, ProfileIs}
-use Rattle.mcap_model.specs.Laws.{IsNumberedRec, EntriesFit}
-use Rattle.mcap_model.specs.ReadBack.{IsReadBack, IsExtra}
+use Rattle.mcap_model.specs.Laws.{IsNumberedRec, IsInner, EntriesFit}
+use Rattle.mcap_model.specs.ReadBack.{IsReadBack, IsExtraKind, IsExtra}
 use Rattle.mcap_model.specs.Recovery.{RepairsCanBeWritten}
 use Rattle.mcap_model.proofs.Places.{at_none}
 use Rattle.mcap_model.proofs.ReadBack.{schema_back, channel_back, message_back}
-use Rattle.mcap_model.proofs.Distinct.{rec_id}
+use Rattle.mcap_model.proofs.Distinct.{rec_id, repeats_are}
 use Rattle.mcap_model.proofs.Flat.{good_lists_agree}
-use Rattle.mcap_model.proofs.Histories.{recs_are_flat}
+use Rattle.mcap_model.proofs.Histories.{recs_are_flat, extra_not_flat}
 use Rattle.mcap_model.proofs.WrittenChunks.{empty_utf8}
 use Rattle.mcap_laws.proofs.Repeats.{repeats_may_go}
 use Rattle.mcap_laws.proofs.Ranges.{small_blocks_fit}
@@ -33,6 +37,7 @@ read_back : (u : Top) (r : Rec) → IsRec u r → IsReadBack r
 read_back u (Schema id s) is = rec_shown (Schema id s) is.1.1.fit
 read_back u (Channel id s topic encoding metadata) is = rec_shown (Channel id s topic encoding metadata) is.1.1.fit
 read_back u (Message c n l p d) is = rec_shown (Message c n l p d) is.1.fit
+read_back u (Extra op content) is = rec_shown (Extra op content) is.2
 
 schema_in : (u : Top) (r : Rec) (id : ℕ) (f : SchemaFields) → IsRec u r → IsSchema (rec_top r) id f → IsSchema u id f
 schema_in u r id f is shown =
@@ -147,8 +152,28 @@ filtered_at (x ∷ xs) n u at = by (is_extra x) refl n at (filtered_at xs)
     by true is (suc k) there rest = let (m, later, passes) = rest k u there in (suc m, later, passes)
     by false is k there rest = let (m, later, passes) = rest k u there in (suc m, later, passes)
 
-kind_of : (n : ℕ) → ((n == 9) || (n == 12)) ≡ true → (n ≡ 9) ⊎ (n ≡ 12)
-kind_of n is = grind arith
+kind_of : (n : ℕ) → ((n == 9) || ((n == 12) || nat_le 128 n)) ≡ true → IsExtraKind n
+kind_of n is = by (n == 9) (n == 12) (nat_le 128 n) refl refl refl is
+  where
+    by : (a b c : Bool) → (n == 9) ≡ a → (n == 12) ≡ b → nat_le 128 n ≡ c → (a || (b || c)) ≡ true → IsExtraKind n
+    by true b c nine twelve high any = inl (eqb-true n 9 nine)
+    by false true c nine twelve high any = inr (inl (eqb-true n 12 twelve))
+    by false false true nine twelve high any = inr (inr (leb-true 128 n high))
+    by false false false nine twelve high any = absurd (both_ways false refl any)
+
+-- ---- what is flat is no extra
+
+flat_kinds : (tops : List Top) → Each (λ u. is_flat_kind u ≡ true) (flat tops)
+flat_kinds [] = λ n u at. absurd (at_none n u at)
+flat_kinds (t ∷ ts) = each_joined (λ u. is_flat_kind u ≡ true) (flattened t) (flat ts) (λ n u at. (filter_passed is_flat_kind (unchunked t) n u at).1) (flat_kinds ts)
+
+inner_of : (u : Top) (r : Rec) → is_flat_kind u ≡ true → IsRec u r → is_inner r ≡ true
+inner_of u (Schema id s) kind is = refl
+inner_of u (Channel id s topic encoding metadata) kind is = refl
+inner_of u (Message c n l p d) kind is = refl
+inner_of u (Extra op content) kind is =
+    let same : is_flat_kind u ≡ is_flat_kind (record { op = op; content = content }) = ap (λ (k : ℕ). is_flat_kind (record { op = k; content = content })) is.0 in
+    absurd (both_ways (is_flat_kind u) (same ∙ extra_not_flat op content is.2) kind)
 
 extras_meet : (tops : List Top) → Good reading_limits tops → Each IsExtra (filter is_extra tops)
 extras_meet tops good n t at =
@@ -169,8 +194,11 @@ repairs_can_be_written options tops extras history size good repairs chunk some 
     let (meets, agree) = good_lists_agree reading_limits tops good in
     let back : Each IsReadBack repairs.flattened = λ n r at. let (u, stands, shows) = rec_at (flat tops) repairs.flattened n r repairs.are_flattened at in read_back u r shows in
     let numbered = numbered_on (flat tops) repairs.flattened repairs.are_flattened meets in
-    let ids : IdsAgree repairs.flattened = subst (EachBehind Agrees) (sym (recs_are_flat repairs.flattened)) (ids_on (flat tops) repairs.flattened repairs.are_flattened agree) in
-    let (ids_kept, back_kept, numbered_kept) = repeats_may_go repairs.flattened back numbered ids in
+    let inner : Each IsInner repairs.flattened = λ n r at. let (u, stands, shows) = rec_at (flat tops) repairs.flattened n r repairs.are_flattened at in inner_of u r (flat_kinds tops n u stands) shows in
+    let ids : IdsAgree repairs.flattened = subst (EachBehind Agrees) (sym (recs_are_flat repairs.flattened back ∙ ap (map rec_top) (body_whole repairs.flattened inner))) (ids_on (flat tops) repairs.flattened repairs.are_flattened agree) in
+    let (ids_kept, back_kept, numbered_kept) = repeats_may_go repairs.flattened back numbered inner ids in
+    let none : extras_in history ≡ [] = no_extras history (λ n r at. let has = repeats_are repairs.flattened r (n, subst (λ (l : List Rec). At l n r) repairs.history_is at) in inner has.0 r has.1) in
+    let all : extras_in history ++ extras ≡ extras = ap (λ (l : List Top). l ++ extras) none in
     let (utf8, fits) = profile_there tops options.profile good repairs.profile_is in
     record {
       profile = utf8;
@@ -178,10 +206,10 @@ repairs_can_be_written options tops extras history size good repairs chunk some 
       records_fit = subst (Each IsReadBack) (sym repairs.history_is) back_kept;
       numbered = subst (Each IsNumberedRec) (sym repairs.history_is) numbered_kept;
       ids_agree = subst IdsAgree (sym repairs.history_is) ids_kept;
-      extras_meet = subst (Each IsExtra) (sym repairs.extras_are) (extras_meet tops good);
-      entries_fit = subst (λ (c : Option ℕ). Each EntriesFit (blocks_in (pieces_of c history))) (sym chunk) (small_blocks_fit size history some small);
+      extras_meet = subst (Each IsExtra) (sym (all ∙ repairs.extras_are)) (extras_meet tops good);
+      entries_fit = subst (λ (c : Option ℕ). Each EntriesFit (blocks_in (pieces_of c options.span history))) (sym chunk) (small_blocks_fit size options.span history some small);
       few_blocks = omega (arith, few_blocks);
-      few_attachments = few_attachments;
-      few_metadata = few_metadata;
+      few_attachments = (let same = ap (count_of 9) all in omega (arith, same, few_attachments));
+      few_metadata = (let same = ap (count_of 12) all in omega (arith, same, few_metadata));
       size_fits = omega (arith, few_bytes);
     }

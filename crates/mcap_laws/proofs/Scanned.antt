@@ -7,7 +7,7 @@ use Rattle.std.proofs.lemmas.Grind.{flat_map-append}
 use Rattle.mcap_wire.specs.Layout.{magic, le}
 use Rattle.mcap_wire.proofs.Numbers.{length-le}
 use Rattle.rec_data.specs.declared.owned.Rec.{Rec}
-use Rattle.rec_data.specs.declared.owned.Rec.TheVariants.{Schema, Channel, Message}
+use Rattle.rec_data.specs.declared.owned.Rec.TheVariants.{Schema, Channel, Message, Extra}
 use Rattle.rec_data.specs.Records.{data_end_text}
 use Rattle.rec_data.proofs.Contents.{data_end_shown, length-header_text}
 use Rattle.std.proofs.Math.Seq.{take-append_seam}
@@ -18,7 +18,10 @@ use Rattle.mcap_model.specs.Fields.{IsHeader, IsMessage}
 use Rattle.mcap_model.specs.Rules.{V7, HasDataEnd, Agrees}
 use Rattle.mcap_model.specs.Kept.{Halts, reading_limits, Fits, Good, at_end, at_data_end}
 use Rattle.mcap_model.specs.Scan.{Seen, IsSeen, is_message_top, tops_of, Scan}
-use Rattle.mcap_model.specs.History.{rec_top, is_message}
+use Rattle.mcap_model.specs.History.{rec_top, is_message, is_inner, body_of, extras_in}
+use Rattle.mcap_model.proofs.Asides.{filter_twice, message_inner, each_body}
+use Rattle.rec_data.proofs.OwnedReading.{extra_not}
+use Rattle.std.proofs.lemmas.Bool.{ne_eqb}
 use Rattle.mcap_model.specs.Histories.{flat_history, IdsAgree}
 use Rattle.mcap_model.specs.Blocks.{Piece, block, alone, pieces_of, logged_channels}
 use Rattle.mcap_model.specs.File.{library, noted, file_of}
@@ -66,6 +69,10 @@ zip_recs (Message channel sequence log_time publish_time payload ∷ rs) [] back
 zip_recs (Message channel sequence log_time publish_time payload ∷ rs) (s ∷ ss) back zip =
     let r = Message channel sequence log_time publish_time payload in
     (message_back r s.channel s.message (back zero r refl) zip.0, zip_recs rs ss (λ n x at. back (suc n) x at) zip.1)
+zip_recs (Extra op content ∷ rs) messages back zip =
+    let t : Top = record { op = op; content = content } in
+    let no : is_message_top t ≡ false = ne_eqb op 5 (λ e. extra_not op content 5 (back zero (Extra op content) refl).2 (omega arith) e) in
+    zip_recs rs messages (λ n x at. back (suc n) x at) (subst (λ (b : Bool). AllZip ShowsSeen (cond b (t ∷ filter is_message_top (map rec_top rs)) (filter is_message_top (map rec_top rs))) messages) no zip)
 
 pub scan_of_flat : (tops : List Top) (history : List Rec) (messages : List Seen) → flat tops ≡ map rec_top history → Each IsReadBack history → Scan tops messages → AllZip HoldsSeen (filter is_message history) messages
 scan_of_flat tops history messages same back scan =
@@ -178,7 +185,7 @@ piece_short (block records) fits = each_cons (λ t. length t.content ≤ 2684354
 piece_short (alone r) fits = each_cons (λ t. length t.content ≤ 268435456) (rec_top r) [] fits (λ n y at. absurd (at_none n y at))
 
 -- what can be read could be written
-pub stand_of : (options : FileOptions) (extras : List Top) (history : List Rec) → IsUtf8 options.profile → Each IsReadBack history → Each IsNumberedRec history → Each IsExtra extras → CanBeRead options extras history → CanStand options extras history
+pub stand_of : (options : FileOptions) (extras : List Top) (history : List Rec) → IsUtf8 options.profile → Each IsReadBack history → Each IsNumberedRec history → Each IsExtra (extras_in history ++ extras) → CanBeRead options extras history → CanStand options extras history
 stand_of options extras history utf8 back numbered are readable = record {
   profile = utf8;
   profile_fits = (let size = length-header_text (record { profile = options.profile; library = library }) in let short = readable.header in omega (arith, size, short));
@@ -195,19 +202,19 @@ pub record IsReadSo (options : FileOptions) (extras : List Top) (history : List 
   pub flat_all : flat (section_tops options extras history ++ end_top ∷ []) ≡ flat_history history
   pub seen : (messages : List Seen) → Scan (section_tops options extras history ++ end_top ∷ []) messages → AllZip HoldsSeen (filter is_message history) messages
 
-pub read_so : (options : FileOptions) (extras : List Top) (history : List Rec) → IsUtf8 options.profile → Each IsReadBack history → Each IsNumberedRec history → IdsAgree history → Each IsExtra extras → CanBeRead options extras history → IsReadSo options extras history
+pub read_so : (options : FileOptions) (extras : List Top) (history : List Rec) → IsUtf8 options.profile → Each IsReadBack history → Each IsNumberedRec history → IdsAgree history → Each IsExtra (extras_in history ++ extras) → CanBeRead options extras history → IsReadSo options extras history
 read_so options extras history utf8 back numbered agree are readable =
     let written = stand_of options extras history utf8 back numbered are readable in
     let header = header_top options.profile in
-    let ps = pieces_of options.chunk history in
+    let ps = pieces_of options.chunk options.span history in
     let inside = body_tops options extras history in
     let tops = section_tops options extras history ++ end_top ∷ [] in
     let short : Each (λ t. length t.content ≤ 268435456) inside = each_joined (λ t. length t.content ≤ 268435456) (flat_map piece_tops ps) extras
     (each_flat (λ t. length t.content ≤ 268435456) piece_tops ps (λ n p at. piece_short p (readable.pieces n p at))) readable.extras_short in
     let right = body_right options extras history written in
     let sound : Each IsSound inside = λ n t at. record { right = right n t at; short = short n t at } in
-    let flat_recs : flat tops ≡ map rec_top history = flat_map-append flattened (section_tops options extras history) (end_top ∷ []) ∙ append-nil (flat (section_tops options extras history)) ∙ section_flat options extras history written in
-    let flat_all : flat tops ≡ flat_history history = flat_recs ∙ sym (recs_are_flat history) in
+    let flat_recs : flat tops ≡ map rec_top (body_of history) = flat_map-append flattened (section_tops options extras history) (end_top ∷ []) ∙ append-nil (flat (section_tops options extras history)) ∙ section_flat options extras history written in
+    let flat_all : flat tops ≡ flat_history history = flat_recs ∙ sym (recs_are_flat history back) in
     let file = file_of options extras history in
     let tail = summary_tops options.chunk (noted options extras history) (summary_at options extras history) ++ summary_foot options.chunk (noted options extras history) (summary_at options extras history) ∷ [] in
     let rest = spelled tail ++ magic in
@@ -226,7 +233,7 @@ read_so options extras history utf8 back numbered agree are readable =
         there = at_data_end rest stands ended;
       };
       flat_all = flat_all;
-      seen = λ messages scan. scan_of_flat tops history messages flat_recs back scan;
+      seen = λ messages scan. subst (λ (l : List Rec). AllZip HoldsSeen l messages) (filter_twice is_message is_inner history message_inner) (scan_of_flat tops (body_of history) messages flat_recs (each_body IsReadBack history back) scan);
     }
 
 pub files_are_scanned : FilesAreScanned

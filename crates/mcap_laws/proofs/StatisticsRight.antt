@@ -2,23 +2,25 @@
 use Rattle.std.proofs.Common.{◌≡◌, ℕ, suc, ◌+◌, ◌^◌, ◌<◌, Bool, true, false, List, [], ◌∷◌, ◌++◌, length, map, cond, refl, sym, ap, subst, inl, inr, ◌∙◌, arith}
 use Rattle.std.specs.Prelude.{filter, ◌==◌, ◌≢◌}
 use Rattle.std.specs.List.{flat_map}
-use Rattle.std.proofs.lemmas.Bool.{ne_eqb}
+use Rattle.std.proofs.lemmas.Bool.{ne_eqb, both_ways}
 use Rattle.std.proofs.lemmas.List.{append-nil, length-append, length-map}
 use Rattle.std.proofs.lemmas.List.Elements.{filter-append}
 use Rattle.std.proofs.lemmas.Grind.{flat_map-append}
 use Rattle.rec_data.specs.declared.owned.Rec.{Rec}
-use Rattle.rec_data.specs.declared.owned.Rec.TheVariants.{Schema, Channel, Message}
+use Rattle.rec_data.specs.declared.owned.Rec.TheVariants.{Schema, Channel, Message, Extra}
 use Rattle.rec_data.specs.Owned.{rec_bytes}
 use Rattle.mcap_model.specs.Places.{At, Has, Each}
 use Rattle.mcap_model.specs.Tops.{Top, top_bytes, flattened, flat}
 use Rattle.mcap_model.specs.Fields.{IsSchema, IsChannel, MessageFields}
 use Rattle.mcap_model.specs.Rules.{HasSchema, HasChannel, TimesAre}
-use Rattle.mcap_model.specs.History.{rec_top, schema_of, channel_of, message_of}
-use Rattle.mcap_model.specs.Blocks.{Piece, block, alone, Logged, logged_from, logged, logged_channels, log_times, least, greatest, blocks_in}
+use Rattle.mcap_model.specs.History.{rec_top, schema_of, channel_of, message_of, extras_in}
+use Rattle.mcap_model.specs.Blocks.{Piece, block, alone, piece_bytes, Logged, logged_from, logged, logged_channels, log_times, least, greatest, blocks_in}
 use Rattle.mcap_model.specs.Summary.{capped, extras_of_kind, messages_on, schemas_of, channels_of, written_statistics}
-use Rattle.mcap_model.specs.File.{blocks_from, extras_from}
+use Rattle.mcap_model.specs.File.{blocks_from, alone_from, extras_from}
 use Rattle.mcap_model.specs.Whole.{IsSection, count_of, AreChannels, on_channel, AreIds, StatisticsAreRight}
-use Rattle.mcap_model.specs.Laws.{IsNumberedRec, chunk_top, index_top}
+use Rattle.mcap_model.specs.Laws.{IsNumberedRec, IsInner, chunk_top, index_top}
+use Rattle.mcap_model.specs.Recovery.{piece_records}
+use Rattle.mcap_model.proofs.Asides.{extras_append, no_extras}
 use Rattle.mcap_model.specs.ReadBack.{IsReadBack, IsExtra}
 use Rattle.mcap_model.proofs.Places.{at_none, at_kept}
 use Rattle.mcap_model.proofs.ReadBack.{at_map, schema_back, channel_back}
@@ -27,10 +29,10 @@ use Rattle.mcap_model.proofs.WrittenChunks.{written_times, each_map}
 use Rattle.mcap_model.proofs.Lists.{at_either, each_cons}
 use Rattle.mcap_model.proofs.Edges.{end_top}
 use Rattle.mcap_model.proofs.Shape.{whole}
-use Rattle.mcap_model.proofs.Section.{piece_tops, each_flat}
+use Rattle.mcap_model.proofs.Section.{piece_tops, held, InnerBlock, extra_not_kind}
 use Rattle.mcap_model.proofs.Logged.{logs_channel}
 use Rattle.mcap_model.proofs.Distinct.{rec_id, schema_ids, schema_ids_apart, schema_id_is, is_schema_id, channel_ids, channel_ids_apart, channel_id_is, is_channel_id}
-use Rattle.mcap_model.proofs.Standing.{count_blocks}
+use Rattle.mcap_model.proofs.Standing.{PiecesBack, count_blocks}
 use Rattle.mcap_laws.proofs.Tails.{count_entry, few_channel_ids}
 use Rattle.mcap_model.proofs.Flat.{at_mapped}
 
@@ -48,31 +50,56 @@ count_append op xs ys = ap length (filter-append (λ (t : Top). t.op == op) xs y
 indexes_not : (op : ℕ) (records : List Rec) → op ≢ 7 → Each (λ t. t.op ≢ op) (map (index_top records) (logged_channels records))
 indexes_not op records other = each_map (index_top records) (λ t. t.op ≢ op) (logged_channels records) (λ n id at e. other (sym e))
 
-pieces_not : (op : ℕ) (ps : List Piece) → 5 < op → op ≢ 6 → op ≢ 7 → Each (λ t. t.op ≢ op) (flat_map piece_tops ps)
-pieces_not op ps high six seven = each_flat (λ t. t.op ≢ op) piece_tops ps (λ n p at. by p)
+-- the records at top level among pieces are counted
+count_alone : (op start : ℕ) (ps : List Piece) → op ≢ 6 → op ≢ 7 → length (extras_of_kind op (alone_from start ps)) ≡ count_of op (flat_map piece_tops ps)
+count_alone op start [] six seven = refl
+count_alone op start (block records ∷ ps) six seven =
+    let rest = count_alone op (start + length (piece_bytes (block records))) ps six seven in
+    let own = count_none op (piece_tops (block records)) (each_cons (λ t. t.op ≢ op) (chunk_top records) (map (index_top records) (logged_channels records)) (λ e. six (sym e)) (indexes_not op records seven)) in
+    let all = count_append op (piece_tops (block records)) (flat_map piece_tops ps) in
+    omega (arith, rest, own, all)
+count_alone op start (alone r ∷ ps) six seven = by ((rec_top r).op == op) (count_alone op (start + length (piece_bytes (alone r))) ps six seven)
   where
-    by : (p : Piece) → Each (λ t. t.op ≢ op) (piece_tops p)
-    by (block records) = each_cons (λ t. t.op ≢ op) (chunk_top records) (map (index_top records) (logged_channels records)) (λ e. six (sym e)) (indexes_not op records seven)
-    by (alone r) = each_cons (λ t. t.op ≢ op) (rec_top r) [] (rec_not r op high) (λ n t at. absurd (at_none n t at))
+    by : (b : Bool) → length (extras_of_kind op (alone_from (start + length (piece_bytes (alone r))) ps)) ≡ count_of op (flat_map piece_tops ps)
+        → length (cond b ((start, rec_top r) ∷ extras_of_kind op (alone_from (start + length (piece_bytes (alone r))) ps)) (extras_of_kind op (alone_from (start + length (piece_bytes (alone r))) ps))) ≡ length (cond b (rec_top r ∷ filter (λ x. x.op == op) (flat_map piece_tops ps)) (filter (λ x. x.op == op) (flat_map piece_tops ps)))
+    by true rest = ap suc rest
+    by false rest = rest
 
-count_chunks : (ps : List Piece) → count_of 6 (flat_map piece_tops ps) ≡ length (blocks_in ps)
-count_chunks [] = refl
-count_chunks (block records ∷ ps) =
-    let rest = count_chunks ps in
+-- of an opcode that only extras have, there are as many among the records of pieces as among their extras
+pub count_extras : (op : ℕ) (ps : List Piece) → 5 < op → op ≢ 6 → op ≢ 7 → Each InnerBlock ps → count_of op (flat_map piece_tops ps) ≡ count_of op (extras_in (held ps))
+count_extras op [] high six seven inner = refl
+count_extras op (p ∷ ps) high six seven inner =
+    let rest = count_extras op ps high six seven (λ n q at. inner (suc n) q at) in
+    let own = one p (inner 0 p refl) in
+    let all = count_append op (piece_tops p) (flat_map piece_tops ps) in
+    let parts = ap (count_of op) (extras_append (piece_records p) (held ps)) in
+    let more = count_append op (extras_in (piece_records p)) (extras_in (held ps)) in
+    omega (arith, rest, own, all, parts, more)
+  where
+    one : (q : Piece) → InnerBlock q → count_of op (piece_tops q) ≡ count_of op (extras_in (piece_records q))
+    one (block records) own =
+        count_none op (piece_tops (block records)) (each_cons (λ t. t.op ≢ op) (chunk_top records) (map (index_top records) (logged_channels records)) (λ e. six (sym e)) (indexes_not op records seven))
+        ∙ ap (count_of op) (sym (no_extras records own))
+    one (alone (Schema id s)) own = count_none op (rec_top (Schema id s) ∷ []) (each_cons (λ t. t.op ≢ op) (rec_top (Schema id s)) [] (λ e. omega (arith, e, high)) (λ n t at. absurd (at_none n t at)))
+    one (alone (Channel id s t e m)) own = count_none op (rec_top (Channel id s t e m) ∷ []) (each_cons (λ t. t.op ≢ op) (rec_top (Channel id s t e m)) [] (λ e. omega (arith, e, high)) (λ n t at. absurd (at_none n t at)))
+    one (alone (Message c n l p d)) own = count_none op (rec_top (Message c n l p d) ∷ []) (each_cons (λ t. t.op ≢ op) (rec_top (Message c n l p d)) [] (λ e. omega (arith, e, high)) (λ n t at. absurd (at_none n t at)))
+    one (alone (Extra k content)) own = refl
+
+count_chunks : (ps : List Piece) → PiecesBack ps → count_of 6 (flat_map piece_tops ps) ≡ length (blocks_in ps)
+count_chunks [] back = refl
+count_chunks (block records ∷ ps) back =
+    let rest = count_chunks ps (λ n p at. back (suc n) p at) in
     let own = count_none 6 (map (index_top records) (logged_channels records)) (indexes_not 6 records (λ e. omega (arith, e))) in
     let all = count_append 6 (map (index_top records) (logged_channels records)) (flat_map piece_tops ps) in
     ap suc (all ∙ ap (λ (n : ℕ). n + count_of 6 (flat_map piece_tops ps)) own ∙ omega (arith, rest))
-count_chunks (alone r ∷ ps) =
-    let own = count_none 6 (rec_top r ∷ []) (each_cons (λ t. t.op ≢ 6) (rec_top r) [] (rec_not r 6 (omega arith)) (λ n t at. absurd (at_none n t at))) in
+count_chunks (alone r ∷ ps) back =
+    let own = count_none 6 (rec_top r ∷ []) (each_cons (λ t. t.op ≢ 6) (rec_top r) [] (rec_not r 6 (back 0 (alone r) refl 0 r refl) (omega arith) (omega arith) (λ a. omega (arith, a)) (λ a. omega (arith, a))) (λ n t at. absurd (at_none n t at))) in
     let all = count_append 6 (rec_top r ∷ []) (flat_map piece_tops ps) in
-    let rest = count_chunks ps in
+    let rest = count_chunks ps (λ n p at. back (suc n) p at) in
     all ∙ omega (arith, own, rest)
 
-extras_not : (op : ℕ) (extras : List Top) → Each IsExtra extras → op ≢ 9 → op ≢ 12 → Each (λ t. t.op ≢ op) extras
-extras_not op extras are nine twelve n t at e = elim (are n t at).kind [
-  | inl a ↦ nine (sym e ∙ a)
-  | inr b ↦ twelve (sym e ∙ b)
-]
+extras_not : (op : ℕ) (extras : List Top) → Each IsExtra extras → op < 128 → op ≢ 9 → op ≢ 12 → Each (λ t. t.op ≢ op) extras
+extras_not op extras are low nine twelve n t at e = extra_not_kind t.op (are n t at).kind op low nine twelve e
 
 count_kind : (op start : ℕ) (extras : List Top) → length (extras_of_kind op (extras_from start extras)) ≡ count_of op extras
 count_kind op start [] = refl
@@ -85,19 +112,21 @@ count_kind op start (t ∷ ts) = by (t.op == op) (count_kind op (start + length 
 
 -- ---- messages
 
-pub count_messages : (at : ℕ) (history : List Rec) → length (logged_from at history) ≡ count_of 5 (map rec_top history)
-count_messages at [] = refl
-count_messages at (Schema id s ∷ rs) = count_messages (at + length (rec_bytes (Schema id s))) rs
-count_messages at (Channel id schema topic encoding metadata ∷ rs) = count_messages (at + length (rec_bytes (Channel id schema topic encoding metadata))) rs
-count_messages at (Message channel sequence log_time publish_time payload ∷ rs) = ap suc (count_messages (at + length (rec_bytes (Message channel sequence log_time publish_time payload))) rs)
+pub count_messages : (at : ℕ) (history : List Rec) → Each IsInner history → length (logged_from at history) ≡ count_of 5 (map rec_top history)
+count_messages at [] inner = refl
+count_messages at (Schema id s ∷ rs) inner = count_messages (at + length (rec_bytes (Schema id s))) rs (λ n x there. inner (suc n) x there)
+count_messages at (Channel id schema topic encoding metadata ∷ rs) inner = count_messages (at + length (rec_bytes (Channel id schema topic encoding metadata))) rs (λ n x there. inner (suc n) x there)
+count_messages at (Message channel sequence log_time publish_time payload ∷ rs) inner = ap suc (count_messages (at + length (rec_bytes (Message channel sequence log_time publish_time payload))) rs (λ n x there. inner (suc n) x there))
+count_messages at (Extra op content ∷ rs) inner = absurd (both_ways false refl (inner 0 (Extra op content) refl))
 
-channels_from : (at : ℕ) (history : List Rec) → Each IsReadBack history → AreChannels (map rec_top history) (map (λ e. e.channel) (logged_from at history))
-channels_from at [] back = tt
-channels_from at (Schema id s ∷ rs) back = channels_from (at + length (rec_bytes (Schema id s))) rs (λ n x there. back (suc n) x there)
-channels_from at (Channel id schema topic encoding metadata ∷ rs) back = channels_from (at + length (rec_bytes (Channel id schema topic encoding metadata))) rs (λ n x there. back (suc n) x there)
-channels_from at (Message channel sequence log_time publish_time payload ∷ rs) back =
+channels_from : (at : ℕ) (history : List Rec) → Each IsInner history → Each IsReadBack history → AreChannels (map rec_top history) (map (λ e. e.channel) (logged_from at history))
+channels_from at [] inner back = tt
+channels_from at (Schema id s ∷ rs) inner back = channels_from (at + length (rec_bytes (Schema id s))) rs (λ n x there. inner (suc n) x there) (λ n x there. back (suc n) x there)
+channels_from at (Channel id schema topic encoding metadata ∷ rs) inner back = channels_from (at + length (rec_bytes (Channel id schema topic encoding metadata))) rs (λ n x there. inner (suc n) x there) (λ n x there. back (suc n) x there)
+channels_from at (Extra op content ∷ rs) inner back = absurd (both_ways false refl (inner 0 (Extra op content) refl))
+channels_from at (Message channel sequence log_time publish_time payload ∷ rs) inner back =
     let m : MessageFields = record { sequence = sequence; log_time = log_time; publish_time = publish_time; payload = payload } in
-    ((m, message_shown channel m (back 0 (message_of channel m) refl)), channels_from (at + length (rec_bytes (Message channel sequence log_time publish_time payload))) rs (λ n x there. back (suc n) x there))
+    ((m, message_shown channel m (back 0 (message_of channel m) refl)), channels_from (at + length (rec_bytes (Message channel sequence log_time publish_time payload))) rs (λ n x there. inner (suc n) x there) (λ n x there. back (suc n) x there))
 
 count_on : (l : List Logged) (channel : ℕ) → length (filter (λ e. e.channel == channel) l) ≡ on_channel (map (λ e. e.channel) l) channel
 count_on [] channel = refl
@@ -190,9 +219,9 @@ flat_whole section summary foot none =
 
 module _ (tops : List Top) (header : Top) (ps : List Piece) (extras : List Top) (history : List Rec) (copies : List Top) (start other : ℕ)
     (is : IsSection tops (header ∷ (flat_map piece_tops ps ++ extras))) (kind : header.op ≡ 1)
-    (are : Each IsExtra extras) (back : Each IsReadBack history) (numbered : Each IsNumberedRec history)
+    (are : Each IsExtra extras) (pieces_back : PiecesBack ps) (inner : Each IsInner history) (back : Each IsReadBack history) (numbered : Each IsNumberedRec history)
     (flat_section : flat (header ∷ (flat_map piece_tops ps ++ extras)) ≡ map rec_top history) (flat_all : flat tops ≡ map rec_top history ++ copies) (has : Each (Has (map rec_top history)) copies)
-    (few_blocks : length (blocks_in ps) < 2 ^ 32) (few_attachments : count_of 9 extras < 2 ^ 32) (few_metadata : count_of 12 extras < 2 ^ 32) where
+    (few_blocks : length (blocks_in ps) < 2 ^ 32) (few_attachments : count_of 9 (flat_map piece_tops ps ++ extras) < 2 ^ 32) (few_metadata : count_of 12 (flat_map piece_tops ps ++ extras) < 2 ^ 32) where
   section : List Top
   section = header ∷ (flat_map piece_tops ps ++ extras)
 
@@ -201,18 +230,21 @@ module _ (tops : List Top) (header : Top) (ps : List Piece) (extras : List Top) 
       ap (λ (b : Bool). length (cond b (header ∷ filter (λ x. x.op == op) (flat_map piece_tops ps ++ extras)) (filter (λ x. x.op == op) (flat_map piece_tops ps ++ extras)))) (ne_eqb header.op op (λ e. one (sym e ∙ kind)))
       ∙ count_append op (flat_map piece_tops ps) extras
 
-  kinds_counted : (op : ℕ) → op ≢ 1 → 5 < op → op ≢ 6 → op ≢ 7 → count_of op extras < 2 ^ 32 → capped (length (extras_of_kind op (extras_from other extras))) ≡ count_of op (header ∷ (flat_map piece_tops ps ++ extras))
-  kinds_counted op one high six seven few =
+  kinds_counted : (op : ℕ) → op ≢ 1 → op ≢ 6 → op ≢ 7 → count_of op (flat_map piece_tops ps ++ extras) < 2 ^ 32 → capped (length (extras_of_kind op (alone_from start ps ++ extras_from other extras))) ≡ count_of op (header ∷ (flat_map piece_tops ps ++ extras))
+  kinds_counted op one six seven few =
       let all = count_section op one in
-      let none = count_none op (flat_map piece_tops ps) (pieces_not op ps high six seven) in
+      let among = count_alone op start ps six seven in
       let own = count_kind op other extras in
-      omega (arith, all, none, own, few)
+      let parts = count_append op (flat_map piece_tops ps) extras in
+      let both = ap (λ (l : List (ℕ × Top)). length l) (filter-append (λ (e : ℕ × Top). e.1.op == op) (alone_from start ps) (extras_from other extras)) in
+      let size = length-append (extras_of_kind op (alone_from start ps)) (extras_of_kind op (extras_from other extras)) in
+      omega (arith, all, among, own, few, parts, both, size)
 
   chunks_counted : capped (length (blocks_from start ps)) ≡ count_of 6 (header ∷ (flat_map piece_tops ps ++ extras))
   chunks_counted =
       let all = count_section 6 (λ e. omega (arith, e)) in
-      let none = count_none 6 extras (extras_not 6 extras are (λ e. omega (arith, e)) (λ e. omega (arith, e))) in
-      let own = count_chunks ps in
+      let none = count_none 6 extras (extras_not 6 extras are (omega arith) (λ e. omega (arith, e)) (λ e. omega (arith, e))) in
+      let own = count_chunks ps pieces_back in
       let size = count_blocks start ps in
       omega (arith, all, none, own, size, few_blocks)
 
@@ -230,18 +262,18 @@ module _ (tops : List Top) (header : Top) (ps : List Piece) (extras : List Top) 
       let own : At (logged_channels history) logs.0 channel = subst (λ (c : ℕ). At (logged_channels history) logs.0 c) (sym same) logs.1 in
       (messages_on history channel, (logs.0, at_mapped (count_entry history) (logged_channels history) logs.0 channel own))
 
-  pub statistics_right : StatisticsAreRight tops (written_statistics (record { records = history; blocks = blocks_from start ps; extras = extras_from other extras }))
+  pub statistics_right : StatisticsAreRight tops (written_statistics (record { records = history; blocks = blocks_from start ps; extras = alone_from start ps ++ extras_from other extras }))
   statistics_right = record {
     section = header ∷ (flat_map piece_tops ps ++ extras);
     is = inl is;
-    messages = count_messages 0 history ∙ ap (count_of 5) (sym flat_section);
-    attachments = kinds_counted 9 (λ e. omega (arith, e)) (omega arith) (λ e. omega (arith, e)) (λ e. omega (arith, e)) few_attachments;
-    metadata = kinds_counted 12 (λ e. omega (arith, e)) (omega arith) (λ e. omega (arith, e)) (λ e. omega (arith, e)) few_metadata;
+    messages = count_messages 0 history inner ∙ ap (count_of 5) (sym flat_section);
+    attachments = kinds_counted 9 (λ e. omega (arith, e)) (λ e. omega (arith, e)) (λ e. omega (arith, e)) few_attachments;
+    metadata = kinds_counted 12 (λ e. omega (arith, e)) (λ e. omega (arith, e)) (λ e. omega (arith, e)) few_metadata;
     chunks = chunks_counted;
     times = subst (λ (l : List Top). TimesAre l (least (log_times history)) (greatest (log_times history))) (sym flat_section) (written_times history back);
     counts = inr (record {
       channels_of = map (λ e. e.channel) (logged history);
-      are_channels = subst (λ (l : List Top). AreChannels l (map (λ e. e.channel) (logged history))) (sym flat_section) (channels_from 0 history back);
+      are_channels = subst (λ (l : List Top). AreChannels l (map (λ e. e.channel) (logged history))) (sym flat_section) (channels_from 0 history inner back);
       right = counts_right;
       all = counts_all;
     });

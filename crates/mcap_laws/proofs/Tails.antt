@@ -13,7 +13,7 @@ use Rattle.mcap_wire.specs.Arrays.{EntryFits, entry_texts}
 use Rattle.mcap_wire.specs.Maps.{KeysDiffer}
 use Rattle.mcap_wire.proofs.Contents.{row_shown, shows_decided}
 use Rattle.rec_data.specs.declared.owned.Rec.{Rec}
-use Rattle.rec_data.specs.declared.owned.Rec.TheVariants.{Schema, Channel, Message}
+use Rattle.rec_data.specs.declared.owned.Rec.TheVariants.{Schema, Channel, Message, Extra}
 use Rattle.rec_data.specs.Owned.{rec_text}
 use Rattle.rec_index.specs.Records.{statistics_kinds, statistics_values, summary_offset_text}
 use Rattle.mcap_model.specs.Places.{At, Has, Each}
@@ -23,12 +23,13 @@ use Rattle.mcap_model.specs.History.{rec_top, schema_of, channel_of, is_schema, 
 use Rattle.mcap_model.specs.Blocks.{Logged, logged, logged_channels, log_times, chunk_bytes, indexes_bytes}
 use Rattle.mcap_model.specs.Summary.{Noted, Group, group_bytes, groups_of, has_some, schemas_of, channels_of, extras_of_kind, messages_on, statistics_content, chunk_index_content, attachment_index_content, metadata_index_content, offset_contents, written_index, written_statistics, group_fields}
 use Rattle.mcap_model.specs.AttachmentIndexes.{indexed_attachment}
-use Rattle.mcap_model.specs.Laws.{IsNumberedRec}
+use Rattle.mcap_model.specs.Laws.{IsNumberedRec, IsInner}
 use Rattle.mcap_model.specs.ReadBack.{IsReadBack, IsExtra}
 use Rattle.mcap_model.proofs.Places.{at_none, pairs_more}
 use Rattle.mcap_model.proofs.ReadBack.{at_map}
 use Rattle.mcap_model.proofs.Readings.{top_of}
 use Rattle.mcap_model.proofs.Histories.{rec_meets, recs_flat}
+use Rattle.mcap_model.proofs.Asides.{schema_inner, channel_inner}
 use Rattle.mcap_model.proofs.WrittenChunks.{time_fits, least_fits, greatest_fits, each_map}
 use Rattle.mcap_model.proofs.Lists.{each_cons, each_joined, filter_passed, pairs_at, pairs_from, pairs_cons, all_from}
 use Rattle.mcap_model.proofs.Logged.{channels_ascend, channels_fit, few_channels, length-entries}
@@ -128,12 +129,14 @@ as_schemas [] each = refl
 as_schemas (Schema id s ∷ rs) each = ap (λ (l : List Top). rec_top (Schema id s) ∷ l) (as_schemas rs (λ n x at. each (suc n) x at))
 as_schemas (Channel id schema topic encoding metadata ∷ rs) each = absurd (both_ways false refl (each 0 (Channel id schema topic encoding metadata) refl))
 as_schemas (Message channel sequence log_time publish_time payload ∷ rs) each = absurd (both_ways false refl (each 0 (Message channel sequence log_time publish_time payload) refl))
+as_schemas (Extra op content ∷ rs) each = absurd (both_ways false refl (each 0 (Extra op content) refl))
 
 as_channels : (l : List Rec) → Each (λ r. is_channel r ≡ true) l → map (top_of 4) (map rec_text l) ≡ map rec_top l
 as_channels [] each = refl
 as_channels (Channel id schema topic encoding metadata ∷ rs) each = ap (λ (l : List Top). rec_top (Channel id schema topic encoding metadata) ∷ l) (as_channels rs (λ n x at. each (suc n) x at))
 as_channels (Schema id s ∷ rs) each = absurd (both_ways false refl (each 0 (Schema id s) refl))
 as_channels (Message channel sequence log_time publish_time payload ∷ rs) each = absurd (both_ways false refl (each 0 (Message channel sequence log_time publish_time payload) refl))
+as_channels (Extra op content ∷ rs) each = absurd (both_ways false refl (each 0 (Extra op content) refl))
 
 pub schema_tops : (n : Noted) → group_tops (schema_group n) ≡ map rec_top (schemas_of n.records)
 schema_tops n = as_schemas (schemas_of n.records) (λ k r at. (filter_passed is_schema (without_repeats n.records) k r at).1)
@@ -158,6 +161,12 @@ pub copies_has : (n : Noted) → Each (Has (map rec_top n.records)) (map rec_top
 copies_has n = each_map rec_top (Has (map rec_top n.records)) (copies n)
     (λ k r at. let has = each_joined (Has n.records) (schemas_of n.records) (channels_of n.records) (schemas_has n.records) (channels_has n.records) k r at in (has.0, at_mapped rec_top n.records has.0 r has.1))
 
+schemas_inner : (records : List Rec) → Each IsInner (schemas_of records)
+schemas_inner records k r at = schema_inner r (filter_passed is_schema (without_repeats records) k r at).1
+
+channels_inner : (records : List Rec) → Each IsInner (channels_of records)
+channels_inner records k r at = channel_inner r (filter_passed is_channel (without_repeats records) k r at).1
+
 pub summary_flat : (at : ℕ) (n : Noted) → flat (groups_tops (groups_of n) ++ offset_tops at (groups_of n)) ≡ map rec_top (copies n)
 summary_flat at n =
     let s = map rec_top (schemas_of n.records) in
@@ -177,8 +186,8 @@ summary_flat at n =
     ∙ ap flat (groups_filter (all_groups n))
     ∙ flat_map-append flattened (group_tops (schema_group n)) (group_tops (channel_group n) ++ rest)
     ∙ ap (λ (l : List Top). flat l ++ flat (group_tops (channel_group n) ++ rest)) (schema_tops n)
-    ∙ ap (λ (l : List Top). l ++ flat (group_tops (channel_group n) ++ rest)) (recs_flat (schemas_of n.records))
-    ∙ ap (λ (l : List Top). s ++ l) (flat_map-append flattened (group_tops (channel_group n)) rest ∙ ap (λ (l : List Top). flat (group_tops (channel_group n)) ++ l) behind ∙ append-nil (flat (group_tops (channel_group n))) ∙ ap flat (channel_tops n) ∙ recs_flat (channels_of n.records))
+    ∙ ap (λ (l : List Top). l ++ flat (group_tops (channel_group n) ++ rest)) (recs_flat (schemas_of n.records) (schemas_inner n.records))
+    ∙ ap (λ (l : List Top). s ++ l) (flat_map-append flattened (group_tops (channel_group n)) rest ∙ ap (λ (l : List Top). flat (group_tops (channel_group n)) ++ l) behind ∙ append-nil (flat (group_tops (channel_group n))) ∙ ap flat (channel_tops n) ∙ recs_flat (channels_of n.records) (channels_inner n.records))
     ∙ sym (map-append rec_top (schemas_of n.records) (channels_of n.records))
 
 -- ---- few ids
@@ -299,11 +308,13 @@ schema_tail : (r : Rec) → is_schema r ≡ true → IsReadBack r → IsNumbered
 schema_tail (Schema id s) is back numbered = record { kind = refl; v6 = rec_meets (Schema id s) back numbered }
 schema_tail (Channel id schema topic encoding metadata) is back numbered = absurd (both_ways false refl is)
 schema_tail (Message channel sequence log_time publish_time payload) is back numbered = absurd (both_ways false refl is)
+schema_tail (Extra op content) is back numbered = absurd (both_ways false refl is)
 
 channel_tail : (r : Rec) → is_channel r ≡ true → IsReadBack r → IsNumberedRec r → IsTail (rec_top r)
 channel_tail (Channel id schema topic encoding metadata) is back numbered = record { kind = refl; v6 = rec_meets (Channel id schema topic encoding metadata) back numbered }
 channel_tail (Schema id s) is back numbered = absurd (both_ways false refl is)
 channel_tail (Message channel sequence log_time publish_time payload) is back numbered = absurd (both_ways false refl is)
+channel_tail (Extra op content) is back numbered = absurd (both_ways false refl is)
 
 -- the group's bytes lie within those of all groups
 pub group_room : (n : Noted) (at k : ℕ) (g : Group) → NotedFits n at → At (groups_of n) k g → at + length (flat_map group_bytes (take k (groups_of n))) + length (group_bytes g) < 2 ^ 64

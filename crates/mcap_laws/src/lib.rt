@@ -2,7 +2,7 @@
 #![tactic(auto)]
 
 ghost use Rattle.mcap_model.specs.Recovery.{RepairsCanBeWritten, FilesAreRepaired, FrontsAreRepaired, RepairsKeepMessages, RepairsGoOn, GoodRecordsAreKept};
-ghost use Rattle.mcap_model.specs.Laws.{GoodFromTheFront, ReadingsHaltOnce, KeptIsOne, HaltsAreLast, FrontsKeepWhole, RecordsAreFound, ChunksAreOpened, ExtrasAreIndexed, ChunksAreWritten, IndexesAreWritten, ReplaysAreOne, BlocksAreOne, SizesRipen, GoodListsAgree, GoodListsAreScanned, NumberedIdsAgree, RepeatsMayGo, RepairsAreOne, FlawsExcludeValidity, FilesAreScanned, FilesAreValid, FilesAreIndexed, PrefixesAreKept, GoodHistoriesAgree, SmallBlocksFit, WholeFilesAreOne, PiecesMakeFiles, StopsLeavePrefixes, IndexesLeadToTheScan, LedReplaysAreScans};
+ghost use Rattle.mcap_model.specs.Laws.{GoodFromTheFront, ReadingsHaltOnce, KeptIsOne, HaltsAreLast, FrontsKeepWhole, RecordsAreFound, ChunksAreOpened, ExtrasAreIndexed, ChunksAreWritten, IndexesAreWritten, ReplaysAreOne, BlocksAreOne, PiecesStandInTurn, SizesRipen, GoodListsAgree, GoodListsAreScanned, NumberedIdsAgree, RepeatsMayGo, RepairsAreOne, FlawsExcludeValidity, FilesAreScanned, FilesAreValid, FilesAreIndexed, PrefixesAreKept, GoodHistoriesAgree, SmallBlocksFit, WholeFilesAreOne, PiecesMakeFiles, StopsLeavePrefixes, IndexesLeadToTheScan, LedReplaysAreScans};
 
 /// What stands in front in a good list is a good list.
 pub fn good_from_the_front()
@@ -39,7 +39,7 @@ pub fn chunks_are_opened()
     ensures { ChunksAreOpened }
 {}
 
-/// The Chunk that is written of records is right, and its records are theirs.
+/// The Chunk that is written of records without extras is right, and its records are theirs.
 pub fn chunks_are_written()
     ensures { ChunksAreWritten }
 {}
@@ -59,12 +59,18 @@ pub fn replays_are_one()
     ensures { ReplaysAreOne }
 {}
 
-/// A history is cut into blocks in one way, which is that of its pieces, wherever blocks that are ripe stay so.
+/// A history without its extras is cut into blocks in one way, which is that of its pieces, wherever blocks that are ripe stay so.
 pub fn blocks_are_one()
     ensures { BlocksAreOne }
 {}
 
-/// So it is with blocks of a size.
+/// The extras of a history and its blocks stand in the order of their places: an extra at its own, a block at that of the record
+/// that makes it ripe, and the last block, where it isn't ripe, behind all.
+pub fn pieces_stand_in_turn()
+    ensures { PiecesStandInTurn }
+{}
+
+/// So it is with blocks of a size, and of a span of log times.
 pub fn sizes_ripen()
     ensures { SizesRipen }
 {}
@@ -84,7 +90,7 @@ pub fn numbered_ids_agree()
     ensures { NumberedIdsAgree }
 {}
 
-/// A history whose ids agree is such a history without what declares an id again.
+/// A history without extras whose ids agree is such a history without what declares an id again.
 pub fn repeats_may_go()
     ensures { RepeatsMayGo }
 {}
