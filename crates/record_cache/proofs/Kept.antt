@@ -12,8 +12,9 @@ use Rattle.mcap_wire.specs.Layout.{framed, part}
 use Rattle.mcap_wire.specs.Reading.{IsCut, CutFails}
 use Rattle.mcap_wire.proofs.Framing.{length-framed, record_not_refused, record_decided}
 use Rattle.rec_data.specs.declared.owned.Rec.{Rec}
-use Rattle.rec_data.specs.declared.owned.Rec.TheVariants.{Schema, Channel, Message}
-use Rattle.rec_data.specs.Owned.{rec_opcode, rec_text, rec_bytes}
+use Rattle.rec_data.specs.declared.owned.Rec.TheVariants.{Schema, Channel, Message, Extra}
+use Rattle.rec_data.specs.Owned.{rec_opcode, rec_text, rec_bytes, RecFits}
+use Rattle.rec_data.proofs.OwnedReading.{extra_not}
 use Rattle.mcap_model.specs.History.{history_bytes}
 use Rattle.record_cache.specs.Reading.{records_shown}
 use Rattle.byte_region.specs.Regions.{RegionView, empty_region}
@@ -135,10 +136,11 @@ there (r ∷ rs) (suc n) lt =
     dropped : (a b c : List ℕ) → drop (length (a ++ b)) (a ++ c) ≡ drop (length b) c
     dropped a b c = ap (λ (k : ℕ). drop k (a ++ c)) (length-append a b) ∙ drop-append-add a c (length b)
 
-some_opcode : (r : Rec) → rec_opcode r ≢ 0
-some_opcode (Schema id s) e = omega (arith, e)
-some_opcode (Channel id schema topic encoding metadata) e = omega (arith, e)
-some_opcode (Message channel sequence log_time publish_time payload) e = omega (arith, e)
+some_opcode : (r : Rec) → RecFits r → rec_opcode r ≢ 0
+some_opcode (Schema id s) fits e = omega (arith, e)
+some_opcode (Channel id schema topic encoding metadata) fits e = omega (arith, e)
+some_opcode (Message channel sequence log_time publish_time payload) fits e = omega (arith, e)
+some_opcode (Extra op content) fits e = extra_not op content 0 fits (omega arith) e
 
 pub kept_at : (records : List Rec) (n : ℕ) (r : Rec) → All IsKept records → n < length records → slice_get records n ≡ Some r → IsKept r
 kept_at records n r all lt at = subst IsKept (get_or_from_slice_get records n r r at) (all n r lt)
@@ -169,7 +171,7 @@ starts_cut limit count bytes at fault is starts fails =
     let records = records_shown bytes in
     let found = there records starts.0 starts.1 in
     let kept = kept_at records starts.0 found.rec is.kept starts.1 found.stands in
-    record_not_refused bytes at (rec_opcode found.rec) (rec_text found.rec) found.rest fault (some_opcode found.rec)
+    record_not_refused bytes at (rec_opcode found.rec) (rec_text found.rec) found.rest fault (some_opcode found.rec kept.fits)
     (omega (arith, kept.short, length-framed (rec_opcode found.rec) (rec_text found.rec)))
     (parts_at limit count bytes at starts.0 is starts.1 starts.2) fails
 

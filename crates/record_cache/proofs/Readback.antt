@@ -1,6 +1,7 @@
 -- Records that are framed are found again.
-use Rattle.std.proofs.Common.{◌≡◌, ℕ, zero, suc, ◌^◌, ◌<◌, ◌≤◌, List, [], ◌∷◌, ◌++◌, length, take, drop, refl, ap, subst, ◌∙◌, append_assoc, arith}
-use Rattle.std.specs.Prelude.{All}
+use Rattle.std.proofs.Common.{◌≡◌, Bool, ℕ, zero, suc, ◌^◌, ◌<◌, ◌≤◌, List, [], ◌∷◌, ◌++◌, length, take, drop, refl, ap, subst, ◌∙◌, append_assoc, arith}
+use Rattle.std.specs.Prelude.{All, ◌==◌, if◌then◌else◌}
+use Rattle.std.proofs.lemmas.Bool.{ne_eqb}
 use Rattle.std.proofs.lemmas.List.{length-append}
 use Rattle.std.proofs.Math.Seq.{take-append_seam, drop-append_seam}
 use Rattle.mcap_wire.specs.Layout.{le, number, string}
@@ -8,9 +9,10 @@ use Rattle.mcap_wire.specs.Maps.{IsTextPair, IsTextMap, pair_texts}
 use Rattle.mcap_wire.proofs.Numbers.{length-le}
 use Rattle.mcap_wire.proofs.Framing.{length-string, length-framed}
 use Rattle.rec_data.specs.declared.owned.Rec.{Rec}
-use Rattle.rec_data.specs.declared.owned.Rec.TheVariants.{Schema, Channel, Message}
+use Rattle.rec_data.specs.declared.owned.Rec.TheVariants.{Schema, Channel, Message, Extra}
 use Rattle.rec_data.specs.Owned.{rec_opcode, rec_text, rec_bytes, RecFits}
 use Rattle.rec_data.specs.Records.{schema_text, channel_text, message_text}
+use Rattle.rec_data.proofs.OwnedReading.{extra_not}
 use Rattle.mcap_model.specs.History.{history_bytes}
 use Rattle.mcap_model.proofs.Unpacking.{number_first}
 use Rattle.record_cache.specs.Reading.{first_text, bytes_behind_text, pairs_within, schema_read, map_read, channel_read, message_read, record_read, records_within, records_shown}
@@ -166,6 +168,10 @@ record_found (Schema id s) fits = schema_found id s.name s.encoding s.payload fi
 record_found (Channel id schema topic encoding metadata) fits =
     channel_found id schema topic encoding metadata fits.0 fits.1.0 fits.1.1.0.0 fits.1.1.1.0.0 fits.1.1.1.1.0.0 fits.1.1.1.1.0.1
 record_found (Message channel sequence log_time publish_time payload) fits = message_found channel sequence log_time publish_time payload fits.0 fits.1.0 fits.1.1.0 fits.1.1.1.0
+record_found (Extra op content) fits =
+    ap (λ (b : Bool). if b then schema_read content else (if op == 4 then channel_read content else (if op == 5 then message_read content else Extra op content))) (ne_eqb op 3 (extra_not op content 3 fits (omega arith)))
+    ∙ ap (λ (b : Bool). if b then channel_read content else (if op == 5 then message_read content else Extra op content)) (ne_eqb op 4 (extra_not op content 4 fits (omega arith)))
+    ∙ ap (λ (b : Bool). if b then message_read content else Extra op content) (ne_eqb op 5 (extra_not op content 5 fits (omega arith)))
 
 -- ---- lists of records
 

@@ -2,8 +2,8 @@
 use Rattle.std.specs.Prelude.{ℕ, zero, suc, List, [], ◌∷◌, length, take, drop, ◌==◌, if◌then◌else◌}
 use Rattle.mcap_wire.specs.Layout.{number}
 use Rattle.rec_data.specs.declared.owned.Rec.{Rec}
-use Rattle.rec_data.specs.declared.owned.Rec.TheVariants.{Schema, Channel, Message}
-use Rattle.rec_data.specs.Records.{schema_opcode, channel_opcode}
+use Rattle.rec_data.specs.declared.owned.Rec.TheVariants.{Schema, Channel, Message, Extra}
+use Rattle.rec_data.specs.Records.{schema_opcode, channel_opcode, message_opcode}
 
 -- a text behind its length in four bytes, and what follows it
 abbrev pub first_text : List ℕ → List ℕ
@@ -42,7 +42,8 @@ message_read content =
 
 unfoldable pub record_read : ℕ → List ℕ → Rec
 record_read op content = if op == schema_opcode then schema_read content
-    else (if op == channel_opcode then channel_read content else message_read content)
+    else (if op == channel_opcode then channel_read content
+    else (if op == message_opcode then message_read content else Extra op content))
 
 -- at most so many records
 unfoldable pub records_within : ℕ → List ℕ → List Rec
