@@ -28,12 +28,12 @@ same_from at ps qs more is same =
     let none : behind ≡ [] = nil_from_length behind (omega (arith, sizes, counts, count_blocks at qs, count_blocks at ps, length-append (blocks_from at ps) behind)) in
     all ∙ ap (λ (l : List (ℕ × List Rec)). blocks_from at ps ++ l) none ∙ append-nil (blocks_from at ps)
 
-same_sure : (options : FileOptions) (history : List Rec) (r : Rec) → blocks_in (cuts options.chunk (history ++ r ∷ [])).pieces ≡ blocks_in (cuts options.chunk history).pieces
+same_sure : (options : FileOptions) (history : List Rec) (r : Rec) → blocks_in (cuts options.chunk options.span (history ++ r ∷ [])).pieces ≡ blocks_in (cuts options.chunk options.span history).pieces
     → sure_blocks options (history ++ r ∷ []) ≡ sure_blocks options history
 same_sure options history r same =
-    let one = one_more options.chunk (cuts options.chunk history) r in
-    same_from (length (front options.profile)) (cuts options.chunk history).pieces (cuts options.chunk (history ++ r ∷ [])).pieces one.0
-    (ap (λ (c : Cuts). c.pieces) (cuts_more options.chunk history r) ∙ one.1) same
+    let one = one_more options.chunk options.span (cuts options.chunk options.span history) r in
+    same_from (length (front options.profile)) (cuts options.chunk options.span history).pieces (cuts options.chunk options.span (history ++ r ∷ [])).pieces one.0
+    (ap (λ (c : Cuts). c.pieces) (cuts_more options.chunk options.span history r) ∙ one.1) same
 
 -- ---- a record that closes a block
 
@@ -66,7 +66,7 @@ entries_more seen store options history records r entries more None keeps old li
 entries_more seen store options history records r entries more (Some e) keeps old listed gives =
     let done = history ++ records in
     let offset = length (written_of options done) in
-    let last = block_more (front options.profile) (cuts options.chunk done).pieces (cuts options.chunk (done ++ r ∷ [])).pieces gives.0 gives.1 in
+    let last = block_more (front options.profile) (cuts options.chunk options.span done).pieces (cuts options.chunk options.span (done ++ r ∷ [])).pieces gives.0 gives.1 in
     record {
       closed = old.closed ++ (offset, gives.0) ∷ [];
       sure = ap (sure_blocks options) (sym (append_assoc history records (r ∷ []))) ∙ last ∙ ap (λ (l : List (ℕ × List Rec)). l ++ (offset, gives.0) ∷ []) old.sure

@@ -1,7 +1,12 @@
 -- The bytes of an extra, and what is noted of it.
-use Rattle.std.proofs.Common.{◌≡◌, ◌⊎◌, ℕ, zero, suc, ◌+◌, ◌<◌, ◌≤◌, map, take, List, [], ◌∷◌, ◌++◌, length, drop, Option, Some, None, refl, sym, ap, subst, inl, inr, ◌∙◌, append_assoc, append-nil, length-append, arith}
+use Rattle.std.proofs.Common.{◌≡◌, ◌⊎◌, Bool, true, false, ℕ, zero, suc, ◌+◌, ◌<◌, ◌≤◌, map, take, List, [], ◌∷◌, ◌++◌, length, drop, Option, Some, None, refl, sym, ap, subst, inl, inr, ◌∙◌, append_assoc, append-nil, length-append, arith}
 use Rattle.std.proofs.lemmas.List.{drop_at}
-use Rattle.std.specs.Prelude.{get_or, All}
+use Rattle.std.specs.Prelude.{get_or, All, nat_le}
+use Rattle.std.proofs.lemmas.Bool.{both_ways, lt-leb}
+use Rattle.mcap_model.specs.History.{is_inner, rec_top}
+use Rattle.chunk_build.specs.Chunker.{AreFramed, AreInner}
+use Rattle.rec_data.specs.OwnedReading.{ExtraMeets}
+use Rattle.rec_data.specs.declared.owned.Rec.TheVariants.{Schema, Channel, Message, Extra}
 use Rattle.std.proofs.lemmas.List.{map-append, length-map, take_all}
 use Rattle.mcap_model.specs.Places.{At, Each}
 use Rattle.mcap_model.proofs.Places.{at_more}
@@ -20,17 +25,19 @@ use Rattle.rec_data.specs.Records.{ShowsAttachment, ShowsMetadata}
 use Rattle.rec_data.specs.declared.owned.Rec.{Rec}
 use Rattle.mcap_model.specs.declared.options.FileOptions.{FileOptions}
 use Rattle.mcap_model.specs.Tops.{Top, top_bytes, spelled}
-use Rattle.mcap_model.specs.ReadBack.{IsExtra}
+use Rattle.mcap_model.specs.ReadBack.{IsExtraKind, IsExtra}
 use Rattle.mcap_model.specs.Blocks.{pieces_of, pieces_bytes}
-use Rattle.mcap_model.specs.File.{front, section, noted, extras_from}
+use Rattle.mcap_model.specs.File.{front, section, noted, alone_from, extras_from}
 use Rattle.mcap_model.specs.Summary.{Noted}
 use Rattle.std.proofs.lemmas.Grind.{flat_map-append}
 use Rattle.summary_write.specs.Tally.{Tally, SummaryStandsFor, with_noted_extra}
+use Rattle.summary_write.proofs.Tallying.{stands_unindexed}
 use Rattle.chunk_writer.specs.declared.body.Body.{Body}
 use Rattle.chunk_writer.specs.declared.phase.Phase.{Phase}
 use Rattle.chunk_writer.specs.Bodies.{SummaryFor}
 use Rattle.chunk_writer.specs.Planning.{Planning}
-use Rattle.chunk_writer.specs.Waiting.{AreExtra}
+use Rattle.chunk_writer.specs.Waiting.{AreExtra, AreAside}
+use Rattle.rec_data.specs.Owned.{rec_opcode, rec_text, rec_bytes, ShowsRec, IsExtraContent}
 use Rattle.chunk_writer.specs.Plans.{IsFilled}
 
 pub long : (bytes : List ℕ) (t : Top) → bytes ≡ top_bytes t → length bytes ≡ 9 + length t.content
@@ -42,28 +49,75 @@ op_there bytes t is = ap (λ (l : List ℕ). get_or l 0 0) is
 pub content_there : (bytes : List ℕ) (t : Top) → bytes ≡ top_bytes t → drop 9 bytes ≡ t.content
 content_there bytes t is = ap (drop 9) is ∙ drop_at (t.op ∷ le 8 (length t.content)) t.content 9 (let size = length-le 8 (length t.content) in omega (arith, size))
 
-pub attachment_meets : (bytes content : List ℕ) → AreExtra bytes → get_or bytes 0 0 ≡ 9 → content ≡ drop 9 bytes → (f : AttachmentFields) × ShowsAttachment content f
-attachment_meets bytes content (t, is, extra) first same =
-    let op : t.op ≡ 9 = sym (op_there bytes t is) ∙ first in
-    let (f, shown) = extra.v6.attachment op in
-    (f, subst (λ (l : List ℕ). ShowsAttachment l f) (sym (same ∙ content_there bytes t is)) shown.layout)
-
-pub metadata_meets : (bytes content : List ℕ) → AreExtra bytes → (get_or bytes 0 0 ≡ 9 → ⊥) → content ≡ drop 9 bytes → (f : MetadataFields) × ShowsMetadata content f
-metadata_meets bytes content (t, is, extra) other same =
-    let op : t.op ≡ 12 = by t bytes is extra.kind other in
-    let (name, pairs, shown) = extra.v6.metadata op in
-    (record { name = name; metadata = pairs }, subst (λ (l : List ℕ). ShowsMetadata l (record { name = name; metadata = pairs })) (sym (same ∙ content_there bytes t is)) shown.layout)
+-- an extra that keeps its rules has a content that meets its layout
+content_meets : (t : Top) → IsExtra t → IsExtraContent t.op t.content
+content_meets t extra = by extra.kind
   where
-    by : (u : Top) (b : List ℕ) → b ≡ top_bytes u → (u.op ≡ 9) ⊎ (u.op ≡ 12) → (get_or b 0 0 ≡ 9 → ⊥) → u.op ≡ 12
-    by u b there (inl nine) not_nine = absurd (not_nine (op_there b u there ∙ nine))
-    by u b there (inr twelve) not_nine = twelve
+    by : IsExtraKind t.op → IsExtraContent t.op t.content
+    by (inl nine) = let (f, shown) = extra.v6.attachment nine in inl (nine, f, shown.layout)
+    by (inr (inl twelve)) = let (name, pairs, shown) = extra.v6.metadata twelve in inr (inl (twelve, record { name = name; metadata = pairs }, shown.layout))
+    by (inr (inr high)) = inr (inr high)
 
-kind_of_extra : (bytes : List ℕ) (t : Top) → AreExtra bytes → bytes ≡ top_bytes t → (get_or bytes 0 0 ≡ 9 → ⊥) → t.op ≡ 12
-kind_of_extra bytes t (u, there, extra) is other = by extra.kind
+pub extra_aside : (bytes : List ℕ) → AreExtra bytes → AreAside bytes
+extra_aside bytes (t, is, extra) = (t, is, content_meets t extra)
+
+pub attachment_meets : (bytes content : List ℕ) → AreAside bytes → get_or bytes 0 0 ≡ 9 → content ≡ drop 9 bytes → (f : AttachmentFields) × ShowsAttachment content f
+attachment_meets bytes content (t, is, extra) first same = by (sym (op_there bytes t is) ∙ first) extra
   where
-    by : (u.op ≡ 9) ⊎ (u.op ≡ 12) → t.op ≡ 12
-    by (inl nine) = absurd (other (op_there bytes u there ∙ nine))
-    by (inr twelve) = sym (op_there bytes t is) ∙ op_there bytes u there ∙ twelve
+    by : t.op ≡ 9 → IsExtraContent t.op t.content → (f : AttachmentFields) × ShowsAttachment content f
+    by op (inl (nine, f, shown)) = (f, subst (λ (l : List ℕ). ShowsAttachment l f) (sym (same ∙ content_there bytes t is)) shown)
+    by op (inr (inl (twelve, f, shown))) = absurd (omega (arith, op, twelve))
+    by op (inr (inr high)) = absurd (omega (arith, op, high))
+
+pub metadata_meets : (bytes content : List ℕ) → AreAside bytes → get_or bytes 0 0 ≡ 12 → content ≡ drop 9 bytes → (f : MetadataFields) × ShowsMetadata content f
+metadata_meets bytes content (t, is, extra) first same = by (sym (op_there bytes t is) ∙ first) extra
+  where
+    by : t.op ≡ 12 → IsExtraContent t.op t.content → (f : MetadataFields) × ShowsMetadata content f
+    by op (inl (nine, f, shown)) = absurd (omega (arith, op, nine))
+    by op (inr (inl (twelve, f, shown))) = (f, subst (λ (l : List ℕ). ShowsMetadata l f) (sym (same ∙ content_there bytes t is)) shown)
+    by op (inr (inr high)) = absurd (omega (arith, op, high))
+
+-- a record that is an extra has such a content
+pub record_aside : (bytes : List ℕ) (r : Rec) → AreFramed bytes r → is_inner r ≡ false → AreAside bytes
+record_aside bytes (Schema id schema) is extra = absurd (both_ways true extra refl)
+record_aside bytes (Channel id schema topic encoding metadata) is extra = absurd (both_ways true extra refl)
+record_aside bytes (Message channel sequence log_time publish_time payload) is extra = absurd (both_ways true extra refl)
+record_aside bytes (Extra op content) is extra = (rec_top (Extra op content), is.spelled, is.shown.2)
+
+-- the first byte tells whether a record is one
+pub inner_there : (bytes : List ℕ) (r : Rec) → AreFramed bytes r → nat_le (get_or bytes 0 0) 5 ≡ is_inner r
+inner_there bytes r is = ap (λ (l : List ℕ). nat_le (get_or l 0 0) 5) is.spelled ∙ by r is.shown
+  where
+    above : (op : ℕ) (content : List ℕ) → IsExtraContent op content → 5 < op
+    above op content (inl nine) = omega (arith, nine.0)
+    above op content (inr (inl twelve)) = omega (arith, twelve.0)
+    above op content (inr (inr high)) = omega (arith, high)
+
+    by : (s : Rec) → ShowsRec (rec_opcode s) (rec_text s) s → nat_le (get_or (rec_bytes s) 0 0) 5 ≡ is_inner s
+    by (Schema id schema) shown = refl
+    by (Channel id schema topic encoding metadata) shown = refl
+    by (Message channel sequence log_time publish_time payload) shown = refl
+    by (Extra op content) shown = lt-leb op 5 (above op content shown.2)
+
+pub framed_inner : (bytes : List ℕ) (b : Bool) (r : Rec) → AreFramed bytes r → b ≡ is_inner r → b ≡ true → AreInner bytes r
+framed_inner bytes b r framed is so = record { framed = framed; inner = sym is ∙ so }
+
+pub framed_outer : (b : Bool) (r : Rec) → b ≡ is_inner r → b ≡ false → is_inner r ≡ false
+framed_outer b r is so = sym is ∙ so
+
+pub some_bytes : (bytes : List ℕ) (r : Rec) → AreFramed bytes r → 0 < length bytes
+some_bytes bytes r is = let size = ap (λ (l : List ℕ). length l) is.spelled in omega (arith, size, length-framed (rec_opcode r) (rec_text r))
+
+-- what add_extra asks of an extra, put asks too
+pub extra_meets : (r : Rec) → (is_inner r ≡ false → IsExtra (rec_top r)) → ExtraMeets r
+extra_meets (Schema id schema) extra = tt
+extra_meets (Channel id schema topic encoding metadata) extra = tt
+extra_meets (Message channel sequence log_time publish_time payload) extra = tt
+extra_meets (Extra op content) extra = content_meets (rec_top (Extra op content)) (extra refl)
+
+-- a record of an application isn't indexed
+pub noted_other : (bytes : List ℕ) (t : Top) (at : ℕ) (n : Noted) (s : Tally) → bytes ≡ top_bytes t → (get_or bytes 0 0 ≡ 9 → ⊥) → (get_or bytes 0 0 ≡ 12 → ⊥) → SummaryStandsFor s n → SummaryStandsFor s (with_noted_extra n at t)
+noted_other bytes t at n s is nine twelve stands = stands_unindexed s n at t (λ e. nine (op_there bytes t is ∙ e)) (λ e. twelve (op_there bytes t is ∙ e)) stands
 
 pub noted_attachment : (bytes content : List ℕ) (t : Top) (at : ℕ) (n : Noted) (after : Tally) → bytes ≡ top_bytes t → get_or bytes 0 0 ≡ 9 → content ≡ drop 9 bytes
     → SummaryStandsFor after (with_noted_extra n at (record { op = 9; content = content })) → SummaryStandsFor after (with_noted_extra n at t)
@@ -71,10 +125,10 @@ noted_attachment bytes content t at n after is first same stands =
     subst (λ (k : ℕ). SummaryStandsFor after (with_noted_extra n at (record { op = k; content = t.content }))) (sym first ∙ op_there bytes t is)
     (subst (λ (l : List ℕ). SummaryStandsFor after (with_noted_extra n at (record { op = 9; content = l }))) (same ∙ content_there bytes t is) stands)
 
-pub noted_metadata : (bytes content : List ℕ) (t : Top) (at : ℕ) (n : Noted) (after : Tally) → AreExtra bytes → bytes ≡ top_bytes t → (get_or bytes 0 0 ≡ 9 → ⊥) → content ≡ drop 9 bytes
+pub noted_metadata : (bytes content : List ℕ) (t : Top) (at : ℕ) (n : Noted) (after : Tally) → bytes ≡ top_bytes t → get_or bytes 0 0 ≡ 12 → content ≡ drop 9 bytes
     → SummaryStandsFor after (with_noted_extra n at (record { op = 12; content = content })) → SummaryStandsFor after (with_noted_extra n at t)
-noted_metadata bytes content t at n after extra is other same stands =
-    subst (λ (k : ℕ). SummaryStandsFor after (with_noted_extra n at (record { op = k; content = t.content }))) (sym (kind_of_extra bytes t extra is other))
+noted_metadata bytes content t at n after is first same stands =
+    subst (λ (k : ℕ). SummaryStandsFor after (with_noted_extra n at (record { op = k; content = t.content }))) (sym first ∙ op_there bytes t is)
     (subst (λ (l : List ℕ). SummaryStandsFor after (with_noted_extra n at (record { op = 12; content = l }))) (same ∙ content_there bytes t is) stands)
 
 -- ---- a plan with an extra more
@@ -88,18 +142,19 @@ extras_append at (u ∷ ts) t =
 
 noted_more : (options : FileOptions) (extras : List Top) (t : Top) (history : List Rec) (at : ℕ) → at ≡ length (section options extras history) → with_noted_extra (noted options extras history) at t ≡ noted options (extras ++ t ∷ []) history
 noted_more options extras t history at is =
-    let start = length (front options.profile) + length (pieces_bytes (pieces_of options.chunk history)) in
-    let size = length-append (front options.profile) (pieces_bytes (pieces_of options.chunk history) ++ spelled extras) in
-    let more = length-append (pieces_bytes (pieces_of options.chunk history)) (spelled extras) in
+    let start = length (front options.profile) + length (pieces_bytes (pieces_of options.chunk options.span history)) in
+    let among = alone_from (length (front options.profile)) (pieces_of options.chunk options.span history) in
+    let size = length-append (front options.profile) (pieces_bytes (pieces_of options.chunk options.span history) ++ spelled extras) in
+    let more = length-append (pieces_bytes (pieces_of options.chunk options.span history)) (spelled extras) in
     let place : at ≡ start + length (spelled extras) = omega (arith, is, size, more) in
-    ap with_extras (ap (λ (k : ℕ). extras_from start extras ++ (k, t) ∷ []) place ∙ sym (extras_append start extras t))
+    ap with_extras (append_assoc among (extras_from start extras) ((at, t) ∷ []) ∙ ap (λ (l : List (ℕ × Top)). among ++ l) (ap (λ (k : ℕ). extras_from start extras ++ (k, t) ∷ []) place ∙ sym (extras_append start extras t)))
   where
     with_extras : List (ℕ × Top) → Noted
     with_extras l = let m = noted options extras history in record { records = m.records; blocks = m.blocks; extras = l }
 
 section_long : (options : FileOptions) (extras : List Top) (t : Top) (history : List Rec) (bytes len : ℕ) → bytes ≡ length (section options extras history) → len ≡ length (top_bytes t) → bytes + len ≡ length (section options (extras ++ t ∷ []) history)
 section_long options extras t history bytes len is size =
-    let ps = pieces_bytes (pieces_of options.chunk history) in
+    let ps = pieces_bytes (pieces_of options.chunk options.span history) in
     let all : spelled (extras ++ t ∷ []) ≡ spelled extras ++ top_bytes t = flat_map-append top_bytes extras (t ∷ []) ∙ ap (λ (l : List ℕ). spelled extras ++ l) (append-nil (top_bytes t)) in
     let whole = ap (λ (l : List ℕ). length (front options.profile ++ (ps ++ l))) all in
     omega (

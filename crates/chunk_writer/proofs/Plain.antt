@@ -43,13 +43,13 @@ use Rattle.chunk_writer.proofs.Writing.{stands_going, record_refused}
 
 -- ---- the pieces of records that stand at top level
 
-alone_more : (history records : List Rec) → (cuts None (history ++ records)).pieces ≡ (cuts None history).pieces ++ map alone records
-alone_more history [] = ap (λ (l : List Rec). (cuts None l).pieces) (append-nil history) ∙ sym (append-nil (cuts None history).pieces)
-alone_more history (r ∷ rs) =
-    ap (λ (l : List Rec). (cuts None l).pieces) (sym (append_assoc history (r ∷ []) rs))
-    ∙ alone_more (history ++ r ∷ []) rs
-    ∙ ap (λ (c : Cuts). c.pieces ++ map alone rs) (cuts_more None history r)
-    ∙ append_assoc (cuts None history).pieces (alone r ∷ []) (map alone rs)
+alone_more : (span : Option ℕ) (history records : List Rec) → (cuts None span (history ++ records)).pieces ≡ (cuts None span history).pieces ++ map alone records
+alone_more span history [] = ap (λ (l : List Rec). (cuts None span l).pieces) (append-nil history) ∙ sym (append-nil (cuts None span history).pieces)
+alone_more span history (r ∷ rs) =
+    ap (λ (l : List Rec). (cuts None span l).pieces) (sym (append_assoc history (r ∷ []) rs))
+    ∙ alone_more span (history ++ r ∷ []) rs
+    ∙ ap (λ (c : Cuts). c.pieces ++ map alone rs) (cuts_more None span history r)
+    ∙ append_assoc (cuts None span history).pieces (alone r ∷ []) (map alone rs)
 
 alone_bytes : (rs : List Rec) → pieces_bytes (map alone rs) ≡ history_bytes rs
 alone_bytes [] = refl
@@ -59,17 +59,17 @@ alone_blocks : (rs : List Rec) → blocks_in (map alone rs) ≡ []
 alone_blocks [] = refl
 alone_blocks (r ∷ rs) = alone_blocks rs
 
-plain_more : (options : FileOptions) (history records : List Rec) → options.chunk ≡ None → (cuts options.chunk (history ++ records)).pieces ≡ (cuts options.chunk history).pieces ++ map alone records
-plain_more options history records none = subst (λ (s : Option ℕ). (cuts s (history ++ records)).pieces ≡ (cuts s history).pieces ++ map alone records) (sym none) (alone_more history records)
+plain_more : (options : FileOptions) (history records : List Rec) → options.chunk ≡ None → (cuts options.chunk options.span (history ++ records)).pieces ≡ (cuts options.chunk options.span history).pieces ++ map alone records
+plain_more options history records none = subst (λ (s : Option ℕ). (cuts s options.span (history ++ records)).pieces ≡ (cuts s options.span history).pieces ++ map alone records) (sym none) (alone_more options.span history records)
 
-same_blocks : (options : FileOptions) (history records : List Rec) → options.chunk ≡ None → blocks_in (cuts options.chunk (history ++ records)).pieces ≡ blocks_in (cuts options.chunk history).pieces
+same_blocks : (options : FileOptions) (history records : List Rec) → options.chunk ≡ None → blocks_in (cuts options.chunk options.span (history ++ records)).pieces ≡ blocks_in (cuts options.chunk options.span history).pieces
 same_blocks options history records none =
-    let old = (cuts options.chunk history).pieces in
+    let old = (cuts options.chunk options.span history).pieces in
     ap blocks_in (plain_more options history records none) ∙ flat_map-append block_in old (map alone records) ∙ ap (λ (l : List (List Rec)). blocks_in old ++ l) (alone_blocks records) ∙ append-nil (blocks_in old)
 
 plain_written : (options : FileOptions) (history records : List Rec) → options.chunk ≡ None → written_of options (history ++ records) ≡ written_of options history ++ history_bytes records
 plain_written options history records none =
-    let old = (cuts options.chunk history).pieces in
+    let old = (cuts options.chunk options.span history).pieces in
     let start = front options.profile in
     ap (λ (l : List Piece). start ++ pieces_bytes l) (plain_more options history records none)
     ∙ ap (λ (l : List ℕ). start ++ l) (flat_map-append piece_bytes old (map alone records) ∙ ap (λ (l : List ℕ). pieces_bytes old ++ l) (alone_bytes records))
@@ -84,7 +84,7 @@ whole_plans options history records p len is long plans =
     let all = ap (λ (l : List ℕ). length l) (plain_written options history records none) in
     let old = plans.bytes in
     record {
-      body = subst (λ (s : Option ℕ). BodyFor s at (history ++ records) p.body) (sym none) (subst (λ (x : Option Body). BodyFor None at (history ++ records) x) (sym is) tt);
+      body = subst (λ (s : Option ℕ). BodyFor s options.span at (history ++ records) p.body) (sym none) (subst (λ (x : Option Body). BodyFor None options.span at (history ++ records) x) (sym is) tt);
       blocks = plans.blocks ∙ ap (λ (l : List (List Rec)). length l) (sym (same_blocks options history records none));
       bytes = omega (arith, all, old, long, length-append (written_of options history) (history_bytes records));
     }
@@ -113,7 +113,7 @@ past_limit options history records p after none before behind past holds =
 plain_entries : {X : Type 0} (seen : SeenExtents X) (options : FileOptions) (history records : List Rec) → options.chunk ≡ None → GivesEntries seen options history records []
 plain_entries seen options history records none = record {
   closed = [];
-  sure = same_from (length (front options.profile)) (cuts options.chunk history).pieces (cuts options.chunk (history ++ records)).pieces (map alone records) (plain_more options history records none) (same_blocks options history records none)
+  sure = same_from (length (front options.profile)) (cuts options.chunk options.span history).pieces (cuts options.chunk options.span (history ++ records)).pieces (map alone records) (plain_more options history records none) (same_blocks options history records none)
       ∙ sym (append-nil (sure_blocks options history));
   each = tt;
 }

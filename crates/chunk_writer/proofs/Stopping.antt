@@ -106,7 +106,7 @@ more_first : (ps rest : List Piece) → length (blocks_in (ps ++ first_of rest))
 more_first ps [] = ap (λ (l : List Piece). length (blocks_in l)) (append-nil ps) ∙ omega arith
 more_first ps (p ∷ rest) = blocks_more ps p
 
-pub stops_at : (options : FileOptions) (extras : List Top) (history : List Rec) (opened held now : Option (List ℕ)) (ps rest : List Piece) (stop : Stop) (blocks bytes : ℕ) → pieces_of options.chunk history ≡ ps ++ rest
+pub stops_at : (options : FileOptions) (extras : List Top) (history : List Rec) (opened held now : Option (List ℕ)) (ps rest : List Piece) (stop : Stop) (blocks bytes : ℕ) → pieces_of options.chunk options.span history ≡ ps ++ rest
     → Adds opened held (front options.profile ++ pieces_bytes ps) → Left held now (next_of rest (tail_of options extras history)) stop → blocks ≡ length (blocks_in ps) → bytes ≡ length (front options.profile ++ pieces_bytes ps)
     → StopWhy stop blocks bytes (blocks + length (blocks_in (first_of rest))) (bytes + length (next_of rest (tail_of options extras history))) → StopsAt options extras history opened now stop (numbers blocks bytes)
 stops_at options extras history opened held now ps rest stop blocks bytes is adds left many long why =
@@ -156,60 +156,60 @@ stops_at options extras history opened held now ps rest stop blocks bytes is add
 -- ---- where a record was refused
 
 abbrev pub Holding : FileOptions → Option (List ℕ) → Option (List ℕ) → List Rec → ℕ → ℕ → Type 0
-Holding options opened held history blocks bytes = Adds opened held (written_of options history) × (blocks ≡ length (blocks_in (cuts options.chunk history).pieces)) × (bytes ≡ length (written_of options history))
+Holding options opened held history blocks bytes = Adds opened held (written_of options history) × (blocks ≡ length (blocks_in (cuts options.chunk options.span history).pieces)) × (bytes ≡ length (written_of options history))
 
 -- memory lacks behind the pieces that are sure
 pub put_lacks : (options : FileOptions) (extras : List Top) (opened held : Option (List ℕ)) (history : List Rec) (blocks bytes : ℕ) (behind : List Rec) → Holding options opened held history blocks bytes
     → StopsAt options extras (history ++ behind) opened held stops.Memory (numbers blocks bytes)
 put_lacks options extras opened held history blocks bytes behind (adds, many, long) =
-    let (rest, is) = pieces_grow options.chunk history behind in
-    stops_at options extras (history ++ behind) opened held held (cuts options.chunk history).pieces rest stops.Memory blocks bytes is adds
+    let (rest, is) = pieces_grow options.chunk options.span history behind in
+    stops_at options extras (history ++ behind) opened held held (cuts options.chunk options.span history).pieces rest stops.Memory blocks bytes is adds
     (left_none held held (next_of rest (tail_of options extras (history ++ behind))) stops.Memory refl) many long tt
 
 pub put_refused : (options : FileOptions) (extras : List Top) (opened held : Option (List ℕ)) (history : List Rec) (r : Rec) (stop : Stop) (blocks bytes : ℕ) (behind : List Rec) → Holding options opened held history blocks bytes
-    → PutStopped options.chunk history r blocks bytes stop → StopsAt options extras ((history ++ r ∷ []) ++ behind) opened held stop (numbers blocks bytes)
+    → PutStopped options.chunk options.span history r blocks bytes stop → StopsAt options extras ((history ++ r ∷ []) ++ behind) opened held stop (numbers blocks bytes)
 put_refused options extras opened held history r (stops.Fault faults) blocks bytes behind stands stopped = absurd stopped
 put_refused options extras opened held history r (stops.Limit b n) blocks bytes behind (adds, many, long) (piece, closes, same_b, same_n, passes) =
-    let (rest, is) = closed_grow options.chunk history r piece behind closes in
+    let (rest, is) = closed_grow options.chunk options.span history r piece behind closes in
     let all = (history ++ r ∷ []) ++ behind in
-    stops_at options extras all opened held held (cuts options.chunk history).pieces (piece ∷ rest) (stops.Limit b n) blocks bytes is adds (left_none held held (piece_bytes piece) (stops.Limit b n) refl) many long (same_b, same_n, passes)
+    stops_at options extras all opened held held (cuts options.chunk options.span history).pieces (piece ∷ rest) (stops.Limit b n) blocks bytes is adds (left_none held held (piece_bytes piece) (stops.Limit b n) refl) many long (same_b, same_n, passes)
 put_refused options extras opened held history r stops.Memory blocks bytes behind (adds, many, long) stopped =
-    let (rest, is) = pieces_grow options.chunk history (r ∷ behind) in
+    let (rest, is) = pieces_grow options.chunk options.span history (r ∷ behind) in
     let same : history ++ r ∷ behind ≡ (history ++ r ∷ []) ++ behind = sym (append_assoc history (r ∷ []) behind) in
     subst (λ (l : List Rec). StopsAt options extras l opened held stops.Memory (numbers blocks bytes)) same
-    (stops_at options extras (history ++ r ∷ behind) opened held held (cuts options.chunk history).pieces rest stops.Memory blocks bytes is adds (left_none held held (next_of rest (tail_of options extras (history ++ r ∷ behind))) stops.Memory refl) many long tt)
+    (stops_at options extras (history ++ r ∷ behind) opened held held (cuts options.chunk options.span history).pieces rest stops.Memory blocks bytes is adds (left_none held held (next_of rest (tail_of options extras (history ++ r ∷ behind))) stops.Memory refl) many long tt)
 
 pub append_refused : (options : FileOptions) (extras : List Top) (opened held now : Option (List ℕ)) (history : List Rec) (r : Rec) (piece : Piece) (stop : Stop) (blocks bytes : ℕ) (behind : List Rec) → Holding options opened held history blocks bytes
-    → ClosesPiece options.chunk history r piece → Holds (blocks + length (blocks_in (piece ∷ []))) (bytes + length (piece_bytes piece)) → Added held now (piece_bytes piece) (Err stop)
+    → ClosesPiece options.chunk options.span history r piece → Holds (blocks + length (blocks_in (piece ∷ []))) (bytes + length (piece_bytes piece)) → Added held now (piece_bytes piece) (Err stop)
     → StopsAt options extras ((history ++ r ∷ []) ++ behind) opened now stop (numbers blocks bytes)
 append_refused options extras opened held now history r piece stop blocks bytes behind (adds, many, long) closes holds added =
-    let (rest, is) = closed_grow options.chunk history r piece behind closes in
+    let (rest, is) = closed_grow options.chunk options.span history r piece behind closes in
     let (left, why) = refused_by held now (piece_bytes piece) stop blocks bytes _ _ added holds in
-    stops_at options extras ((history ++ r ∷ []) ++ behind) opened held now (cuts options.chunk history).pieces (piece ∷ rest) stop blocks bytes is adds left many long why
+    stops_at options extras ((history ++ r ∷ []) ++ behind) opened held now (cuts options.chunk options.span history).pieces (piece ∷ rest) stop blocks bytes is adds left many long why
 
 -- ---- where the end was refused
 
 pub last_refused : (options : FileOptions) (extras : List Top) (opened held : Option (List ℕ)) (history : List Rec) (stop : Stop) (blocks bytes : ℕ) → Holding options opened held history blocks bytes
-    → LastStopped options.chunk history blocks bytes stop → StopsAt options extras history opened held stop (numbers blocks bytes)
+    → LastStopped options.chunk options.span history blocks bytes stop → StopsAt options extras history opened held stop (numbers blocks bytes)
 last_refused options extras opened held history (stops.Fault faults) blocks bytes stands stopped = absurd stopped
 last_refused options extras opened held history (stops.Limit b n) blocks bytes (adds, many, long) (piece, last, same_b, same_n, passes) =
-    stops_at options extras history opened held held (cuts options.chunk history).pieces (piece ∷ []) (stops.Limit b n) blocks bytes (whole_some options.chunk history piece last) adds
+    stops_at options extras history opened held held (cuts options.chunk options.span history).pieces (piece ∷ []) (stops.Limit b n) blocks bytes (whole_some options.chunk options.span history piece last) adds
     (left_none held held (piece_bytes piece) (stops.Limit b n) refl) many long (same_b, same_n, passes)
 last_refused options extras opened held history stops.Memory blocks bytes (adds, many, long) stopped =
-    let rest = last_piece (cuts options.chunk history).waiting in
-    stops_at options extras history opened held held (cuts options.chunk history).pieces rest stops.Memory blocks bytes refl adds (left_none held held (next_of rest (tail_of options extras history)) stops.Memory refl) many long tt
+    let rest = last_piece (cuts options.chunk options.span history).waiting in
+    stops_at options extras history opened held held (cuts options.chunk options.span history).pieces rest stops.Memory blocks bytes refl adds (left_none held held (next_of rest (tail_of options extras history)) stops.Memory refl) many long tt
 
 pub last_append_refused : (options : FileOptions) (extras : List Top) (opened held now : Option (List ℕ)) (history : List Rec) (piece : Piece) (stop : Stop) (blocks bytes : ℕ) → Holding options opened held history blocks bytes
-    → last_piece (cuts options.chunk history).waiting ≡ piece ∷ [] → Holds (blocks + length (blocks_in (piece ∷ []))) (bytes + length (piece_bytes piece)) → Added held now (piece_bytes piece) (Err stop)
+    → last_piece (cuts options.chunk options.span history).waiting ≡ piece ∷ [] → Holds (blocks + length (blocks_in (piece ∷ []))) (bytes + length (piece_bytes piece)) → Added held now (piece_bytes piece) (Err stop)
     → StopsAt options extras history opened now stop (numbers blocks bytes)
 last_append_refused options extras opened held now history piece stop blocks bytes (adds, many, long) last holds added =
     let (left, why) = refused_by held now (piece_bytes piece) stop blocks bytes _ _ added holds in
-    stops_at options extras history opened held now (cuts options.chunk history).pieces (piece ∷ []) stop blocks bytes (whole_some options.chunk history piece last) adds left many long why
+    stops_at options extras history opened held now (cuts options.chunk options.span history).pieces (piece ∷ []) stop blocks bytes (whole_some options.chunk options.span history piece last) adds left many long why
 
 -- all pieces and the first extras
 abbrev pub Wholly : FileOptions → List Top → Option (List ℕ) → Option (List ℕ) → List Rec → ℕ → ℕ → Type 0
 Wholly options extras opened held history blocks bytes = Adds opened held (section options extras history)
-    × (blocks ≡ length (blocks_in (pieces_of options.chunk history))) × (bytes ≡ length (section options extras history))
+    × (blocks ≡ length (blocks_in (pieces_of options.chunk options.span history))) × (bytes ≡ length (section options extras history))
 
 take_past : (ps : List Piece) (es : List Top) (k : ℕ) → take (length (map piece_bytes ps ++ map top_bytes es) + k) ps ≡ ps
 take_past ps es k = take_all (length (map piece_bytes ps ++ map top_bytes es) + k) ps (let size : length (map piece_bytes ps) ≡ length ps = length-map ps piece_bytes in omega (arith, size, length-append (map piece_bytes ps) (map top_bytes es)))
@@ -219,7 +219,7 @@ stops_past : (options : FileOptions) (done extras : List Top) (opened held now :
     → tail_of options extras history ≡ map top_bytes done ++ next ∷ behind → Wholly options done opened held history blocks bytes → Left held now next stop
     → StopWhy stop blocks bytes (blocks + 0) (bytes + length next) → StopsAt options extras history opened now stop (numbers blocks bytes)
 stops_past options done extras opened held now history next behind stop blocks bytes is (adds, many, long) left why =
-    let ps = pieces_of options.chunk history in
+    let ps = pieces_of options.chunk options.span history in
     let start = front options.profile in
     let xs = map piece_bytes ps ++ map top_bytes done in
     let place = suc (length xs) in

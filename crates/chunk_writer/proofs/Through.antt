@@ -51,10 +51,10 @@ goes_plain options opened held history records p before now none going stands so
   still = still_so records before now some still;
 }
 
-body_none : (size : Option ℕ) (at : ℕ) (history : List Rec) (body : Option Body) → size ≡ None → BodyFor size at history body → body ≡ None
-body_none None at history None is stands = refl
-body_none None at history (Some b) is stands = absurd stands
-body_none (Some size) at history body is stands = absurd (cc)
+body_none : (size span : Option ℕ) (at : ℕ) (history : List Rec) (body : Option Body) → size ≡ None → BodyFor size span at history body → body ≡ None
+body_none None span at history None is stands = refl
+body_none None span at history (Some b) is stands = absurd stands
+body_none (Some size) span at history body is stands = absurd (cc)
 
 each_zero : (size : Option ℕ) (waiting : ℕ) → (IsSome size → waiting ≡ 0) → (size ≡ None → ⊥) → waiting ≡ 0
 each_zero None waiting some none = absurd (none refl)
@@ -69,7 +69,7 @@ goes_each state options extras opened history records old new writes grows going
     let before = (writes.0.going going).0 in
     let behind = (later.0.going on).0 in
     let chunked : options.chunk ≡ None → ⊥ = λ none.
-    past_limit options history records old.plan new.plan none before behind (past (body_none options.chunk _ history old.plan.body none before.body)) holds in
+    past_limit options history records old.plan new.plan none before behind (past (body_none options.chunk options.span _ history old.plan.body none before.body)) holds in
     let zero = each_zero options.chunk (state new.store).waiting (later.2 on) chunked in
     record { chunked = λ some. zero; some = λ some. zero; still = λ none. zero }
 

@@ -11,7 +11,9 @@ use Rattle.mcap_model.specs.Built.{IsBlock}
 use Rattle.mcap_model.specs.Blocks.{Piece, block, alone, cuts, pieces_of, piece_bytes, pieces_bytes, block_bytes}
 use Rattle.std.proofs.lemmas.Grind.{flat_map-append}
 use Rattle.mcap_model.specs.Tops.{Top, top_bytes, spelled}
-use Rattle.mcap_model.specs.File.{front, data_end, section, noted, tail_by, file_of}
+use Rattle.mcap_model.specs.File.{front, data_end, section, noted, tail_by, file_of, blocks_from, alone_from}
+use Rattle.mcap_model.specs.History.{body_of}
+use Rattle.mcap_model.specs.Summary.{Noted}
 use Rattle.mcap_model.specs.Histories.{written_of}
 use Rattle.mcap_model.specs.Pieces.{back_of}
 use Rattle.live_entry.specs.declared.entry.Entry.{Entry}
@@ -21,7 +23,7 @@ use Rattle.chunk_writer.specs.declared.phase.Phase.TheVariants as phases
 use Rattle.chunk_writer.specs.declared.next.Next.{Next}
 use Rattle.chunk_writer.specs.declared.next.Next.TheVariants as nexts
 use Rattle.chunk_writer.specs.Limits.{Holds}
-use Rattle.chunk_writer.specs.Bodies.{ClosesPiece}
+use Rattle.chunk_writer.specs.Bodies.{ClosesPiece, noted_of, SummaryFor}
 use Rattle.chunk_writer.specs.Planning.{Planning}
 use Rattle.chunk_writer.specs.Plans.{Plans, IsPlanned, IsToAppend, PutStopped, HoldsBlock, HoldsNext, StoppedBefore, IsFilled, IsLastBlock, LastStopped, ExtraStopped, BackStopped}
 use Rattle.chunk_writer.specs.Stops.{numbers, StopsAt, Ends}
@@ -70,7 +72,7 @@ stands_going options opened now history p going plans adds = record {
 
 -- the pieces that are sure have the front's bytes
 pub plans_begun : (options : FileOptions) (history : List Rec) (p : Planning) → Plans options history p → length (front options.profile) ≤ p.bytes
-plans_begun options history p plans = omega (arith, plans.bytes, length-append (front options.profile) (pieces_bytes (cuts options.chunk history).pieces))
+plans_begun options history p plans = omega (arith, plans.bytes, length-append (front options.profile) (pieces_bytes (cuts options.chunk options.span history).pieces))
 
 pub stands_stopped : (options : FileOptions) (opened now : Option (List ℕ)) (history : List Rec) (p : Planning) (stop : Stop) (blocks bytes : ℕ) → StoppedBefore blocks bytes stop p
     → length (front options.profile) ≤ bytes → ((extras : List Top) (behind : List Rec) → StopsAt options extras (history ++ behind) opened now stop (numbers blocks bytes)) → ScribeStands options opened now history p
@@ -98,7 +100,7 @@ pub put_waits : (options : FileOptions) (opened held : Option (List ℕ)) (histo
 put_waits options opened held history r p mid next is planned going before stands =
     let (plans, first) = stands.going before in
     let made = planned options history plans in
-    let same : IsToAppend options.chunk history r nexts.Waits = subst (λ (n : Next). IsToAppend options.chunk history r n) is made.next_is in
+    let same : IsToAppend options.chunk options.span history r nexts.Waits = subst (λ (n : Next). IsToAppend options.chunk options.span history r n) is made.next_is in
     stands_going options opened held (history ++ r ∷ []) mid going made.stands (subst (λ (ps : List Piece). Adds opened held (front options.profile ++ pieces_bytes ps)) (sym same) first)
 
 pub put_block : (options : FileOptions) (opened held now : Option (List ℕ)) (history : List Rec) (r : Rec) (p mid after : Planning) (next : Next) (blk : Block) → next ≡ nexts.Block blk → Planned p r next mid
@@ -106,20 +108,33 @@ pub put_block : (options : FileOptions) (opened held now : Option (List ℕ)) (h
 put_block options opened held now history r p mid after next blk is planned going same before adds stands =
     let (plans, first) = stands.going before in
     let made = planned options history plans in
-    let (records, closes, built) : (records : List Rec) × ClosesPiece options.chunk history r (block records) × IsBlock blk records = subst (λ (n : Next). IsToAppend options.chunk history r n) is made.next_is in
+    let (records, closes, built) : (records : List Rec) × ClosesPiece options.chunk options.span history r (block records) × IsBlock blk records = subst (λ (n : Next). IsToAppend options.chunk options.span history r n) is made.next_is in
     let piece : Adds held now (piece_bytes (block records)) = subst (λ (l : List ℕ). Adds held now l) built.spelled adds in
     subst (λ (q : Planning). ScribeStands options opened now (history ++ r ∷ []) q) (sym same)
-    (stands_going options opened now (history ++ r ∷ []) mid going made.stands (adds_more opened held now (front options.profile) (cuts options.chunk history).pieces (cuts options.chunk (history ++ r ∷ [])).pieces (block records) closes first piece))
+    (stands_going options opened now (history ++ r ∷ []) mid going made.stands (adds_more opened held now (front options.profile) (cuts options.chunk options.span history).pieces (cuts options.chunk options.span (history ++ r ∷ [])).pieces (block records) closes first piece))
+
+-- an extra is appended as a record that stands at top level
+as_record : (options : FileOptions) (history : List Rec) (r : Rec) (mid : Planning) (next : Next) → next ≡ nexts.Aside → IsPlanned options history r next mid → IsPlanned options history r nexts.Record mid
+as_record options history r mid next is planned = record {
+  stands = planned.stands;
+  next_is = (let closes : IsToAppend options.chunk options.span history r nexts.Aside = subst (λ (n : Next). IsToAppend options.chunk options.span history r n) is planned.next_is in closes);
+}
 
 pub put_record : (options : FileOptions) (opened held now : Option (List ℕ)) (history : List Rec) (r : Rec) (p mid after : Planning) (next : Next) (bytes : List ℕ) → next ≡ nexts.Record → bytes ≡ rec_bytes r → Planned p r next mid
     → mid.phase ≡ phases.Going → after ≡ mid → p.phase ≡ phases.Going → Adds held now bytes → ScribeStands options opened held history p → ScribeStands options opened now (history ++ r ∷ []) after
 put_record options opened held now history r p mid after next bytes is spelled planned going same before adds stands =
     let (plans, first) = stands.going before in
     let made = planned options history plans in
-    let closes : ClosesPiece options.chunk history r (alone r) = subst (λ (n : Next). IsToAppend options.chunk history r n) is made.next_is in
+    let closes : ClosesPiece options.chunk options.span history r (alone r) = subst (λ (n : Next). IsToAppend options.chunk options.span history r n) is made.next_is in
     let piece : Adds held now (piece_bytes (alone r)) = subst (λ (l : List ℕ). Adds held now l) spelled adds in
     subst (λ (q : Planning). ScribeStands options opened now (history ++ r ∷ []) q) (sym same)
-    (stands_going options opened now (history ++ r ∷ []) mid going made.stands (adds_more opened held now (front options.profile) (cuts options.chunk history).pieces (cuts options.chunk (history ++ r ∷ [])).pieces (alone r) closes first piece))
+    (stands_going options opened now (history ++ r ∷ []) mid going made.stands (adds_more opened held now (front options.profile) (cuts options.chunk options.span history).pieces (cuts options.chunk options.span (history ++ r ∷ [])).pieces (alone r) closes first piece))
+
+-- an extra that was put where there are blocks
+pub put_aside : (options : FileOptions) (opened held now : Option (List ℕ)) (history : List Rec) (r : Rec) (p mid after : Planning) (next : Next) (bytes : List ℕ) → next ≡ nexts.Aside → bytes ≡ rec_bytes r → Planned p r next mid
+    → mid.phase ≡ phases.Going → after ≡ mid → p.phase ≡ phases.Going → Adds held now bytes → ScribeStands options opened held history p → ScribeStands options opened now (history ++ r ∷ []) after
+put_aside options opened held now history r p mid after next bytes is spelled planned going same before adds stands =
+    put_record options opened held now history r p mid after nexts.Record bytes refl spelled (λ o h plans. as_record o h r mid next is (planned o h plans)) going same before adds stands
 
 pub block_refused : (options : FileOptions) (opened held now : Option (List ℕ)) (history : List Rec) (r : Rec) (p mid after : Planning) (next : Next) (framed : List ℕ) (blk : Block) (stop : Stop) (blocks bytes : ℕ) → next ≡ nexts.Block blk → Planned p r next mid
     → HoldsNext p.blocks p.bytes framed next → blocks ≡ p.blocks → bytes ≡ p.bytes → StoppedBefore blocks bytes stop after → p.phase ≡ phases.Going → Added held now blk.bytes (Err stop) → ScribeStands options opened held history p
@@ -127,7 +142,7 @@ pub block_refused : (options : FileOptions) (opened held now : Option (List ℕ)
 block_refused options opened held now history r p mid after next framed blk stop blocks bytes is planned room same_b same_n before going added stands =
     let (plans, first) = stands.going going in
     let made = planned options history plans in
-    let (records, closes, built) : (records : List Rec) × ClosesPiece options.chunk history r (block records) × IsBlock blk records = subst (λ (n : Next). IsToAppend options.chunk history r n) is made.next_is in
+    let (records, closes, built) : (records : List Rec) × ClosesPiece options.chunk options.span history r (block records) × IsBlock blk records = subst (λ (n : Next). IsToAppend options.chunk options.span history r n) is made.next_is in
     let piece : Added held now (piece_bytes (block records)) (Err stop) = subst (λ (l : List ℕ). Added held now l (Err stop)) built.spelled added in
     let holds : Holds (p.blocks + 1) (p.bytes + length blk.bytes) = subst (λ (n : Next). HoldsNext p.blocks p.bytes framed n) is room in
     let fits : Holds (p.blocks + 1) (p.bytes + length (block_bytes records)) = subst (λ (l : List ℕ). Holds (p.blocks + 1) (p.bytes + length l)) built.spelled holds in
@@ -141,7 +156,7 @@ pub record_refused : (options : FileOptions) (opened held now : Option (List ℕ
 record_refused options opened held now history r p mid after next piece stop blocks bytes is spelled planned room same_b same_n before going added stands =
     let (plans, first) = stands.going going in
     let made = planned options history plans in
-    let closes : ClosesPiece options.chunk history r (alone r) = subst (λ (n : Next). IsToAppend options.chunk history r n) is made.next_is in
+    let closes : ClosesPiece options.chunk options.span history r (alone r) = subst (λ (n : Next). IsToAppend options.chunk options.span history r n) is made.next_is in
     let left : Added held now (piece_bytes (alone r)) (Err stop) = subst (λ (l : List ℕ). Added held now l (Err stop)) spelled added in
     let holds : Holds p.blocks (p.bytes + length piece) = subst (λ (n : Next). HoldsNext p.blocks p.bytes piece n) is room in
     let long = ap (λ (l : List ℕ). length l) spelled in
@@ -152,8 +167,15 @@ record_refused options opened held now history r p mid after next piece stop blo
     stands_stopped options opened now (history ++ r ∷ []) after stop p.blocks p.bytes stopped (plans_begun options history p (stands.going going).0)
     (λ extras behind. append_refused options extras opened held now history r (alone r) stop p.blocks p.bytes behind (holding options opened held history p going stands) closes fits left)
 
+pub aside_refused : (options : FileOptions) (opened held now : Option (List ℕ)) (history : List Rec) (r : Rec) (p mid after : Planning) (next : Next) (piece : List ℕ) (stop : Stop) (blocks bytes : ℕ) → next ≡ nexts.Aside → piece ≡ rec_bytes r → Planned p r next mid
+    → HoldsNext p.blocks p.bytes piece next → blocks ≡ p.blocks → bytes ≡ p.bytes → StoppedBefore blocks bytes stop after → p.phase ≡ phases.Going → Added held now piece (Err stop) → ScribeStands options opened held history p
+    → ScribeStands options opened now (history ++ r ∷ []) after
+aside_refused options opened held now history r p mid after next piece stop blocks bytes is spelled planned room same_b same_n before going added stands =
+    let holds : HoldsNext p.blocks p.bytes piece nexts.Aside = subst (λ (n : Next). HoldsNext p.blocks p.bytes piece n) is room in
+    record_refused options opened held now history r p mid after nexts.Record piece stop blocks bytes refl spelled (λ o h plans. as_record o h r mid next is (planned o h plans)) holds same_b same_n before going added stands
+
 pub add_refused : (options : FileOptions) (opened held : Option (List ℕ)) (history : List Rec) (r : Rec) (p after : Planning) (stop : Stop) → p.phase ≡ phases.Going
-    → ((o : FileOptions) (h : List Rec) → Plans o h p → PutStopped o.chunk h r p.blocks p.bytes stop) → StoppedBefore p.blocks p.bytes stop after → ScribeStands options opened held history p
+    → ((o : FileOptions) (h : List Rec) → Plans o h p → PutStopped o.chunk o.span h r p.blocks p.bytes stop) → StoppedBefore p.blocks p.bytes stop after → ScribeStands options opened held history p
     → ScribeStands options opened held (history ++ r ∷ []) after
 add_refused options opened held history r p after stop going refused before stands =
     stands_stopped options opened held (history ++ r ∷ []) after stop p.blocks p.bytes before (plans_begun options history p (stands.going going).0)
@@ -183,7 +205,7 @@ pub block_entry : {X : Type 0} (seen : SeenExtents X) (options : FileOptions) (o
 block_entry seen options opened held history r p mid next blk e bytes is planned going place with_it long told stands =
     let (plans, first) = stands.going going in
     let made = planned options history plans in
-    let (records, closes, built) : (records : List Rec) × ClosesPiece options.chunk history r (block records) × IsBlock blk records = subst (λ (n : Next). IsToAppend options.chunk history r n) is made.next_is in
+    let (records, closes, built) : (records : List Rec) × ClosesPiece options.chunk options.span history r (block records) × IsBlock blk records = subst (λ (n : Next). IsToAppend options.chunk options.span history r n) is made.next_is in
     let offset : bytes ≡ length (written_of options history) = place ∙ plans.bytes in
     (records, closes, entry_of_block seen e (length (written_of options history)) blk records (subst (λ (n : ℕ). IsEntryWith e e.extent n blk) offset with_it) built long told)
 
@@ -197,11 +219,11 @@ pub adds_last : (options : FileOptions) (opened held now : Option (List ℕ)) (h
 adds_last options opened held now history p mid after last blk is lasts same going adds stands =
     let (plans, first) = stands.going going in
     let made : IsLastBlock options history (Some blk) mid = subst (λ (x : Option Block). IsLastBlock options history x mid) is (lasts options history plans) in
-    let piece : Adds held now (piece_bytes (block (cuts options.chunk history).waiting)) = subst (λ (l : List ℕ). Adds held now l) made.last_block.1.spelled adds in
+    let piece : Adds held now (piece_bytes (block (cuts options.chunk options.span history).waiting)) = subst (λ (l : List ℕ). Adds held now l) made.last_block.1.spelled adds in
     subst (λ (q : Planning). AddsLast options opened now history q) (sym same) (record {
       whole = made.whole;
-      adds = adds_more opened held now (front options.profile) (cuts options.chunk history).pieces (pieces_of options.chunk history) (block (cuts options.chunk history).waiting)
-          (whole_some options.chunk history (block (cuts options.chunk history).waiting) made.last_block.0) first piece;
+      adds = adds_more opened held now (front options.profile) (cuts options.chunk options.span history).pieces (pieces_of options.chunk options.span history) (block (cuts options.chunk options.span history).waiting)
+          (whole_some options.chunk options.span history (block (cuts options.chunk options.span history).waiting) made.last_block.0) first piece;
     })
 
 pub adds_none : (options : FileOptions) (opened held : Option (List ℕ)) (history : List Rec) (p mid : Planning) (last : Option Block) → last ≡ None → Lasts p last mid → p.phase ≡ phases.Going
@@ -211,7 +233,7 @@ adds_none options opened held history p mid last is lasts going stands =
     let made : IsLastBlock options history None mid = subst (λ (x : Option Block). IsLastBlock options history x mid) is (lasts options history plans) in
     record {
       whole = made.whole;
-      adds = subst (λ (l : List Piece). Adds opened held (front options.profile ++ pieces_bytes l)) (sym (whole_none options.chunk history made.last_block)) first;
+      adds = subst (λ (l : List Piece). Adds opened held (front options.profile ++ pieces_bytes l)) (sym (whole_none options.chunk options.span history made.last_block)) first;
     }
 
 pub last_entry : {X : Type 0} (seen : SeenExtents X) (options : FileOptions) (opened held : Option (List ℕ)) (history : List Rec) (p mid : Planning) (last : Option Block) (blk : Block) (e : Entry X) (bytes : ℕ)
@@ -222,7 +244,7 @@ last_entry seen options opened held history p mid last blk e bytes is lasts goin
     let made : IsLastBlock options history (Some blk) mid = subst (λ (x : Option Block). IsLastBlock options history x mid) is (lasts options history plans) in
     let offset : bytes ≡ length (written_of options history) = place ∙ plans.bytes in (
       made.last_block.0,
-      entry_of_block seen e (length (written_of options history)) blk (cuts options.chunk history).waiting
+      entry_of_block seen e (length (written_of options history)) blk (cuts options.chunk options.span history).waiting
           (subst (λ (n : ℕ). IsEntryWith e e.extent n blk) offset with_it) made.last_block.1 long told,
     )
 
@@ -237,7 +259,7 @@ pub block_last_refused : (options : FileOptions) (extras : List Top) (opened hel
 block_last_refused options extras opened held now history p mid after last blk stop blocks bytes is lasts room same_b same_n before going added stands =
     let (plans, first) = stands.going going in
     let made : IsLastBlock options history (Some blk) mid = subst (λ (x : Option Block). IsLastBlock options history x mid) is (lasts options history plans) in
-    let records = (cuts options.chunk history).waiting in
+    let records = (cuts options.chunk options.span history).waiting in
     let built = made.last_block.1 in
     let piece : Added held now (piece_bytes (block records)) (Err stop) = subst (λ (l : List ℕ). Added held now l (Err stop)) built.spelled added in
     let holds : Holds (p.blocks + 1) (p.bytes + length blk.bytes) = subst (λ (x : Option Block). HoldsBlock p.blocks p.bytes x) is room in
@@ -247,7 +269,7 @@ block_last_refused options extras opened held now history p mid after last blk s
     (last_append_refused options extras opened held now history (block records) stop p.blocks p.bytes (holding options opened held history p going stands) made.last_block.0 fits piece)
 
 pub last_stopped : (options : FileOptions) (extras : List Top) (opened held : Option (List ℕ)) (history : List Rec) (p after : Planning) (stop : Stop) → p.phase ≡ phases.Going
-    → ((o : FileOptions) (h : List Rec) → Plans o h p → LastStopped o.chunk h p.blocks p.bytes stop) → StoppedBefore p.blocks p.bytes stop after → ScribeStands options opened held history p
+    → ((o : FileOptions) (h : List Rec) → Plans o h p → LastStopped o.chunk o.span h p.blocks p.bytes stop) → StoppedBefore p.blocks p.bytes stop after → ScribeStands options opened held history p
     → StopsAt options extras history opened held stop (numbers after.blocks after.bytes)
 last_stopped options extras opened held history p after stop going refused before stands =
     stops_so options extras opened held history after stop p.blocks p.bytes before
@@ -259,15 +281,21 @@ file_whole : (options : FileOptions) (extras : List Top) (history : List Rec) �
 unfolding file_of
 file_whole options extras history = sym (append_assoc (section options extras history) data_end (tail_by options.chunk (noted options extras history) (length (section options extras history ++ data_end))))
 
+noted_none : (options : FileOptions) (history : List Rec) → noted_of (length (front options.profile)) history (pieces_of options.chunk options.span history) ≡ noted options [] history
+noted_none options history = ap with_extras (sym (append-nil (alone_from (length (front options.profile)) (pieces_of options.chunk options.span history))))
+  where
+    with_extras : List (ℕ × Top) → Noted
+    with_extras l = record { records = body_of history; blocks = blocks_from (length (front options.profile)) (pieces_of options.chunk options.span history); extras = l }
+
 -- behind the pieces no extras stand yet
 pub fills_none : (options : FileOptions) (opened now : Option (List ℕ)) (history : List Rec) (p : Planning) → AddsLast options opened now history p → FillsExtras options [] opened now history p
 fills_none options opened now history p lasts =
     let whole = lasts.whole in
-    let ps = pieces_bytes (pieces_of options.chunk history) in
+    let ps = pieces_bytes (pieces_of options.chunk options.span history) in
     let same : front options.profile ++ ps ≡ section options [] history = ap (λ (l : List ℕ). front options.profile ++ l) (sym (append-nil ps)) in
     record {
       filled = record {
-        body = whole.body;
+        body = subst (λ (n : Noted). SummaryFor options.chunk n p.body) (noted_none options history) whole.body;
         blocks = whole.blocks;
         bytes = whole.bytes ∙ ap (λ (l : List ℕ). length l) same;
       };
@@ -276,7 +304,7 @@ fills_none options opened now history p lasts =
 
 section_more : (options : FileOptions) (extras : List Top) (t : Top) (history : List Rec) → section options (extras ++ t ∷ []) history ≡ section options extras history ++ top_bytes t
 section_more options extras t history =
-    let ps = pieces_bytes (pieces_of options.chunk history) in
+    let ps = pieces_bytes (pieces_of options.chunk options.span history) in
     ap (λ (l : List ℕ). front options.profile ++ (ps ++ l)) (flat_map-append top_bytes extras (t ∷ []) ∙ ap (λ (l : List ℕ). spelled extras ++ l) (append-nil (top_bytes t)))
     ∙ ap (λ (l : List ℕ). front options.profile ++ l) (sym (append_assoc ps (spelled extras) (top_bytes t)))
     ∙ sym (append_assoc (front options.profile) (ps ++ spelled extras) (top_bytes t))
@@ -293,7 +321,7 @@ fills_more options extras t opened held now history p after piece is filled adds
 
 -- the front's bytes are among those of a file's section
 section_begun : (options : FileOptions) (extras : List Top) (history : List Rec) → length (front options.profile) ≤ length (section options extras history)
-section_begun options extras history = omega (arith, length-append (front options.profile) (pieces_bytes (pieces_of options.chunk history) ++ spelled extras))
+section_begun options extras history = omega (arith, length-append (front options.profile) (pieces_bytes (pieces_of options.chunk options.span history) ++ spelled extras))
 
 fills_begun : (options : FileOptions) (extras : List Top) (opened held : Option (List ℕ)) (history : List Rec) (p : Planning) → FillsExtras options extras opened held history p → length (front options.profile) ≤ p.bytes
 fills_begun options extras opened held history p fills = let long = fills.filled.bytes in omega (arith, long, section_begun options extras history)

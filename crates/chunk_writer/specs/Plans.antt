@@ -23,8 +23,8 @@ use Rattle.chunk_writer.specs.Planning.{Planning}
 
 -- A plan stands for a history: its numbers are those of the pieces that are sure, and its body holds the records that wait.
 pub record Plans (options : FileOptions) (history : List Rec) (p : Planning) : Type 0 where
-  pub body : BodyFor options.chunk (length (front options.profile)) history p.body
-  pub blocks : p.blocks ≡ length (blocks_in (cuts options.chunk history).pieces)
+  pub body : BodyFor options.chunk options.span (length (front options.profile)) history p.body
+  pub blocks : p.blocks ≡ length (blocks_in (cuts options.chunk options.span history).pieces)
   pub bytes : p.bytes ≡ length (written_of options history)
 
 -- the plan, with so many bytes more of records that stand at top level
@@ -32,17 +32,18 @@ abbrev pub counted_on : Planning → ℕ → Planning
 counted_on p len = record p { bytes = p.bytes + len }
 
 -- what is to be appended for a record more
-abbrev pub IsToAppend : Option ℕ → List Rec → Rec → Next → Type 0
-IsToAppend size history r nexts.Waits = (cuts size (history ++ r ∷ [])).pieces ≡ (cuts size history).pieces
-IsToAppend size history r (nexts.Block b) =
-    (records : List Rec) × ClosesPiece size history r (block records) × IsBlock b records
-IsToAppend size history r nexts.Record = ClosesPiece size history r (alone r)
+abbrev pub IsToAppend : Option ℕ → Option ℕ → List Rec → Rec → Next → Type 0
+IsToAppend size span history r nexts.Waits = (cuts size span (history ++ r ∷ [])).pieces ≡ (cuts size span history).pieces
+IsToAppend size span history r (nexts.Block b) =
+    (records : List Rec) × ClosesPiece size span history r (block records) × IsBlock b records
+IsToAppend size span history r nexts.Record = ClosesPiece size span history r (alone r)
+IsToAppend size span history r nexts.Aside = ClosesPiece size span history r (alone r)
 
 -- a record is planned
 pub record IsPlanned (options : FileOptions) (history : List Rec) (r : Rec) (next : Next) (after : Planning)
     : Type 0 where
   pub stands : Plans options (history ++ r ∷ []) after
-  pub next_is : IsToAppend options.chunk history r next
+  pub next_is : IsToAppend options.chunk options.span history r next
 
 -- with this piece a file passes what it may hold
 abbrev pub PiecePasses : ℕ → ℕ → Piece → Type 0
@@ -50,11 +51,11 @@ PiecePasses blocks bytes piece =
     Holds (blocks + length (blocks_in (piece ∷ []))) (bytes + length (piece_bytes piece)) → ⊥
 
 -- why there is none: memory lacks, or the piece that the record makes sure would pass the limit
-abbrev pub PutStopped : Option ℕ → List Rec → Rec → ℕ → ℕ → Stop → Type 0
-PutStopped size history r blocks bytes (stops.Fault faults) = ⊥
-PutStopped size history r blocks bytes (stops.Limit at_blocks at_bytes) = (piece : Piece)
-    × ClosesPiece size history r piece × (at_blocks ≡ blocks) × (at_bytes ≡ bytes) × PiecePasses blocks bytes piece
-PutStopped size history r blocks bytes stops.Memory = Unit {0}
+abbrev pub PutStopped : Option ℕ → Option ℕ → List Rec → Rec → ℕ → ℕ → Stop → Type 0
+PutStopped size span history r blocks bytes (stops.Fault faults) = ⊥
+PutStopped size span history r blocks bytes (stops.Limit at_blocks at_bytes) = (piece : Piece)
+    × ClosesPiece size span history r piece × (at_blocks ≡ blocks) × (at_bytes ≡ bytes) × PiecePasses blocks bytes piece
+PutStopped size span history r blocks bytes stops.Memory = Unit {0}
 
 -- a file may hold a block more, where there is one
 abbrev pub HoldsBlock : ℕ → ℕ → Option Block → Type 0
@@ -66,12 +67,14 @@ abbrev pub HoldsNext : ℕ → ℕ → List ℕ → Next → Type 0
 HoldsNext blocks bytes framed nexts.Waits = Unit {0}
 HoldsNext blocks bytes framed (nexts.Block b) = Holds (blocks + 1) (bytes + length b.bytes)
 HoldsNext blocks bytes framed nexts.Record = Holds blocks (bytes + length framed)
+HoldsNext blocks bytes framed nexts.Aside = Holds blocks (bytes + length framed)
 
 -- how many blocks there are with it
 abbrev pub CountsNext : ℕ → ℕ → Next → Type 0
 CountsNext before after nexts.Waits = after ≡ before
 CountsNext before after (nexts.Block b) = after ≡ before + 1
 CountsNext before after nexts.Record = after ≡ before
+CountsNext before after nexts.Aside = after ≡ before
 
 -- the plan stopped, with so many blocks and bytes before the piece
 pub record StoppedBefore (blocks bytes : ℕ) (stop : Stop) (after : Planning) : Type 0 where
@@ -84,14 +87,14 @@ pub record StoppedBefore (blocks bytes : ℕ) (stop : Stop) (after : Planning) :
 -- all pieces of a history are counted, and its summary stands for them
 pub record CountsAllPieces (options : FileOptions) (history : List Rec) (p : Planning) : Type 0 where
   pub body : SummaryFor options.chunk
-      (noted_of (length (front options.profile)) history (pieces_of options.chunk history)) p.body
-  pub blocks : p.blocks ≡ length (blocks_in (pieces_of options.chunk history))
-  pub bytes : p.bytes ≡ length (front options.profile ++ pieces_bytes (pieces_of options.chunk history))
+      (noted_of (length (front options.profile)) history (pieces_of options.chunk options.span history)) p.body
+  pub blocks : p.blocks ≡ length (blocks_in (pieces_of options.chunk options.span history))
+  pub bytes : p.bytes ≡ length (front options.profile ++ pieces_bytes (pieces_of options.chunk options.span history))
 
 -- all pieces of a history and these extras behind them are counted, and its summary stands for them
 pub record IsFilled (options : FileOptions) (extras : List Top) (history : List Rec) (p : Planning) : Type 0 where
   pub body : SummaryFor options.chunk (noted options extras history) p.body
-  pub blocks : p.blocks ≡ length (blocks_in (pieces_of options.chunk history))
+  pub blocks : p.blocks ≡ length (blocks_in (pieces_of options.chunk options.span history))
   pub bytes : p.bytes ≡ length (section options extras history)
 
 -- why an extra of these bytes isn't counted
@@ -105,7 +108,7 @@ ExtraStopped blocks bytes framed stops.Memory = Unit {0}
 pub record IsLastBlock (options : FileOptions) (history : List Rec) (last : Option Block) (after : Planning)
     : Type 0 where
   pub whole : CountsAllPieces options history after
-  pub last_block : chunker.Last (cuts options.chunk history).waiting last
+  pub last_block : chunker.Last (cuts options.chunk options.span history).waiting last
 
 -- the numbers with a block more, where there is one
 abbrev pub CountsBlock : Planning → Option Block → Planning → Type 0
@@ -113,12 +116,12 @@ CountsBlock before None after = (after.blocks ≡ before.blocks) × (after.bytes
 CountsBlock before (Some b) after = (after.blocks ≡ before.blocks + 1) × (after.bytes ≡ before.bytes + length b.bytes)
 
 -- why the last block isn't given
-abbrev pub LastStopped : Option ℕ → List Rec → ℕ → ℕ → Stop → Type 0
-LastStopped size history blocks bytes (stops.Fault faults) = ⊥
-LastStopped size history blocks bytes (stops.Limit at_blocks at_bytes) = (piece : Piece)
-    × (last_piece (cuts size history).waiting ≡ piece ∷ []) × (at_blocks ≡ blocks) × (at_bytes ≡ bytes)
+abbrev pub LastStopped : Option ℕ → Option ℕ → List Rec → ℕ → ℕ → Stop → Type 0
+LastStopped size span history blocks bytes (stops.Fault faults) = ⊥
+LastStopped size span history blocks bytes (stops.Limit at_blocks at_bytes) = (piece : Piece)
+    × (last_piece (cuts size span history).waiting ≡ piece ∷ []) × (at_blocks ≡ blocks) × (at_bytes ≡ bytes)
     × PiecePasses blocks bytes piece
-LastStopped size history blocks bytes stops.Memory = Unit {0}
+LastStopped size span history blocks bytes stops.Memory = Unit {0}
 
 -- why what closes the file isn't given
 abbrev pub BackStopped : FileOptions → List Top → List Rec → ℕ → ℕ → Stop → Type 0

@@ -120,14 +120,14 @@ KeepsOn old new = (before : List ℕ) → old ≡ Some before → (more : List �
 -- which entry a put record gives: that of the block that it closes, if it does so
 abbrev pub GivesEntry : {X : Type 0} → SeenExtents X → FileOptions → List Rec → Rec → Option (Entry X) → Type 0
 GivesEntry seen options history r None =
-    blocks_in (cuts options.chunk (history ++ r ∷ [])).pieces ≡ blocks_in (cuts options.chunk history).pieces
-GivesEntry seen options history r (Some e) = (records : List Rec) × ClosesPiece options.chunk history r (block records)
+    blocks_in (cuts options.chunk options.span (history ++ r ∷ [])).pieces ≡ blocks_in (cuts options.chunk options.span history).pieces
+GivesEntry seen options history r (Some e) = (records : List Rec) × ClosesPiece options.chunk options.span history r (block records)
     × HasBlockExtent seen e (length (written_of options history)) records
 
 -- the last entry is that of the block of the records that wait, where there are any
 abbrev pub GivesLast : {X : Type 0} → SeenExtents X → FileOptions → List Rec → Option (Entry X) → Type 0
 GivesLast seen options history None = Unit {0}
-GivesLast seen options history (Some e) = let waiting = (cuts options.chunk history).waiting in
+GivesLast seen options history (Some e) = let waiting = (cuts options.chunk options.span history).waiting in
     (last_piece waiting ≡ block waiting ∷ []) × HasBlockExtent seen e (length (written_of options history)) waiting
 
 -- a list of entries, with one more if it is given
@@ -145,7 +145,7 @@ pub record ListsEntry {L X : Type 0} (state : L → LiveState) (seen : SeenExten
 
 -- the blocks of a history that are sure, each with its offset in the file
 abbrev pub sure_blocks : FileOptions → List Rec → List (ℕ × List Rec)
-sure_blocks options history = blocks_from (length (front options.profile)) (cuts options.chunk history).pieces
+sure_blocks options history = blocks_from (length (front options.profile)) (cuts options.chunk options.span history).pieces
 
 -- records that are put behind a history give an entry for each block that they make sure, in the order of these
 pub record GivesEntries {X : Type 0} (seen : SeenExtents X) (options : FileOptions) (history records : List Rec)
@@ -188,7 +188,7 @@ CountsBytes size before after (Some e) = after ≡ before + size e.extent
 pub record AddsLast (options : FileOptions) (opened now : Option (List ℕ)) (history : List Rec) (p : Planning)
     : Type 0 where
   pub whole : CountsAllPieces options history p
-  pub adds : Adds opened now (front options.profile ++ pieces_bytes (pieces_of options.chunk history))
+  pub adds : Adds opened now (front options.profile ++ pieces_bytes (pieces_of options.chunk options.span history))
 
 -- the same of the first extras behind the pieces
 pub record FillsExtras (options : FileOptions) (extras : List Top) (opened now : Option (List ℕ)) (history : List Rec)

@@ -19,7 +19,7 @@ numbers blocks bytes = record { blocks = blocks; bytes = bytes }
 
 -- how many blocks stand among the first pieces of a file; the front is the first of them
 abbrev pub blocks_among : FileOptions → List Rec → ℕ → ℕ
-blocks_among options history pieces = length (blocks_in (take (pieces - 1) (pieces_of options.chunk history)))
+blocks_among options history pieces = length (blocks_in (take (pieces - 1) (pieces_of options.chunk options.span history)))
 
 -- The writer of this history and these extras stopped at a piece of their file. So many blocks and bytes are written before
 -- the piece, and where the store tells, these bytes, and of the piece no more than the store took of it in a failure, stand
@@ -51,6 +51,6 @@ Cause before now (Err stop) = StopCause before now stop
 abbrev pub Ends : FileOptions → List Top → Option (List ℕ) → Option (List ℕ) → List Rec → Written → Result Unit Stop
     → Type 0
 Ends options extras opened now history written (Ok it) = Adds opened now (file_of options extras history)
-    × (written.blocks ≡ length (blocks_in (pieces_of options.chunk history)))
+    × (written.blocks ≡ length (blocks_in (pieces_of options.chunk options.span history)))
     × (written.bytes ≡ length (file_of options extras history))
 Ends options extras opened now history written (Err stop) = StopsAt options extras history opened now stop written

@@ -3,7 +3,7 @@ use mcap_wire::{Bytes, Memory};
 use std::alloc::Global;
 use std::marker::Model;
 
-/// Attachments and Metadata, each framed.
+/// Attachments, Metadata and records of applications, each framed.
 #[derive(Drop)]
 pub(crate) struct Extras {
     framed: Vec<Bytes>,

@@ -2,11 +2,11 @@
 ghost use Rattle.std.specs.Prelude.{◌≡◌, ◌<◌, ◌≤◌, ◌+◌, ◌^◌, ℕ, List, Option, [], ◌∷◌, ◌++◌, length, drop, true, false, Some, None, IfOk, IfErr, OnOk, OnErr};
 ghost use Rattle.mcap_wire.specs.Limits.{block_limit, file_limit};
 ghost use Rattle.rec_data.specs.declared.owned.Rec.{Rec};
-ghost use Rattle.chunk_build.specs.Chunker.{AreFramed};
+ghost use Rattle.chunk_build.specs.Chunker.{AreFramed, AreInner};
 ghost use Rattle.mcap_model.specs.declared.options.FileOptions.{FileOptions};
 ghost use Rattle.mcap_model.specs.Built.{IsBlock};
 ghost use Rattle.mcap_model.specs.Summary.{Noted};
-ghost use Rattle.mcap_model.specs.History.{history_bytes};
+ghost use Rattle.mcap_model.specs.History.{is_inner, history_bytes};
 ghost use Rattle.mcap_model.specs.Tops.{Top, top_bytes};
 ghost use Rattle.mcap_model.specs.File.{front};
 ghost use Rattle.mcap_model.specs.Pieces.{back_of};
@@ -16,7 +16,7 @@ ghost use Rattle.chunk_writer.specs.declared.phase.Phase.TheVariants as phases;
 ghost use Rattle.chunk_writer.specs.Limits.{Holds, ChunkSizeFits};
 ghost use Rattle.chunk_writer.specs.LimitSteps.{HoldsOrStops, IsNoFault};
 ghost use Rattle.chunk_writer.specs.Bodies.{BodyFor, SummaryFor, StandsSo, NextBlock, LastBlock};
-ghost use Rattle.chunk_writer.specs.Waiting.{AreExtra};
+ghost use Rattle.chunk_writer.specs.Waiting.{AreExtra, AreAside};
 ghost use Rattle.chunk_writer.specs.Plans.{Plans, counted_on, IsPlanned, PutStopped, IsLastBlock, LastStopped, IsFilled, ExtraStopped, BackStopped, HoldsBlock, HoldsNext, CountsNext, CountsBlock, StoppedBefore};
 
 use crate::body::{Body, begin, take, take_last};
@@ -26,7 +26,7 @@ use crate::phase::Phase;
 use crate::pieces::back_piece;
 use mcap_model::{Block, FileOptions, Stop};
 use mcap_wire::{Bytes, FILE_LIMIT, Memory};
-use rec_data::ATTACHMENT;
+use rec_data::{ATTACHMENT, MESSAGE, METADATA};
 use std::alloc::Global;
 use std::marker::Model;
 use summary_write::Summary;
@@ -54,13 +54,13 @@ impl Model for Plan {
 }
 
 // The body of a file in chunks of that size, if there is one.
-fn body_for(alloc: Global, size: Option<u64>) -> Result<Option<Body>, Memory>
+fn body_for(alloc: Global, size: Option<u64>, span: Option<u64>) -> Result<Option<Body>, Memory>
     requires { ChunkSizeFits size }
-    ensures { IfOk result (λ body. (at : ℕ) → BodyFor size at [] body) }
+    ensures { IfOk result (λ body. (at : ℕ) → BodyFor size span at [] body) }
 {
     match size {
         None => return Ok(None),
-        Some(size) => match begin(alloc, size) {
+        Some(size) => match begin(alloc, size, span) {
             Ok(body) => return Ok(Some(body)),
             Err(memory) => return Err(memory),
         },
@@ -86,21 +86,25 @@ fn note(summary: &mut Summary, blocks: u64, bytes: u64, block: &Block) -> Result
     }
 }
 
-// The block that a framed record closes behind so many blocks and bytes, if it does so, noted.
+// The block that a framed record that is no extra closes behind so many blocks and bytes, if it does so, noted.
 fn next_block(
     body: &mut Body,
     blocks: u64,
     bytes: u64,
     framed: &[u8],
 ) -> Result<Option<Block>, Stop>
-    requires framed { (r : Rec) × AreFramed framed.now r }
+    requires framed { (r : Rec) × AreInner framed.now r }
     requires within { Holds blocks bytes }
-    requires stands { (size at : ℕ) × (history : List Rec) × StandsSo size at history body.old blocks bytes }
-    ensures ok { IfOk result (λ closed. (r : Rec) → AreFramed framed.now r → (size at : ℕ) (history : List Rec)
-        → StandsSo size at history body.old blocks bytes → NextBlock size at history r closed body.new) }
+    requires stands { (size : ℕ) × (span : Option ℕ) × (at : ℕ) × (history : List Rec)
+        × StandsSo size span at history body.old blocks bytes }
+    ensures ok { IfOk result (λ closed. (r : Rec) → AreInner framed.now r
+        → (size : ℕ) (span : Option ℕ) (at : ℕ) (history : List Rec)
+        → StandsSo size span at history body.old blocks bytes → NextBlock size span at history r closed body.new) }
     ensures room { IfOk result (λ closed. HoldsBlock blocks bytes closed) }
-    ensures err { IfErr result (λ stop. (r : Rec) → AreFramed framed.now r → (size at : ℕ) (history : List Rec)
-        → StandsSo size at history body.old blocks bytes → PutStopped (Some size) history r blocks bytes stop) }
+    ensures err { IfErr result (λ stop. (r : Rec) → AreInner framed.now r
+        → (size : ℕ) (span : Option ℕ) (at : ℕ) (history : List Rec)
+        → StandsSo size span at history body.old blocks bytes
+        → PutStopped (Some size) span history r blocks bytes stop) }
     ensures no_fault { IfErr result (λ stop. IsNoFault stop) }
 {
     match take(body, framed) {
@@ -116,12 +120,14 @@ fn next_block(
 // The last block behind so many blocks and bytes, if records wait for one, noted.
 fn last_block(body: &mut Body, blocks: u64, bytes: u64) -> Result<Option<Block>, Stop>
     requires within { Holds blocks bytes }
-    requires stands { (size at : ℕ) × (history : List Rec) × StandsSo size at history body.old blocks bytes }
-    ensures ok { IfOk result (λ last. (size at : ℕ) (history : List Rec)
-        → StandsSo size at history body.old blocks bytes → LastBlock size at history last body.new) }
+    requires stands { (size : ℕ) × (span : Option ℕ) × (at : ℕ) × (history : List Rec)
+        × StandsSo size span at history body.old blocks bytes }
+    ensures ok { IfOk result (λ last. (size : ℕ) (span : Option ℕ) (at : ℕ) (history : List Rec)
+        → StandsSo size span at history body.old blocks bytes → LastBlock size span at history last body.new) }
     ensures room { IfOk result (λ last. HoldsBlock blocks bytes last) }
-    ensures err { IfErr result (λ stop. (size at : ℕ) (history : List Rec)
-        → StandsSo size at history body.old blocks bytes → LastStopped (Some size) history blocks bytes stop) }
+    ensures err { IfErr result (λ stop. (size : ℕ) (span : Option ℕ) (at : ℕ) (history : List Rec)
+        → StandsSo size span at history body.old blocks bytes
+        → LastStopped (Some size) span history blocks bytes stop) }
     ensures no_fault { IfErr result (λ stop. IsNoFault stop) }
 {
     match take_last(body) {
@@ -145,7 +151,7 @@ fn content_of(framed: &[u8]) -> &[u8]
 // Notes an extra that stands at that offset.
 fn note_in(summary: &mut Summary, at: u64, framed: &[u8]) -> Result<(), Memory>
     requires within { at ≤ 2 ^ 41 }
-    requires extra { AreExtra framed.now }
+    requires extra { AreAside framed.now }
     ensures { OnOk result ((t : Top) → framed.now ≡ top_bytes t → (n : Noted) → SummaryStandsFor summary.old n
         → SummaryStandsFor summary.new (with_noted_extra n at t)) }
 {
@@ -153,13 +159,42 @@ fn note_in(summary: &mut Summary, at: u64, framed: &[u8]) -> Result<(), Memory>
     if framed[0] == ATTACHMENT {
         return summary.note_attachment(at, content);
     }
-    return summary.note_metadata(at, content);
+    if framed[0] == METADATA {
+        return summary.note_metadata(at, content);
+    }
+    return Ok(());
+}
+
+// Notes an extra that is to stand behind so many blocks and bytes, where the limit has room for it.
+fn note_aside(summary: &mut Summary, blocks: u64, bytes: u64, framed: &[u8]) -> Result<(), Stop>
+    requires extra { AreAside framed.now }
+    requires within { Holds blocks bytes }
+    ensures ok { OnOk result ((t : Top) → framed.now ≡ top_bytes t → (n : Noted) → SummaryStandsFor summary.old n
+        → SummaryStandsFor summary.new (with_noted_extra n bytes t)) }
+    ensures limit { HoldsOrStops blocks bytes (blocks + 0) (bytes + length framed.now) result }
+{
+    match keep_limit(blocks, bytes, 0, framed) {
+        Ok(()) => {}
+        Err(stop) => return Err(stop),
+    }
+    match note_in(summary, bytes, framed) {
+        Ok(()) => return Ok(()),
+        Err(_) => return Err(Stop::Memory),
+    }
+}
+
+// Whether a framed record is no extra.
+fn stands_inside(framed: &[u8]) -> bool
+    requires { (r : Rec) × AreFramed framed.now r }
+    ensures { (r : Rec) → AreFramed framed.now r → result ≡ is_inner r }
+{
+    framed[0] <= MESSAGE
 }
 
 // Notes it where there is a summary.
 fn note_behind(body: &mut Option<Body>, at: u64, framed: &[u8]) -> Result<(), Memory>
     requires within { at ≤ 2 ^ 41 }
-    requires extra { AreExtra framed.now }
+    requires extra { AreAside framed.now }
     ensures { OnOk result ((t : Top) → framed.now ≡ top_bytes t → (size : Option ℕ) (n : Noted)
         → SummaryFor size n body.old → SummaryFor size (with_noted_extra n at t) body.new) }
 {
@@ -178,7 +213,7 @@ impl Plan {
         ensures stands { IfOk result (λ p. Plans options.now [] p) }
         ensures goes_on { IfOk result (λ p. p.phase ≡ phases.Going) }
     {
-        match body_for(alloc, options.chunk) {
+        match body_for(alloc, options.chunk, options.span) {
             Ok(body) => return Ok(Plan {
                 alloc,
                 body,
@@ -228,23 +263,37 @@ impl Plan {
         ensures plain { IfOk result (λ next. next ≡ nexts.Record → self.old.body ≡ None) }
         ensures err { IfErr result (λ stop. (r : Rec) → AreFramed framed.now r
             → (options : FileOptions) (history : List Rec) → Plans options history self.old
-            → PutStopped options.chunk history r self.old.blocks self.old.bytes stop) }
+            → PutStopped options.chunk options.span history r self.old.blocks self.old.bytes stop) }
         ensures no_fault { IfErr result (λ stop. IsNoFault stop) }
         ensures stopped { IfErr result (λ stop. StoppedBefore self.old.blocks self.old.bytes stop self.new) }
     {
         match &mut self.body {
-            Some(body) => match next_block(body, self.blocks, self.bytes, framed) {
-                Ok(None) => return Ok(Next::Waits),
-                Ok(Some(block)) => {
-                    self.blocks += 1;
-                    self.bytes += block.bytes.as_slice().len() as u64;
-                    return Ok(Next::Block { block });
+            Some(body) => {
+                if !stands_inside(framed) {
+                    match note_aside(&mut body.summary, self.blocks, self.bytes, framed) {
+                        Ok(()) => {
+                            self.bytes += framed.len() as u64;
+                            return Ok(Next::Aside);
+                        }
+                        Err(stop) => {
+                            self.phase = Phase::Stopped { stop };
+                            return Err(stop);
+                        }
+                    }
                 }
-                Err(stop) => {
-                    self.phase = Phase::Stopped { stop };
-                    return Err(stop);
+                match next_block(body, self.blocks, self.bytes, framed) {
+                    Ok(None) => return Ok(Next::Waits),
+                    Ok(Some(block)) => {
+                        self.blocks += 1;
+                        self.bytes += block.bytes.as_slice().len() as u64;
+                        return Ok(Next::Block { block });
+                    }
+                    Err(stop) => {
+                        self.phase = Phase::Stopped { stop };
+                        return Err(stop);
+                    }
                 }
-            },
+            }
             None => match keep_limit(self.blocks, self.bytes, 0, framed) {
                 Ok(()) => {
                     self.bytes += framed.len() as u64;
@@ -288,7 +337,7 @@ impl Plan {
         ensures room { IfOk result (λ last. HoldsBlock self.old.blocks self.old.bytes last) }
         ensures counted { IfOk result (λ last. CountsBlock self.old last self.new) }
         ensures err { IfErr result (λ stop. (options : FileOptions) (history : List Rec)
-            → Plans options history self.old → LastStopped options.chunk history self.old.blocks self.old.bytes stop) }
+            → Plans options history self.old → LastStopped options.chunk options.span history self.old.blocks self.old.bytes stop) }
         ensures no_fault { IfErr result (λ stop. IsNoFault stop) }
         ensures stopped { IfErr result (λ stop. StoppedBefore self.old.blocks self.old.bytes stop self.new) }
     {

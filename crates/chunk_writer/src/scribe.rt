@@ -1,6 +1,6 @@
 //! The scribe appends the pieces of a file to its store: the magic and the Header; each block, or each record where there are
 //! no chunks; and the Data End with all behind it.
-ghost use Rattle.std.specs.Prelude.{◌≡◌, ◌<◌, ◌≤◌, ◌+◌, List, Option, [], ◌∷◌, ◌++◌, length, map, get_or, Some, None, IsSome, Ok, Err, IfOk, IfErr, OnOk, OnErr};
+ghost use Rattle.std.specs.Prelude.{◌≡◌, ◌<◌, ◌≤◌, ◌+◌, List, Option, [], ◌∷◌, ◌++◌, length, map, get_or, false, Some, None, IsSome, Ok, Err, IfOk, IfErr, OnOk, OnErr};
 ghost use Rattle.mcap_wire.specs.Layout.{content_limit};
 ghost use Rattle.mcap_wire.specs.Limits.{file_limit};
 ghost use Rattle.rec_data.specs.declared.owned.Rec.{Rec};
@@ -13,6 +13,7 @@ ghost use Rattle.chunk_build.specs.Chunker.{AreFramed};
 ghost use Rattle.record_cache.specs.Buffers.{held};
 ghost use Rattle.mcap_model.specs.Tops.{Top, top_bytes};
 ghost use Rattle.mcap_model.specs.Made.{top};
+ghost use Rattle.mcap_model.specs.History.{is_inner, rec_top};
 ghost use Rattle.mcap_model.specs.ReadBack.{IsExtra};
 ghost use Rattle.mcap_model.specs.File.{front};
 ghost use Rattle.live_entry.specs.Entries.{seen_before};
@@ -190,9 +191,10 @@ impl<L: LiveStore> Scribe<L> {
     }
 
     /// Adds a record to the history, and gives the entry of the block that this closes, if it does so. A block is appended
-    /// through; a record that stands at top level is appended alone.
+    /// through; so is an extra, alone and at once. A record that stands at top level without chunks is appended alone.
     pub fn put(&mut self, r: &Rec) -> Result<Option<Entry<L::Extent>>, Stop>
         requires fits { LengthsFit r.now }
+        requires extra { is_inner r.now ≡ false → IsExtra (rec_top r.now) }
         requires unended { phase_of self.old ≡ phases.Ended → ⊥ }
         ensures stands { ScribeGrows L.state self.old self.new (r.now ∷ []) }
         ensures entry { IfOk result (λ entry. OfEach L.state self.old (λ options history. GivesEntry
@@ -257,7 +259,7 @@ impl<L: LiveStore> Scribe<L> {
         return self.put_framed(framed);
     }
 
-    /// Adds an Attachment or a Metadata, which waits for the end of the file. Only memory may lack for it.
+    /// Adds an Attachment, a Metadata or a record of an application, which waits for the end of the file. Only memory may lack for it.
     pub fn add_extra(&mut self, op: u8, content: &[u8]) -> Result<(), Stop>
         requires meets { IsExtra (top op content.now) }
         requires unended { phase_of self.old ≡ phases.Ended → ⊥ }
@@ -495,6 +497,10 @@ impl<L: LiveStore> Scribe<L> {
                 Ok(()) => return Ok(None),
                 Err(stop) => return Err(stop),
             },
+            Ok(Next::Aside) => match self.append_aside(framed, blocks, bytes) {
+                Ok(()) => return Ok(None),
+                Err(stop) => return Err(stop),
+            },
             Err(stop) => return Err(stop),
         }
     }
@@ -540,6 +546,26 @@ impl<L: LiveStore> Scribe<L> {
         ensures err { IfErr result (λ stop. StoppedBefore blocks bytes stop self.new.plan) }
     {
         match append(&mut self.store, framed) {
+            Ok(_) => return Ok(()),
+            Err(stop) => {
+                self.plan.stop(stop, blocks, bytes);
+                return Err(stop);
+            }
+        }
+    }
+
+    // Appends a framed extra behind so many blocks and bytes, after which it is with the system. The plan counts it already.
+    fn append_aside(&mut self, framed: &[u8], blocks: u64, bytes: u64) -> Result<(), Stop>
+        requires { Holds blocks bytes }
+        ensures appends { Added (L.state (store_of self.old)).held (L.state (store_of self.new)).held framed.now
+            result }
+        ensures cause { Cause (L.state (store_of self.old)).faults (L.state (store_of self.new)).faults result }
+        ensures waiting { self.new.extras ≡ self.old.extras }
+        ensures ok { OnOk result (self.new.plan ≡ self.old.plan) }
+        ensures through { OnOk result ((L.state (store_of self.new)).waiting ≡ 0) }
+        ensures err { IfErr result (λ stop. StoppedBefore blocks bytes stop self.new.plan) }
+    {
+        match append_through(&mut self.store, framed) {
             Ok(_) => return Ok(()),
             Err(stop) => {
                 self.plan.stop(stop, blocks, bytes);

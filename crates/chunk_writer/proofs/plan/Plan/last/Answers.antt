@@ -16,7 +16,7 @@ pub last_block-requires-clause-stands : goal.last_block-requires-clause-stands
 last_block-requires-clause-stands c =
     let (o, h, plans) = c.self.invariant.stands (ap (λ (v : Planning). v.phase) c.self.view_is ∙ c.requires.goes_on) in
     let (size, chunk, so) = has_size o h (planning c.self.inside) c.in-Some.body c.in-Some.is plans in
-    (size, length (front o.profile), h, so)
+    (size, o.span, length (front o.profile), h, so)
 
 pub returns-in-Ok-None-clause-ok : goal.returns-in-Ok-None-clause-ok
 returns-in-Ok-None-clause-ok c = λ o h plans.
@@ -30,5 +30,5 @@ returns-in-Ok-Some-clause-ok c = λ o h plans.
 
 pub returns-in-Err-clause-err : goal.returns-in-Err-clause-err
 returns-in-Err-clause-err c = λ o h.
-    subst (λ (v : Planning). Plans o h v → LastStopped o.chunk h v.blocks v.bytes c.in-Err.stop) c.self.view_is
+    subst (λ (v : Planning). Plans o h v → LastStopped o.chunk o.span h v.blocks v.bytes c.in-Err.stop) c.self.view_is
     (λ plans. stopped_last o h (planning c.self.inside) c.in-Some.body c.in-Err.stop c.in-Some.is plans c.in-Err.ensures.err)

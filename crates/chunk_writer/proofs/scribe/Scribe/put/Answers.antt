@@ -2,6 +2,7 @@ use Rattle.std.proofs.Common.{ℕ, List, ◌∷◌, [], sym, subst, ◌∙◌}
 use Rattle.std.proofs.lemmas.Result.{IfOk-weaker, on_ok_weaker}
 use Rattle.chunk_build.specs.Chunker.{AreFramed}
 use Rattle.chunk_writer.specs.Scribes.{blocks_through}
+use Rattle.chunk_writer.proofs.Gathered.{extra_meets}
 use Rattle.chunk_writer.proofs.Taking.{stopped_on}
 use Rattle.chunk_writer.proofs.Writing.{going_apart}
 use Rattle.chunk_writer.proofs.scribe.Scribe.put.Goals as goal
@@ -30,3 +31,6 @@ returns-clause-through g c =
     on_ok_weaker c.put_framed.result
     (blocks_through g.L.LiveStore.state c.args.self.now c.put_framed.new.self (c.args.r.now ∷ []) (c.put_framed.ensures.grows c.args.r.now (subst (λ (l : List ℕ). AreFramed l c.args.r.now) (sym c.as_slice.ensures) c.in-Ok.ensures)))
     c.put_framed.ensures.goes_on
+
+pub framed_of-requires-clause-extra : goal.framed_of-requires-clause-extra
+framed_of-requires-clause-extra g c = extra_meets c.args.r.now c.requires.extra

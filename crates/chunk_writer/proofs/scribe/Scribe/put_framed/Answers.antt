@@ -5,7 +5,7 @@ use Rattle.live_entry.specs.declared.entry.Entry.{Entry}
 use Rattle.live_entry.specs.Entries.{seen_before}
 use Rattle.chunk_writer.proofs.Stopping.{added_err}
 use Rattle.chunk_writer.proofs.Through.{stopped_through, plain_through}
-use Rattle.chunk_writer.proofs.Writing.{put_block, block_entry, put_record, block_refused, record_refused, add_refused, waits_same, put_waits}
+use Rattle.chunk_writer.proofs.Writing.{put_block, block_entry, put_record, put_aside, block_refused, record_refused, aside_refused, add_refused, waits_same, put_waits}
 use Rattle.chunk_writer.proofs.scribe.Scribe.put_framed.Goals as goal
 
 pub returns-in-Ok-clause-grows : goal.returns-in-Ok-clause-grows
@@ -67,3 +67,26 @@ returns-in-Ok-Waits-clause-grows g c = λ r framed options extras opened history
   λ going. waits c.requires.going,
   λ going. through c.requires.going,
 )
+
+pub returns-in-Ok-append_aside-clause-grows : goal.returns-in-Ok-append_aside-clause-grows
+returns-in-Ok-append_aside-clause-grows g c = λ r framed options extras opened history (stands, waits, through). (
+  put_aside options opened.held _ _ history r c.args.self.now.plan c.add.new.self c.append_aside.new.self.plan _ c.args.framed.now c.in-Ok-Aside.field-0-is framed.spelled (c.in-Ok-Aside.ensures.ok r framed)
+      c.in-Ok-Aside.ensures.going c.in-Ok-append_aside.ensures.ok c.requires.going c.in-Ok-append_aside.ensures.appends stands,
+  waits_same c.args.self.now.plan.phase _ extras _ _ c.in-Ok-append_aside.ensures.waiting c.requires.going waits,
+  λ going some. c.in-Ok-append_aside.ensures.through,
+)
+
+pub returns-in-Ok-append_aside-clause-keeps : goal.returns-in-Ok-append_aside-clause-keeps
+returns-in-Ok-append_aside-clause-keeps g c = λ before told. (c.args.framed.now, c.in-Ok-append_aside.ensures.appends before told)
+
+pub returns-in-Err-append_aside-clause-grows : goal.returns-in-Err-append_aside-clause-grows
+returns-in-Err-append_aside-clause-grows g c = λ r framed options extras opened history (stands, waits, through). (
+  aside_refused options opened.held _ (g.L.LiveStore.state c.append_aside.new.self.store).held history r c.args.self.now.plan c.add.new.self c.append_aside.new.self.plan _ c.args.framed.now c.in-Err-append_aside.stop _ _ c.in-Ok-Aside.field-0-is framed.spelled
+      (c.in-Ok-Aside.ensures.ok r framed) c.in-Ok-Aside.ensures.room c.blocks-blocks.ensures.value c.bytes-bytes.ensures.value c.in-Err-append_aside.ensures.err c.requires.going
+      c.in-Err-append_aside.ensures.appends stands,
+  waits_same c.args.self.now.plan.phase _ extras _ _ c.in-Err-append_aside.ensures.waiting c.requires.going waits,
+  stopped_through options c.append_aside.new.self.plan.phase c.in-Err-append_aside.stop _ c.in-Err-append_aside.ensures.err.phase,
+)
+
+pub returns-in-Ok-append_aside-clause-entry : goal.returns-in-Ok-append_aside-clause-entry
+returns-in-Ok-append_aside-clause-entry g c = grind (arith, common_steps)
