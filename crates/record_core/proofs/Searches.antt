@@ -7,7 +7,7 @@ use Rattle.std.proofs.lemmas.Bool.{and_parts, and_from, eqb-true, both_ways}
 use Rattle.std.proofs.lemmas.Iterator.Adapters.{position_from-zero}
 use Rattle.std.proofs.lemmas.Grind.{flat_map-append}
 use Rattle.rec_data.specs.declared.owned.Rec.{Rec}
-use Rattle.rec_data.specs.declared.owned.Rec.TheVariants.{Schema, Channel, Message}
+use Rattle.rec_data.specs.declared.owned.Rec.TheVariants.{Schema, Channel, Message, Extra}
 use Rattle.mcap_model.specs.Places.{At}
 use Rattle.mcap_model.specs.Fields.{SchemaFields, ChannelFields}
 use Rattle.mcap_model.specs.History.{schema_of, channel_of, schema_count, channel_count}
@@ -120,12 +120,14 @@ schemas_counted [] = refl
 schemas_counted (Schema id s ∷ rs) = ap suc (schemas_counted rs)
 schemas_counted (Channel id schema topic encoding metadata ∷ rs) = schemas_counted rs
 schemas_counted (Message channel sequence log_time publish_time payload ∷ rs) = schemas_counted rs
+schemas_counted (Extra op content ∷ rs) = schemas_counted rs
 
 pub channels_counted : (history : List Rec) → channel_count history ≡ length (channels_in history)
 channels_counted [] = refl
 channels_counted (Schema id s ∷ rs) = channels_counted rs
 channels_counted (Channel id schema topic encoding metadata ∷ rs) = ap suc (channels_counted rs)
 channels_counted (Message channel sequence log_time publish_time payload ∷ rs) = channels_counted rs
+channels_counted (Extra op content ∷ rs) = channels_counted rs
 
 pub schemas_more : (xs ys : List Rec) → schemas_in (xs ++ ys) ≡ schemas_in xs ++ schemas_in ys
 schemas_more xs ys = flat_map-append schema_in xs ys
@@ -140,6 +142,7 @@ schema_there (Schema id s ∷ rs) zero f at = (0, id, ap (λ (g : SchemaFields).
 schema_there (Schema id s ∷ rs) (suc k) f at = let more = schema_there rs k f at in (suc more.0, more.1, more.2, ap suc more.3)
 schema_there (Channel id schema topic encoding metadata ∷ rs) k f at = let more = schema_there rs k f at in (suc more.0, more.1, more.2, more.3)
 schema_there (Message channel sequence log_time publish_time payload ∷ rs) k f at = let more = schema_there rs k f at in (suc more.0, more.1, more.2, more.3)
+schema_there (Extra op content ∷ rs) k f at = let more = schema_there rs k f at in (suc more.0, more.1, more.2, more.3)
 
 pub channel_there : (history : List Rec) (k : ℕ) (f : ChannelFields) → At (channels_in history) k f → (n : ℕ) × (id : ℕ) × At history n (channel_of id f) × (channel_count (take n history) ≡ k)
 channel_there [] k f at = absurd (at_none k f at)
@@ -147,6 +150,7 @@ channel_there (Schema id s ∷ rs) k f at = let more = channel_there rs k f at i
 channel_there (Channel id schema topic encoding metadata ∷ rs) zero f at = (0, id, ap (λ (g : ChannelFields). Some (channel_of id g)) (same_Some (record { schema = schema; topic = topic; encoding = encoding; metadata = metadata }) f at), refl)
 channel_there (Channel id schema topic encoding metadata ∷ rs) (suc k) f at = let more = channel_there rs k f at in (suc more.0, more.1, more.2, ap suc more.3)
 channel_there (Message channel sequence log_time publish_time payload ∷ rs) k f at = let more = channel_there rs k f at in (suc more.0, more.1, more.2, more.3)
+channel_there (Extra op content ∷ rs) k f at = let more = channel_there rs k f at in (suc more.0, more.1, more.2, more.3)
 
 -- the content of a Schema stands among the contents
 pub schema_content : (history : List Rec) (n id : ℕ) (f : SchemaFields) → At history n (schema_of id f) → (k : ℕ) × At (schemas_in history) k f
@@ -155,6 +159,7 @@ schema_content (r ∷ rs) zero id f at = (0, subst (λ (x : Rec). At (schema_in 
 schema_content (Schema other s ∷ rs) (suc n) id f at = let more = schema_content rs n id f at in (suc more.0, more.1)
 schema_content (Channel other schema topic encoding metadata ∷ rs) (suc n) id f at = schema_content rs n id f at
 schema_content (Message channel sequence log_time publish_time payload ∷ rs) (suc n) id f at = schema_content rs n id f at
+schema_content (Extra op content ∷ rs) (suc n) id f at = schema_content rs n id f at
 
 pub channel_content : (history : List Rec) (n id : ℕ) (f : ChannelFields) → At history n (channel_of id f) → (k : ℕ) × At (channels_in history) k f
 channel_content [] n id f at = absurd (at_none n (channel_of id f) at)
@@ -162,3 +167,4 @@ channel_content (r ∷ rs) zero id f at = (0, subst (λ (x : Rec). At (channel_i
 channel_content (Schema other s ∷ rs) (suc n) id f at = channel_content rs n id f at
 channel_content (Channel other schema topic encoding metadata ∷ rs) (suc n) id f at = let more = channel_content rs n id f at in (suc more.0, more.1)
 channel_content (Message channel sequence log_time publish_time payload ∷ rs) (suc n) id f at = channel_content rs n id f at
+channel_content (Extra op content ∷ rs) (suc n) id f at = channel_content rs n id f at
