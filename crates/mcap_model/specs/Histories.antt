@@ -1,5 +1,5 @@
 -- Histories as their writers and the laws of files speak of them.
-use Rattle.std.specs.Prelude.{◌≡◌, ℕ, suc, ◌+◌, List, [], ◌∷◌, ◌++◌, fold, Bool, true, false, not, filter, map, take}
+use Rattle.std.specs.Prelude.{◌≡◌, ℕ, suc, ◌+◌, ◌≤◌, List, [], ◌∷◌, ◌++◌, length, fold, Bool, true, false, not, filter, map, take, drop}
 use Rattle.std.specs.List.{flat_map}
 use Rattle.rec_data.specs.declared.owned.Rec.{Rec}
 use Rattle.mcap_model.specs.Places.{At, Each, EachBehind}
@@ -28,15 +28,18 @@ abbrev pub alone_in : Piece → List Rec
 alone_in (block records) = []
 alone_in (alone r) = r ∷ []
 
--- In front of a place of a history are just those of the pieces that end in front of it: its extras there, and its blocks
--- whose last record stands there. What is left of its other records is no block yet.
+-- In front of a place of a history are just those of the pieces that end in front of it: its extras there, and the ripe
+-- blocks whose last record stands there. What is left of its other records is no block yet; at the end of the history it is
+-- the last piece, if anything is left.
 pub record StandInTurn (ripe : List Rec → Bool) (history : List Rec) (pieces : List Piece) (place : ℕ)
     : Type 0 where
   pub count : ℕ
   pub extras : flat_map alone_in (take count pieces) ≡ filter (λ r. not (is_inner r)) (take place history)
   pub waiting : List Rec
   pub blocks : flat_map (λ block. block) (blocks_in (take count pieces)) ++ waiting ≡ body_of (take place history)
+  pub are_ripe : Each (λ block. ripe block ≡ true) (blocks_in (take count pieces))
   pub unripe : ripe waiting ≡ false
+  pub rest : length history ≤ place → drop count pieces ≡ last_piece waiting
 
 -- the pieces where blocks end as soon as they are ripe
 abbrev pub pieces_by : (List Rec → Bool) → List Rec → List Piece

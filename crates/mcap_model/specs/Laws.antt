@@ -1,5 +1,5 @@
 -- What holds of the definitions.
-use Rattle.std.specs.Prelude.{◌≡◌, ◌⊎◌, ◌↔◌, ℕ, suc, ◌^◌, ◌<◌, List, [], ◌∷◌, ◌++◌, length, Bool, true, false, ◌≤◌, take, filter, map, Option, Some, IsUtf8}
+use Rattle.std.specs.Prelude.{◌≡◌, ◌⊎◌, ◌↔◌, ℕ, suc, ◌^◌, ◌<◌, List, [], ◌∷◌, ◌++◌, length, Bool, true, false, ◌≤◌, take, filter, map, Option, Some, None, IsUtf8}
 use Rattle.std.specs.List.{AllZip}
 use Rattle.mcap_wire.specs.Layout.{content_limit}
 use Rattle.mcap_wire.specs.Limits.{chunk_size_limit, file_limit}
@@ -135,10 +135,20 @@ BlocksAreOne = (ripe : List Rec → Bool) (history : List Rec) → Ripens ripe
     → blocks ≡ blocks_in (pieces_by ripe history))
 
 -- its extras and its blocks stand in the order of their places, an extra at its own and a ripe block at that of its last
--- record
+-- record; a last block that isn't ripe stands behind them
 abbrev pub PiecesStandInTurn : Type 0
 PiecesStandInTurn = (ripe : List Rec → Bool) (history : List Rec) (place : ℕ) → Ripens ripe
     → StandInTurn ripe history (pieces_by ripe history) place
+
+-- and no other pieces stand so
+abbrev pub PiecesAreOne : Type 0
+PiecesAreOne = (ripe : List Rec → Bool) (history : List Rec) (pieces : List Piece) → Ripens ripe
+    → ((place : ℕ) → StandInTurn ripe history pieces place) → pieces ≡ pieces_by ripe history
+
+-- without a chunk size each record is a piece, whatever the span
+abbrev pub PlainPiecesAreRecords : Type 0
+PlainPiecesAreRecords =
+    (span : Option ℕ) (history : List Rec) → pieces_of None span history ≡ map alone history
 
 -- a chunk size, with a span or none, makes such blocks
 abbrev pub SizesRipen : Type 0
@@ -162,7 +172,8 @@ abbrev pub EntriesFit : List Rec → Type 0
 EntriesFit records = Each (λ channel. messages_on records channel < 2 ^ 28) (logged_channels records)
 
 -- Records and extras of which a file can be written: the ids agree, the extras, those among the records too, meet their
--- rules, and each number that the file holds fits its field. Offsets, lengths and counts of messages do where the length of the file does.
+-- rules, and each number that the file holds fits its field. Offsets, lengths and counts of messages do where the length of
+-- the file does.
 pub record CanBeWritten (options : FileOptions) (extras : List Top) (history : List Rec) : Type 0 where
   pub profile : IsUtf8 options.profile
   pub profile_fits : length options.profile < 2 ^ 32

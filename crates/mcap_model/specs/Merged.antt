@@ -8,11 +8,11 @@ use Rattle.rec_data.specs.declared.schema.SchemaDef.{SchemaDef}
 use Rattle.rec_data.specs.declared.channel.ChannelDef.{ChannelDef}
 use Rattle.rec_data.specs.Owned.{def_fields}
 use Rattle.mcap_model.specs.Places.{At, Has, Each}
-use Rattle.mcap_model.specs.Tops.{Top, is_flat_kind, flat}
+use Rattle.mcap_model.specs.Tops.{Top, flat}
 use Rattle.mcap_model.specs.Fields.{SchemaFields, IsSchema, ChannelFields}
 use Rattle.mcap_model.specs.Kept.{Halts, at_end, reading_limits}
 use Rattle.mcap_model.specs.Scan.{Seen, Scan, PlaceBefore}
-use Rattle.mcap_model.specs.History.{schema_of, channel_of, message_of, is_message, rec_top, Numbered}
+use Rattle.mcap_model.specs.History.{schema_of, channel_of, message_of, is_message, is_inner, Numbered}
 use Rattle.mcap_model.specs.Written.{SourceShows, IsWrittenAs}
 use Rattle.mcap_model.specs.Repaired.{is_extra, ProfileIs}
 
@@ -76,7 +76,7 @@ abbrev pub IsUseOf : Rec → Rec → Type 0
 IsUseOf (Schema id schema) next = HasThatSchema next id
 IsUseOf (Channel id schema topic encoding metadata) next = IsOnChannel next id
 IsUseOf (Message channel sequence log_time publish_time payload) next = Unit {0}
-IsUseOf (Extra op content) next = Unit {0}
+IsUseOf (Extra op content) next = ⊥
 
 -- a Schema stands directly before a Channel that has it, and a Channel directly before a Message on it
 abbrev pub StandBeforeUse : List Rec → Type 0
@@ -95,7 +95,7 @@ pub record MergeOf (inputs : List (List Top)) (profile : List ℕ) (extras : Lis
   pub profile_is : CommonProfile inputs profile
   pub extras_are : extras ≡ flat_map (filter is_extra) inputs
   -- it holds Schemas, Channels and Messages alone
-  pub flat_kinds : Each (λ r. is_flat_kind (rec_top r) ≡ true) history
+  pub inner : Each (λ r. is_inner r ≡ true) history
   pub numbered : Numbered history
   pub messages : List Sent
   pub in_turn : AreInTurn inputs messages

@@ -76,8 +76,10 @@ pub record FlatGives (flat : FlatReader) (before now : SourceState) (was : List 
   pub v6 : V6 (top op (flat_content flat))
   pub v10 : V10 (top op (flat_content flat))
   pub frame : (bytes : List ℕ) → flat_frame flat ≡ Some bytes → bytes ≡ framed op (flat_content flat)
-  -- a step that reads nothing gives a record inside the last one, which is lent with its head
-  pub lent : more ≡ [] → flat.inside ≡ true
+  -- a record that is lent with its head stands inside the last one of those that were read before
+  pub within : flat.inside ≡ true → more ≡ []
+  -- any other was read by this step, and stands at top level
+  pub alone : flat.inside ≡ false → more ≡ top op (flat_content flat) ∷ []
   pub going : IsGoing flat.reader.stage
 
 -- the Data End was given, and all was; no more is read
