@@ -1,12 +1,12 @@
 -- The steps of a flat reader.
-use Rattle.std.proofs.Common.{◌≡◌, ℕ, ◌+◌, ◌-◌, ◌≤◌, ◌<◌, Bool, true, false, List, [], ◌∷◌, ◌++◌, length, take, drop, Option, Some, None, refl, sym, ap, subst, ◌∙◌, append_assoc, append-nil, arith, length-append, length-drop, length-take}
+use Rattle.std.proofs.Common.{◌≡◌, ℕ, ◌+◌, ◌-◌, ◌≤◌, Bool, true, false, List, [], ◌∷◌, ◌++◌, length, take, drop, Some, None, refl, sym, ap, subst, ◌∙◌, append_assoc, append-nil, arith, length-append, length-drop, length-take}
 use Rattle.std.specs.Prelude.{if◌then◌else◌}
+use Rattle.std.proofs.lemmas.Bool.{false≢true}
 use Rattle.std.proofs.lemmas.List.{drop-drop, take_at, drop_at, take_all, take-append-drop}
 use Rattle.std.proofs.lemmas.Option.{same_Some}
 use Rattle.mcap_io.specs.Outside.{SourceState}
 use Rattle.mcap_wire.specs.Layout.{le, framed, part}
 use Rattle.mcap_wire.proofs.Numbers.{length-le}
-use Rattle.mcap_model.specs.declared.inner.Inner.{Inner}
 use Rattle.mcap_model.specs.declared.replay.Place.{Place}
 use Rattle.mcap_model.specs.Places.{At}
 use Rattle.mcap_model.specs.Tops.{Top, top_bytes, records_in, inner_tops, is_chunk, chunk_records, offset_behind, Placed, placed_inside}
@@ -14,7 +14,6 @@ use Rattle.mcap_model.specs.WalkedRecords.{walked_one, walked}
 use Rattle.mcap_model.specs.Rules.{V6, V10}
 use Rattle.mcap_model.specs.Kept.{reading_limits, Good}
 use Rattle.mcap_model.specs.Made.{top}
-use Rattle.mcap_model.specs.Walk.{inner_top, StepsOver}
 use Rattle.mcap_model.proofs.Places.{at_last}
 use Rattle.mcap_model.proofs.Readings.{length-top}
 use Rattle.mcap_scan.specs.declared.reader.Reader.{Reader}
@@ -24,7 +23,7 @@ use Rattle.record_walk.specs.declared.flat_reader.FlatReader.{FlatReader}
 use Rattle.record_walk.specs.declared.flat_reader.FlatStep.{FlatStep}
 use Rattle.record_walk.specs.declared.flat_reader.FlatStep.TheVariants as steps
 use Rattle.record_walk.specs.Heads.{LiesInside}
-use Rattle.record_walk.specs.Walking.{flat_content, flat_frame, rest_of, ahead_of, placed_at, ReachesLast, FlatStands, FlatGives, FlatAdvanced, StepsInside}
+use Rattle.record_walk.specs.Walking.{flat_content, ahead_of, placed_at, ReachesLast, FlatStands, FlatGives, FlatAdvanced, StepsInside}
 use Rattle.record_walk.proofs.Walked.{walked_more, walked_meet}
 
 -- ---- parts
@@ -140,7 +139,8 @@ given_inside old new (steps.Record op place) before now tops given was gives =
       v6 = meets.0;
       v10 = meets.1;
       frame = gives.frame;
-      lent = λ none. gives.lent;
+      within = λ is. refl;
+      alone = λ outside. absurd (false≢true (sym outside ∙ gives.lent));
       going = still;
     }
 given_inside old new (steps.End offset) before now tops given was gives = absurd gives
@@ -211,7 +211,8 @@ given_top flat before now tops given op offset whole gives holds lies =
       v6 = subst (λ (l : List ℕ). V6 (top op l)) (sym content_is) fits.0;
       v10 = subst (λ (l : List ℕ). V10 (top op l)) (sym content_is) fits.1;
       frame = λ found is. absurd (no_frame (sym (ap (λ (b : Bool). if b then Some (part (flat.lo - 9) flat.hi bytes) else None) holds.outside) ∙ is));
-      lent = λ none. absurd (not_none t [] none);
+      within = λ is. absurd (false≢true (sym holds.outside ∙ is));
+      alone = λ outside. ap (λ (l : List ℕ). top op l ∷ []) (sym content_is);
       going = gives.going;
     }
   where

@@ -4,7 +4,7 @@ use Rattle.std.specs.Prelude.{filter, if◌then◌else◌, ◌==◌}
 use Rattle.std.specs.List.{list_any}
 use Rattle.std.proofs.lemmas.Bool.{eqb-true, false≢true}
 use Rattle.std.proofs.lemmas.List.Elements.{filter-append}
-use Rattle.mcap_model.specs.Places.{At, Each}
+use Rattle.mcap_model.specs.Places.{Each}
 use Rattle.mcap_model.specs.Tops.{Top, top_bytes, spelled, offset_behind, records_in, inner_tops, is_chunk, is_flat_kind, flat, Placed, placed_inside, placed_one, placed_from, placed}
 use Rattle.mcap_model.specs.WalkedRecords.{walked_one, walked_from, walked}
 use Rattle.mcap_model.specs.Rules.{V6, V8, V10, stands_in_chunk}

@@ -1,17 +1,16 @@
 -- For which records a flat reader stands, and what its next step adds. Flat: all records of a file in one row, the chunks themselves
 -- too; `flat` of mcap_model drops these and other kinds.
-use Rattle.std.specs.Prelude.{◌≡◌, ℕ, ◌+◌, ◌-◌, ◌*◌, ◌^◌, ◌<◌, List, [], ◌∷◌, ◌++◌, Bool, true, false, if◌then◌else◌, Option, Some, None}
+use Rattle.std.specs.Prelude.{◌≡◌, ℕ, ◌+◌, ◌-◌, ◌*◌, ◌^◌, ◌<◌, List, [], ◌∷◌, ◌++◌, true, false, if◌then◌else◌, Option, Some, None}
 use Rattle.mcap_io.specs.Outside.{SourceState}
 use Rattle.mcap_wire.specs.Layout.{framed, part}
 use Rattle.mcap_wire.specs.Limits.{file_limit}
 use Rattle.mcap_model.specs.declared.replay.Place.{Place}
 use Rattle.mcap_model.specs.declared.tables.Tables.{Tables}
-use Rattle.mcap_model.specs.declared.refusals.ReadingRefused.{ReadingRefused}
 use Rattle.mcap_model.specs.Tops.{Top, Placed, records_in, placed_inside}
 use Rattle.mcap_model.specs.WalkedRecords.{walked}
 use Rattle.mcap_model.specs.Rules.{V6, V10}
 use Rattle.mcap_model.specs.Made.{top}
-use Rattle.mcap_scan.specs.Scanning.{Stands, content_of, tables_of, next_offset, IsGoing, FindsEnd, Refuses, IsDone, KeptBy, HandsOut}
+use Rattle.mcap_scan.specs.Scanning.{Stands, content_of, tables_of, next_offset, IsGoing, FindsEnd, Refuses, IsDone}
 use Rattle.record_walk.specs.declared.flat_reader.FlatReader.{FlatReader}
 use Rattle.record_walk.specs.declared.flat_reader.FlatStep.{FlatStep}
 use Rattle.record_walk.specs.declared.flat_reader.FlatStep.TheVariants as steps

@@ -73,7 +73,8 @@ impl FlatReader {
         &self.reader.content()[self.lo..self.hi]
     }
 
-    /// The whole record with its head, until the next step, where the last step gave one that stands inside a chunk.
+    /// The whole record with its head, until the next step. There is one exactly where the last step gave a record that stands
+    /// inside a chunk.
     pub fn frame(&self) -> Option<&[u8]>
         ensures { IsHeldFrame self.now result }
     {

@@ -1,6 +1,5 @@
 use Rattle.std.proofs.Common.{arith}
 use Rattle.rec_index.specs.Parsed.{chunk_fields}
-use Rattle.mcap_model.specs.Fields.{ChunkFields}
 use Rattle.record_walk.proofs.Chunks.{chunk_lies}
 use Rattle.record_walk.proofs.inside.inside_of.Goals as goal
 

@@ -1,4 +1,3 @@
-use Rattle.std.proofs.Common.{sym, subst}
 use Rattle.record_walk.proofs.Steps.{given_inside, due_before}
 use Rattle.record_walk.proofs.flat_reader.FlatReader.advance.Goals as goal
 

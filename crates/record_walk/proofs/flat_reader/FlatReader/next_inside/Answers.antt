@@ -1,4 +1,4 @@
-use Rattle.std.proofs.Common.{◌≡◌, ◌+◌, ◌-◌, ◌++◌, ◌∷◌, List, [], ℕ, length, refl, sym, ap, subst, ◌∙◌, arith}
+use Rattle.std.proofs.Common.{◌≡◌, ◌-◌, List, [], ℕ, refl, sym, ap, subst, ◌∙◌, arith}
 use Rattle.mcap_wire.specs.Layout.{part}
 use Rattle.mcap_model.specs.Tops.{records_in, placed_inside}
 use Rattle.mcap_model.specs.Walk.{walk_rest}

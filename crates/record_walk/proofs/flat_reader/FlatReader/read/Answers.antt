@@ -3,7 +3,7 @@ use Rattle.mcap_model.specs.Tops.{Placed}
 use Rattle.mcap_model.specs.WalkedRecords.{walked}
 use Rattle.mcap_model.specs.Made.{top}
 use Rattle.mcap_scan.specs.declared.reader.Reader.{Reader}
-use Rattle.mcap_scan.specs.Scanning.{Stands, StageStands, content_of}
+use Rattle.mcap_scan.specs.Scanning.{Stands, StageStands}
 use Rattle.record_walk.specs.Heads.{LiesInside}
 use Rattle.record_walk.proofs.Steps.{given_top, still_stands}
 use Rattle.record_walk.proofs.flat_reader.FlatReader.read.Goals as goal
