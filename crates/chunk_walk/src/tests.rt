@@ -1,13 +1,14 @@
 //! Walks through small files.
 ghost use Rattle.std.specs.Prelude.{◌≡◌, ◌+◌, ◌^◌, ◌<◌, ◌≤◌, IsTrue, length, map};
-ghost use Rattle.mcap_io.specs.Files.{nothing};
+ghost use Rattle.io_files.specs.Files.{nothing};
 ghost use Rattle.mcap_model.specs.Places.{Each};
 ghost use Rattle.chunk_walk.specs.Stores.{files_of, StoresFit};
 ghost use Rattle.chunk_walk.specs.Walks.{pieces_in, StandsBehindSome};
 
 use crate::{Piece, Turn, Walk, pieces_of};
 use chunk_survey::{Span, Survey, survey_source};
-use mcap_io::{Failed, QuietStore, Store, StoreSource};
+use io_memory::QuietStore;
+use mcap_io::{Failed, Store, StoreSource};
 use mcap_model::Inner;
 use mcap_wire::{MAGIC, PairsRef};
 use rec_data::{Channel, DataEnd, Header, Message};

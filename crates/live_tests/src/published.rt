@@ -2,9 +2,10 @@
 ghost use Rattle.std.specs.Prelude.{◌≡◌};
 ghost use Rattle.live_directory.specs.Writing.{empty_directory};
 
+use io_memory::{MemoryLive, MemorySource, Piece};
 use live_directory::{Directory, Front, Naming, Opened, Reader, open_directory};
 use live_entry::Entry;
-use mcap_io::{Extent, MemoryLive, MemorySource, Piece};
+use mcap_io::Extent;
 use mcap_model::{End, FileOptions};
 use mcap_wire::{Memory, Text};
 use recorder::{Onto, RecordOptions, record_onto};

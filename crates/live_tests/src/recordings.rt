@@ -2,7 +2,7 @@
 ghost use Rattle.std.specs.Prelude.{◌≡◌, vec_len, IfOk};
 
 use crate::published::feed_bytes;
-use mcap_io::{FailingWrite, MemoryLive, MemorySink, MemorySource};
+use io_memory::{FailingWrite, MemoryLive, MemorySink, MemorySource};
 use mcap_model::{End, FileOptions, Range};
 use mcap_wire::{Memory, Text};
 use recorder::{RecordOptions, Report};

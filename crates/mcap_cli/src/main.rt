@@ -1,8 +1,8 @@
 //! The program `mcaprec` over files, standard output and standard error.
 #![tactic(auto)]
 
+use io_files::{FileWorld, WriterSink};
 use mcap_app::{Exit, Status, refuse_for_memory, run};
-use mcap_io::{FileWorld, WriterSink};
 use mcap_wire::{Memory, Text};
 use std::env;
 use std::io::{ErrorKind, Write};

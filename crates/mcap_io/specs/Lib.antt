@@ -2,15 +2,9 @@
 pub mod Outside
 pub mod Stores
 -- What the functions of this crate and its proofs say besides.
-pub mod Ahead
 pub mod Appending
-pub mod Files
-pub mod Gathered
-pub mod Inputs
 pub mod OutsideCalls
 pub mod StoreAnswers
 pub mod StoreSources
-pub mod Planned
-pub mod Standing
 pub mod Rooms
 pub mod Stretch

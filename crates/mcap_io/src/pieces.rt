@@ -23,15 +23,15 @@ pub trait Pieces {
     ghost some: { (p : Self) → All (λ piece. 0 < length piece) (list p) };
 }
 
-// A piece, and where it ends.
+/// A piece, and where it ends.
 #[derive(Clone, Copy)]
-pub(crate) struct PieceAt<'a> {
-    pub(crate) bytes: &'a [u8],
-    pub(crate) end: usize,
+pub struct PieceAt<'a> {
+    pub bytes: &'a [u8],
+    pub end: usize,
 }
 
-// The piece that begins there.
-pub(crate) fn piece_at<P: Pieces>(pieces: &P, at: usize) -> PieceAt<'_>
+/// The piece that begins there.
+pub fn piece_at<P: Pieces>(pieces: &P, at: usize) -> PieceAt<'_>
     requires { BeginsAt (P.list pieces.now) at }
     ensures { IsPieceAt (P.list pieces.now) at result.bytes.now result.end }
 {
@@ -43,8 +43,8 @@ pub(crate) fn piece_at<P: Pieces>(pieces: &P, at: usize) -> PieceAt<'_>
     }
 }
 
-// The piece in which a failure fell that took so many first bytes of all: those before it were taken whole.
-pub(crate) fn refused_in<P: Pieces>(pieces: &P, taken: usize) -> EachRefused
+/// The piece in which a failure fell that took so many first bytes of all: those before it were taken whole.
+pub fn refused_in<P: Pieces>(pieces: &P, taken: usize) -> EachRefused
     requires some { 0 < length (concat (P.list pieces.now)) }
     requires within { taken ≤ length (concat (P.list pieces.now)) }
     ensures { FallsIn (P.list pieces.now) taken result }

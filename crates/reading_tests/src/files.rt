@@ -1,9 +1,8 @@
 //! The world of files.
 use crate::outside::{Stretch, gives};
 use crate::same::holds_at;
-use mcap_io::{
-    Extent, Failed, FileWorld, LiveStore, LiveView, OutsideRefused, Source, Store, World,
-};
+use io_files::FileWorld;
+use mcap_io::{Extent, Failed, LiveStore, LiveView, OutsideRefused, Source, Store, World};
 use std::alloc::Global;
 use std::fs;
 use std::rt::Files;

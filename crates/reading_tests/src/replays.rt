@@ -1,7 +1,7 @@
 //! What a replay gives of a small file, by a scan and by the plain scan.
 use crate::same::holds_at;
 use crate::sources::quiet;
-use mcap_io::MemorySink;
+use io_memory::MemorySink;
 use mcap_model::{Range, Replayed, Shown, replay_plain, scan_plain};
 use mcap_wire::Text;
 use std::alloc::Global;

@@ -1,7 +1,8 @@
 //! What a scanner gives, where and why it halts, and what it leaves unread.
 use crate::same::holds_at;
 use crate::sources::{TWO_CHUNKS, quiet};
-use mcap_io::{MemorySource, Source};
+use io_memory::MemorySource;
+use mcap_io::Source;
 use mcap_model::{ReadingRefused, scan_plain};
 use mcap_scan::{Lent, Scanner, Step, Top};
 use mcap_wire::cut;

@@ -1,5 +1,5 @@
 //! A source and a file that several tests read.
-use mcap_io::QuietSource;
+use io_memory::QuietSource;
 use mcap_wire::Memory;
 use std::alloc::Global;
 

@@ -4,7 +4,7 @@ ghost use Rattle.feed_lane.specs.PassCalls.{no_calls};
 
 use crate::same::holds;
 use feed_lane::{FeedEnd, FeedReport, Pass, Refused, publish_feed};
-use mcap_io::MemorySource;
+use io_memory::MemorySource;
 use mcap_wire::Memory;
 use rec_data::ChannelDef;
 use record_core::{CallRefused, Declared, NewMessage, declared_size};

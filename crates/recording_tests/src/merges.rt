@@ -3,7 +3,7 @@ ghost use Rattle.std.specs.Prelude.{◌<◌, ◌^◌, length};
 
 use crate::recoveries::file;
 use crate::same::{holds, holds_at};
-use mcap_io::{MemoryLive, QuietStore};
+use io_memory::{MemoryLive, QuietStore};
 use mcap_merge::{MergeRefused, Merged, merge};
 use mcap_model::{ReadingRefused, Rule};
 use mcap_wire::{MAGIC, PairsRef};

@@ -1,15 +1,13 @@
 //! How much of its inputs a merge holds and asks for, and what it leaves where they fail or change while they are read again.
 ghost use Rattle.std.specs.Prelude.{◌≡◌, ◌≤◌};
-ghost use Rattle.mcap_io.specs.Files.{nothing};
+ghost use Rattle.io_files.specs.Files.{nothing};
 ghost use Rattle.mcap_wire.specs.Limits.{chunk_size_limit};
 
 use crate::merges::{CHANNEL_A, FIRST, counts, stand};
 use crate::same::{holds, holds_at};
 use crate::scribes::chunked;
-use mcap_io::{
-    AppendRefused, Failed, LiveStore, MemoryLive, MemoryStore, MemoryView, Piece, QuietLive,
-    QuietStore, Store,
-};
+use io_memory::{MemoryLive, MemoryStore, MemoryView, Piece, QuietLive, QuietStore};
+use mcap_io::{AppendRefused, Failed, LiveStore, Store};
 use mcap_merge::{MergeRefused, Merged, merge};
 use mcap_model::ReadingRefused;
 use std::alloc::Global;

@@ -3,7 +3,7 @@ ghost use Rattle.std.specs.Prelude.{◌≡◌, ◌≤◌, vec_len, IfOk};
 ghost use Rattle.mcap_wire.specs.RecordingLimits.{buffer_limit};
 
 use crate::same::{holds, holds_at};
-use mcap_io::{FailingWrite, MemoryLive, MemorySource};
+use io_memory::{FailingWrite, MemoryLive, MemorySource};
 use mcap_model::{End, FileOptions, Stop};
 use mcap_wire::{Memory, Text};
 use recorder::{FeedEnd, FeedReport, RecordOptions, Recording, Report, record};

@@ -1,6 +1,6 @@
 //! Recoveries of cut files, of broken ones and of those with extras, and into stores that fail.
 use crate::same::holds_at;
-use mcap_io::{FailingWrite, MemoryLive, QuietSource};
+use io_memory::{FailingWrite, MemoryLive, QuietSource};
 use mcap_model::Stop;
 use mcap_recover::{RecoverRefused, Recovered, Why, recover};
 use std::alloc::Global;

@@ -6,7 +6,8 @@ ghost use Rattle.chunk_writer.specs.Limits.{ChunkSizeFits};
 
 use crate::same::{holds, holds_at};
 use chunk_writer::{Entry, Phase, Scribe, keep_limit};
-use mcap_io::{LiveStore, MemoryLive, Piece};
+use io_memory::{MemoryLive, Piece};
+use mcap_io::LiveStore;
 use mcap_model::{FileOptions, Stop};
 use mcap_wire::{Memory, Text};
 use rec_data::Rec;

@@ -2,7 +2,7 @@
 use crate::building::{Pieces, built, pieces_of, put};
 use crate::halt::{Halt, unread};
 use crate::tokens::{Token, number_of, parts_of};
-use mcap_io::{FailingWrite, Plan};
+use io_memory::{FailingWrite, Plan};
 use std::alloc::Global;
 
 /// What is to fail in the next run: calls of the world, and writes of standard output and standard error.

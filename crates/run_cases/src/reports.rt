@@ -1,9 +1,9 @@
 //! What is said of reports that no run brings about.
+use io_memory::MemorySink;
 use mcap_app::{
     CallRefused, End, FeedEnd, FeedReport, Listing, ReadingRefused, Refusals, Refused, Report,
     Stop, WriterReport,
 };
-use mcap_io::MemorySink;
 use mcap_wire::Text;
 use output_base::{FailedParts, complain_of_writing};
 use record_command::{Telling, print_report};

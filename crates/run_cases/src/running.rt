@@ -2,8 +2,8 @@
 use crate::building::Pieces;
 use crate::cases::{Case, Failing};
 use crate::halt::Halt;
+use io_memory::{MemorySink, MemoryWorld};
 use mcap_app::{Exit, Report, run};
-use mcap_io::{MemorySink, MemoryWorld};
 use mcap_wire::Text;
 use std::alloc::AllocGlobal;
 use std::mem;

@@ -2,8 +2,9 @@
 use crate::building::Pieces;
 use crate::halt::{Halt, unread};
 use crate::running::Ran;
+use io_memory::{Kept, MemoryWorld, Opened};
 use mcap_app::{Accepted, FeedReport, Refused, Report};
-use mcap_io::{Kept, MemoryWorld, ObjectKind, Opened};
+use mcap_io::ObjectKind;
 use std::alloc::{AllocError, Global};
 use std::str;
 

@@ -35,7 +35,6 @@ id_first bytes (Schema own schema) is = record { rest = _; there = behind_head b
 id_first bytes (Channel own schema topic encoding metadata) is = record { rest = _; there = behind_head bytes (Channel own schema topic encoding metadata) is.framed; fits = is.framed.shown.1.1.fit.0 }
 id_first bytes (Message own sequence log_time publish_time payload) is =
     record { rest = _; there = behind_head bytes (Message own sequence log_time publish_time payload) is.framed; fits = is.framed.shown.1.fit.0 }
-
 id_first bytes (Extra op content) is = absurd (both_ways false refl is.inner)
 
 pub id_there : (bytes : List ℕ) (r : Rec) (id end : ℕ) → AreInner bytes r → NumberAt 2 bytes 9 id end → id ≡ id_in_record r

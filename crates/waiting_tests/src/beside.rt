@@ -4,7 +4,7 @@ ghost use Rattle.std.specs.Prelude.{◌≡◌, ◌≤◌, [], Some, vec_len, tru
 use crate::held_source::HeldSource;
 use crate::held_store::HeldStore;
 use file_check::check;
-use mcap_io::{QuietLive, QuietStore};
+use io_memory::{QuietLive, QuietStore};
 use mcap_model::{End, FileOptions, Verdict};
 use mcap_wire::{Memory, Text};
 use recorder::{FeedEnd, RecordOptions, Recording, Report, record};

@@ -1,6 +1,7 @@
 //! A live store that waits.
 use crate::looking::is_raised;
-use mcap_io::{AppendRefused, Failed, LiveStore, MemoryView, Piece, QuietLive};
+use io_memory::{MemoryView, Piece, QuietLive};
+use mcap_io::{AppendRefused, Failed, LiveStore};
 use std::sync::atomic::AtomicBool;
 use std::sync::atomic::Ordering::SeqCst;
 

@@ -1,0 +1,4 @@
+pub mod Ahead
+pub mod Files
+pub mod Gathered
+pub mod Inputs

@@ -1,0 +1,56 @@
+use Rattle.std.proofs.Common.{ℕ, List, Vec, true, false, ap, ap₂, ◌∙◌, inl, inr}
+use Rattle.io_memory.specs.declared.memory_world.MemoryWorld.{MemoryWorld}
+use Rattle.mcap_io.specs.declared.outside.ObjectKind.TheVariants as kinds
+use Rattle.mcap_io.specs.Outside.{LiveState, opened}
+use Rattle.io_memory.specs.Standing.{standing}
+use Rattle.io_memory.proofs.Noting.{lists_one}
+use Rattle.io_memory.proofs.memory_world.MemoryWorldWorld.live.Goals as goal
+
+pub returns-in-Ok-open_live-clause-opens : goal.returns-in-Ok-open_live-clause-opens
+returns-in-Ok-open_live-clause-opens c =
+    lists_one (standing c.args.self.now.entries) (standing c.open_live.new.self.entries) c.args.self.now.log.items c.open_live.new.self.log.items c.list.new.log.items _ (opened kinds.Live c.args.name.now true)
+    (ap (λ (w : MemoryWorld). standing w.entries) c.in-Ok-open_live.ensures.rest) (ap (λ (w : MemoryWorld). w.log.items) c.in-Ok-open_live.ensures.rest ∙ c.in-Ok.ensures.items) c.list.ensures
+    (ap (λ (n : List ℕ). opened kinds.Live n true) c.in-Ok.ensures.name)
+
+pub returns-in-Ok-open_live-clause-counts : goal.returns-in-Ok-open_live-clause-counts
+returns-in-Ok-open_live-clause-counts c = record { inputs = ap (λ (w : MemoryWorld). w.input_faults) c.in-Ok-open_live.ensures.rest; outputs = ap (λ (w : MemoryWorld). w.output_faults) c.in-Ok-open_live.ensures.rest; watches = ap (λ (w : MemoryWorld). w.watch_faults) c.in-Ok-open_live.ensures.rest }
+
+pub returns-in-Ok-open_live-clause-cause : goal.returns-in-Ok-open_live-clause-cause
+returns-in-Ok-open_live-clause-cause c = c.in-Ok-open_live.ensures.cause
+
+pub returns-in-Ok-open_live-clause-rest : goal.returns-in-Ok-open_live-clause-rest
+returns-in-Ok-open_live-clause-rest c =
+    ap (λ (w : MemoryWorld). record w { log = c.list.new.log }) c.in-Ok-open_live.ensures.rest
+    ∙ ap₂ (λ (failing : Vec ℕ _) (made : ℕ). record c.args.self.now { log = c.list.new.log; faults = c.open_live.new.self.faults; openings = record { failing = failing; made = made } }) c.next_fails-fails.ensures.plan c.next_fails-fails.ensures.counted
+
+pub returns-in-Err-Failed-clause-opens : goal.returns-in-Err-Failed-clause-opens
+returns-in-Err-Failed-clause-opens c =
+    lists_one (standing c.args.self.now.entries) (standing c.open_live.new.self.entries) c.args.self.now.log.items c.open_live.new.self.log.items c.list-in-Err-Failed.new.log.items _ (opened kinds.Live c.args.name.now false)
+    (ap (λ (w : MemoryWorld). standing w.entries) c.in-Err-Failed.ensures.rest) (ap (λ (w : MemoryWorld). w.log.items) c.in-Err-Failed.ensures.rest ∙ c.in-Ok.ensures.items) c.list-in-Err-Failed.ensures
+    (ap (λ (n : List ℕ). opened kinds.Live n false) c.in-Ok.ensures.name)
+
+pub returns-in-Err-Failed-clause-counts : goal.returns-in-Err-Failed-clause-counts
+returns-in-Err-Failed-clause-counts c = record { inputs = ap (λ (w : MemoryWorld). w.input_faults) c.in-Err-Failed.ensures.rest; outputs = ap (λ (w : MemoryWorld). w.output_faults) c.in-Err-Failed.ensures.rest; watches = ap (λ (w : MemoryWorld). w.watch_faults) c.in-Err-Failed.ensures.rest }
+
+pub returns-in-Err-Failed-clause-cause : goal.returns-in-Err-Failed-clause-cause
+returns-in-Err-Failed-clause-cause c = rw c.in-Err-Failed.field-0-is at c.in-Err-Failed.ensures.cause
+
+pub returns-in-Err-Failed-clause-rest : goal.returns-in-Err-Failed-clause-rest
+returns-in-Err-Failed-clause-rest c =
+    ap (λ (w : MemoryWorld). record w { log = c.list-in-Err-Failed.new.log }) c.in-Err-Failed.ensures.rest
+    ∙ ap₂ (λ (failing : Vec ℕ _) (made : ℕ). record c.args.self.now { log = c.list-in-Err-Failed.new.log; faults = c.open_live.new.self.faults; openings = record { failing = failing; made = made } }) c.next_fails-fails.ensures.plan c.next_fails-fails.ensures.counted
+
+pub returns-in-Ok-open_live-clause-tells : goal.returns-in-Ok-open_live-clause-tells
+returns-in-Ok-open_live-clause-tells c = λ told is. ap (λ (s : LiveState). s.held) c.in-Ok-open_live.ensures.tells
+
+pub returns-in-Ok-open_live-clause-unused : goal.returns-in-Ok-open_live-clause-unused
+returns-in-Ok-open_live-clause-unused c = ap (λ (s : LiveState). s.faults) c.in-Ok-open_live.ensures.tells
+
+pub returns-in-Ok-open_live-clause-plan : goal.returns-in-Ok-open_live-clause-plan
+returns-in-Ok-open_live-clause-plan c = c.in-Ok-open_live.ensures.unused
+
+pub returns-in-Ok-open_live-clause-planned : goal.returns-in-Ok-open_live-clause-planned
+returns-in-Ok-open_live-clause-planned c = λ planned. c.in-Ok-open_live.ensures.planned (c.next_fails-fails.ensures.planned.1 planned)
+
+pub returns-in-Err-Failed-clause-planned : goal.returns-in-Err-Failed-clause-planned
+returns-in-Err-Failed-clause-planned c = let planned = rw c.in-Err-Failed.field-0-is at c.in-Err-Failed.ensures.planned in elim planned [ inl fails ↦ inl (c.next_fails-fails.ensures.planned.0 fails) | inr none ↦ inr none ]

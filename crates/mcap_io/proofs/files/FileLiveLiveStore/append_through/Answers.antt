@@ -1,5 +1,0 @@
-use Rattle.std.proofs.Common.{rules}
-use Rattle.mcap_io.proofs.files.FileLiveLiveStore.append_through.Goals as goal
-
-pub returns-clause-none_waits : goal.returns-clause-none_waits
-returns-clause-none_waits g c = search rules
