@@ -1,6 +1,6 @@
 -- A buffer keeps its records.
 use Rattle.std.proofs.Common.{◌≡◌, ◌≢◌, ℕ, zero, suc, ◌+◌, ◌-◌, ◌^◌, ◌<◌, ◌≤◌, List, [], ◌∷◌, ◌++◌, length, take, drop, Some, refl, sym, ap, subst, ◌∙◌, append_assoc, arith}
-use Rattle.std.specs.Prelude.{All, slice_get, Ok}
+use Rattle.std.specs.Prelude.{All, slice_get, Ok, true, false}
 use Rattle.std.proofs.lemmas.List.{append-nil, length-append, length-drop, length-take}
 use Rattle.std.proofs.lemmas.List.Elements.{All-nil, All-cons, All-append}
 use Rattle.std.proofs.lemmas.Grind.{flat_map-append}
@@ -15,13 +15,18 @@ use Rattle.rec_data.specs.declared.owned.Rec.{Rec}
 use Rattle.rec_data.specs.declared.owned.Rec.TheVariants.{Schema, Channel, Message, Extra}
 use Rattle.rec_data.specs.Owned.{rec_opcode, rec_text, rec_bytes, RecFits}
 use Rattle.rec_data.proofs.OwnedReading.{extra_not}
-use Rattle.mcap_model.specs.History.{history_bytes}
+use Rattle.mcap_model.specs.History.{is_inner, history_bytes}
 use Rattle.record_cache.specs.Reading.{records_shown}
 use Rattle.byte_region.specs.Regions.{RegionView, empty_region}
 use Rattle.record_cache.specs.Buffers.{Buffer, buffer_of, IsBuffer, HasRecordRoom}
 use Rattle.record_cache.specs.KeptRecords.{IsKept}
 use Rattle.record_cache.specs.Offers.{Offered, StartsAt, StandsThere}
 use Rattle.record_cache.proofs.Readback.{records_read}
+
+-- a record that is no extra may be kept where it fits and is short
+pub inner_kept : (r : Rec) → is_inner r ≡ true → RecFits r → length (rec_bytes r) ≤ 33554463 → IsKept r
+inner_kept r inner fits short =
+    record { fits = fits; short = short; extra = λ aside. absurd (let no : true ≡ false = sym inner ∙ aside in cc) }
 
 -- ---- no records
 
