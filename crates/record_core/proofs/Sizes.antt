@@ -1,5 +1,5 @@
 -- The sizes of a declaration's records.
-use Rattle.std.proofs.Common.{◌≡◌, ℕ, ◌+◌, ◌≤◌, List, length, Option, Some, None, sym, ap, subst, ◌∙◌, arith}
+use Rattle.std.proofs.Common.{◌≡◌, ℕ, ◌+◌, ◌≤◌, List, length, Option, Some, None, refl, sym, ap, subst, ◌∙◌, arith}
 use Rattle.std.specs.Prelude.{IsPermutation}
 use Rattle.std.proofs.lemmas.List.Sorted.{sum_by-IsPermutation}
 use Rattle.std.proofs.lemmas.List.Concat.{length-flat_map}
@@ -12,8 +12,9 @@ use Rattle.rec_data.specs.Owned.{rec_bytes, RecFits}
 use Rattle.rec_data.specs.Records.{schema_text, channel_text}
 use Rattle.rec_data.proofs.OwnedLengths.{length-schema_text, length-channel_text}
 use Rattle.mcap_model.specs.Fields.{SchemaFields}
-use Rattle.mcap_model.specs.History.{schema_of, channel_of}
+use Rattle.mcap_model.specs.History.{is_inner, schema_of, channel_of}
 use Rattle.record_cache.specs.KeptRecords.{IsKept}
+use Rattle.record_cache.proofs.Kept.{inner_kept}
 use Rattle.id_table.specs.declared.given.Given.{Given}
 use Rattle.id_table.specs.declared.given.Given.TheVariants.{Known, New}
 use Rattle.record_core.specs.DeclarationFields.{fields_of_schema, fields_with, schema_size, declared_size}
@@ -39,7 +40,7 @@ schema_kept (Some s) (Some (Known id)) channel fits small = tt
 schema_kept (Some s) (Some (New id)) channel fits small =
     let size = schema_length id (fields_of_schema s) in
     let other = schema_length 0 (fields_of_schema s) in
-    (record { fits = fits; short = omega (arith, size, other, small) }, omega (arith, size, other, small))
+    (inner_kept (schema_of id (fields_of_schema s)) refl fits (omega (arith, size, other, small)), omega (arith, size, other, small))
 
 pub first_kept : (c : ChannelDef) (given : Option Given) (id : ℕ) (first : List Rec) (second : Rec) → first ≡ schema_with c.schema given → second ≡ channel_of id (fields_with c (id_of given))
     → FirstFits first → declared_size c ≤ 1048576 → SchemaKept first second
@@ -50,7 +51,7 @@ first_kept c given id first second one other fits small =
 pub second_kept : (c : ChannelDef) (given : Option Given) (id : ℕ) (second : Rec) → second ≡ channel_of id (fields_with c (id_of given)) → RecFits second → declared_size c ≤ 1048576 → IsKept second
 second_kept c given id second other fits small =
     let size : length (rec_bytes second) ≡ length (rec_bytes (channel_of 0 (fields_with c 0))) = ap (λ (r : Rec). length (rec_bytes r)) other ∙ same_length c id (id_of given) in
-    record { fits = fits; short = omega (arith, size, small) }
+    inner_kept second (ap is_inner other) fits (omega (arith, size, small))
 
 -- pairs in another order are as long
 pub length-sorted : (pairs sorted : List (List ℕ × List ℕ)) → IsPermutation pairs sorted → length (pair_texts sorted) ≡ length (pair_texts pairs)
