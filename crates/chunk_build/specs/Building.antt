@@ -87,7 +87,8 @@ IsOver size span len mark o = (size ≤ length o.bytes + len) ⊎ (spans_with sp
 -- With such a record more the chunk stays open, or it can be closed. An entry more takes at most 31 bytes in the Message
 -- Indexes.
 abbrev pub ClosingReady : ℕ → Option ℕ → ℕ → Option Mark → Building → Option Closing → Type 0
-ClosingReady size span len mark chunk None = StaysOpen size span len mark (chunk_in_memory chunk) × HasRoom chunk.bytes len
+ClosingReady size span len mark chunk None =
+    StaysOpen size span len mark (chunk_in_memory chunk) × HasRoom chunk.bytes len
 ClosingReady size span len mark chunk (Some closing) = IsOver size span len mark (chunk_in_memory chunk)
     × HasRoom chunk.bytes (len + (chunk.index + 31)) × CanClose chunk 1 closing
 

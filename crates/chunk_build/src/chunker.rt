@@ -19,9 +19,10 @@ use rec_data::Rec;
 use std::alloc::Global;
 use std::marker::Model;
 
-/// Cuts a history without extras into blocks of a size. A chunk is closed behind the record that brings its records, framed, to at
-/// least that many bytes, and, where a span is given, behind the message that brings its log times at least that far apart. Its Chunk isn't compressed; a Message Index stands behind it for each channel with a message, in ascending channel
-/// id. Contracts see the size, the span and what the open chunk holds: the chunker stands for each history (`StandsFor`) of which these are
+/// Cuts a history without extras into blocks of a size. A chunk is closed after the record that brings its records, framed, to
+/// at least that many bytes, and, where a span is given, after the message that brings its log times at least that far apart.
+/// Its Chunk isn't compressed; a Message Index follows it for each channel with a message, in ascending channel id. Contracts
+/// see the size, the span and what the open chunk holds: the chunker stands for each history (`StandsFor`) of which these are
 /// the records that wait for their block.
 #[derive(Drop)]
 pub struct Chunker {

@@ -1,5 +1,5 @@
 -- The last record of a buffer, and those in front of it.
-use Rattle.std.proofs.Common.{◌≡◌, ℕ, suc, ◌-◌, ◌<◌, ◌≤◌, List, [], ◌∷◌, ◌++◌, length, take, drop, Option, Ok, Err, refl, sym, ap, subst, ◌∙◌, append_assoc, append-nil, arith}
+use Rattle.std.proofs.Common.{◌≡◌, ℕ, suc, ◌-◌, ◌<◌, ◌≤◌, List, [], ◌∷◌, ◌++◌, length, take, drop, Option, Err, refl, sym, ap, subst, ◌∙◌, append_assoc, append-nil, arith}
 use Rattle.std.proofs.Math.Seq.{take-suc, take-append_seam}
 use Rattle.std.proofs.lemmas.List.{take_all, take-append-drop, map-append, length-append}
 use Rattle.std.proofs.lemmas.Grind.{flat_map-append}
@@ -14,7 +14,7 @@ use Rattle.mcap_model.specs.History.{history_bytes}
 use Rattle.record_cache.specs.Offers.{StartsAt, RecordAt}
 use Rattle.chunk_writer.specs.Buffered.{framed_each, BeginsLast, AppendRefusedAt}
 use Rattle.chunk_writer.specs.StopSteps.{Added}
-use Rattle.chunk_writer.proofs.Taking.{some_left, starts, all_put}
+use Rattle.chunk_writer.proofs.Taking.{some_left, all_put}
 
 -- ---- pieces of first records
 

@@ -1,7 +1,7 @@
 -- The bytes of an extra, and what is noted of it.
-use Rattle.std.proofs.Common.{◌≡◌, ◌⊎◌, Bool, true, false, ℕ, zero, suc, ◌+◌, ◌<◌, ◌≤◌, map, take, List, [], ◌∷◌, ◌++◌, length, drop, Option, Some, None, refl, sym, ap, subst, inl, inr, ◌∙◌, append_assoc, append-nil, length-append, arith}
+use Rattle.std.proofs.Common.{◌≡◌, Bool, true, false, ℕ, zero, suc, ◌+◌, ◌<◌, ◌≤◌, map, take, List, [], ◌∷◌, ◌++◌, length, drop, Option, Some, None, refl, sym, ap, subst, inl, inr, ◌∙◌, append_assoc, append-nil, length-append, arith}
 use Rattle.std.proofs.lemmas.List.{drop_at}
-use Rattle.std.specs.Prelude.{get_or, All, nat_le}
+use Rattle.std.specs.Prelude.{get_or, nat_le}
 use Rattle.std.proofs.lemmas.Bool.{both_ways, lt-leb}
 use Rattle.mcap_model.specs.History.{is_inner, rec_top}
 use Rattle.chunk_build.specs.Chunker.{AreFramed, AreInner}
@@ -12,7 +12,6 @@ use Rattle.mcap_model.specs.Places.{At, Each}
 use Rattle.mcap_model.proofs.Places.{at_more}
 use Rattle.chunk_writer.specs.Scribes.{AreWaiting, FillsExtras}
 use Rattle.chunk_writer.specs.declared.scribe.Scribe.{Scribe}
-use Rattle.chunk_writer.specs.declared.phase.Phase.TheVariants as phases
 use Rattle.mcap_io.specs.Outside.{LiveState}
 use Rattle.mcap_model.specs.declared.ends.Stop.{Stop}
 use Rattle.chunk_writer.specs.Stops.{numbers}

@@ -1,5 +1,5 @@
 -- Where a scribe owes nothing of what waits in its store.
-use Rattle.std.proofs.Common.{◌≡◌, ℕ, ◌+◌, ◌<◌, List, [], ◌∷◌, ◌++◌, length, Option, Some, None, Result, Ok, Err, IsSome, true, false, refl, sym, subst, ◌∙◌}
+use Rattle.std.proofs.Common.{◌≡◌, ℕ, ◌+◌, ◌<◌, List, [], ◌∷◌, length, Option, Some, None, Result, Ok, Err, IsSome, true, false, refl, subst, ◌∙◌}
 use Rattle.std.specs.Prelude.{OnOk}
 use Rattle.mcap_wire.specs.Limits.{file_limit}
 use Rattle.rec_data.specs.declared.owned.Rec.{Rec}
@@ -15,7 +15,6 @@ use Rattle.chunk_writer.specs.declared.scribe.Scribe.{Scribe}
 use Rattle.chunk_writer.specs.Limits.{Holds}
 use Rattle.chunk_writer.specs.Bodies.{BodyFor}
 use Rattle.chunk_writer.specs.Planning.{Planning}
-use Rattle.chunk_writer.specs.Plans.{Plans}
 use Rattle.chunk_writer.specs.Scribes.{ScribeStands, AreThrough, WritesHistory, ScribeGrows, GoesThrough}
 use Rattle.chunk_writer.proofs.Planned.{has_none}
 use Rattle.chunk_writer.proofs.Plain.{past_limit}

@@ -20,8 +20,8 @@ noted_of at records pieces = record {
   extras = alone_from at pieces;
 }
 
--- The open chunk holds the records that wait for their block, and the summary stands for all records and for the blocks
--- before these.
+-- The open chunk holds the records that wait for their block, and the summary stands for all records but the extras, and for
+-- the blocks and the extras that stand in the file already.
 pub record IsBody (size : ℕ) (span : Option ℕ) (at : ℕ) (history : List Rec) (b : Body) : Type 0 where
   pub some : 1 ≤ size
   pub within : size ≤ chunk_size_limit
@@ -31,22 +31,26 @@ pub record IsBody (size : ℕ) (span : Option ℕ) (at : ℕ) (history : List Re
   pub summary : tally.SummaryStandsFor b.summary (noted_of at history (cuts (Some size) span history).pieces)
 
 -- a record was put behind a history; the block that it closed isn't noted yet
-pub record BodyTakes (size : ℕ) (span : Option ℕ) (at : ℕ) (history : List Rec) (r : Rec) (closed : Option Block) (after : Body) : Type 0 where
+pub record BodyTakes (size : ℕ) (span : Option ℕ) (at : ℕ) (history : List Rec) (r : Rec) (closed : Option Block)
+    (after : Body) : Type 0 where
   pub size_is : after.chunker.size ≡ size
   pub span_is : after.chunker.span ≡ span
   pub chunk : chunker.StandsFor after.chunker (history ++ r ∷ [])
   pub closes : chunker.Closes (cuts (Some size) span history) r (cuts (Some size) span (history ++ r ∷ [])) closed
-  pub summary : tally.SummaryStandsFor after.summary (noted_of at (history ++ r ∷ []) (cuts (Some size) span history).pieces)
+  pub summary : tally.SummaryStandsFor after.summary
+      (noted_of at (history ++ r ∷ []) (cuts (Some size) span history).pieces)
 
 -- a history has ended; its last block isn't noted yet
-pub record TakesLast (size : ℕ) (span : Option ℕ) (at : ℕ) (history : List Rec) (last : Option Block) (after : Body) : Type 0 where
+pub record TakesLast (size : ℕ) (span : Option ℕ) (at : ℕ) (history : List Rec) (last : Option Block) (after : Body)
+    : Type 0 where
   pub last_block : chunker.Last (cuts (Some size) span history).waiting last
   pub summary : tally.SummaryStandsFor after.summary (noted_of at history (cuts (Some size) span history).pieces)
 
 -- ---- with the numbers of the pieces that are sure
 
 -- the same, and there are so many blocks, and so many bytes with those before the first piece
-pub record StandsSo (size : ℕ) (span : Option ℕ) (at : ℕ) (history : List Rec) (b : Body) (blocks bytes : ℕ) : Type 0 where
+pub record StandsSo (size : ℕ) (span : Option ℕ) (at : ℕ) (history : List Rec) (b : Body) (blocks bytes : ℕ)
+    : Type 0 where
   pub body : IsBody size span at history b
   pub blocks_are : blocks ≡ length (blocks_in (cuts (Some size) span history).pieces)
   pub bytes_are : bytes ≡ at + length (pieces_bytes (cuts (Some size) span history).pieces)
@@ -63,7 +67,8 @@ ClosesBlock size span history r (Some b) =
     (records : List Rec) × ClosesPiece size span history r (block records) × IsBlock b records
 
 -- a record was put behind a history, and the block that it closed was noted
-pub record NextBlock (size : ℕ) (span : Option ℕ) (at : ℕ) (history : List Rec) (r : Rec) (closed : Option Block) (after : Body) : Type 0 where
+pub record NextBlock (size : ℕ) (span : Option ℕ) (at : ℕ) (history : List Rec) (r : Rec) (closed : Option Block)
+    (after : Body) : Type 0 where
   pub body : IsBody size span at (history ++ r ∷ []) after
   pub closes : ClosesBlock (Some size) span history r closed
 
@@ -73,7 +78,8 @@ pub record NextAside (size : ℕ) (span : Option ℕ) (at : ℕ) (history : List
   pub closes : ClosesPiece (Some size) span history r (alone r)
 
 -- a history has ended, and its last block was noted
-pub record LastBlock (size : ℕ) (span : Option ℕ) (at : ℕ) (history : List Rec) (last : Option Block) (after : Body) : Type 0 where
+pub record LastBlock (size : ℕ) (span : Option ℕ) (at : ℕ) (history : List Rec) (last : Option Block) (after : Body)
+    : Type 0 where
   pub last_block : chunker.Last (cuts (Some size) span history).waiting last
   pub summary : tally.SummaryStandsFor after.summary (noted_of at history (pieces_of (Some size) span history))
 

@@ -33,7 +33,8 @@ counted_on p len = record p { bytes = p.bytes + len }
 
 -- what is to be appended for a record more
 abbrev pub IsToAppend : Option ℕ → Option ℕ → List Rec → Rec → Next → Type 0
-IsToAppend size span history r nexts.Waits = (cuts size span (history ++ r ∷ [])).pieces ≡ (cuts size span history).pieces
+IsToAppend size span history r nexts.Waits =
+    (cuts size span (history ++ r ∷ [])).pieces ≡ (cuts size span history).pieces
 IsToAppend size span history r (nexts.Block b) =
     (records : List Rec) × ClosesPiece size span history r (block records) × IsBlock b records
 IsToAppend size span history r nexts.Record = ClosesPiece size span history r (alone r)
@@ -75,6 +76,13 @@ CountsNext before after nexts.Waits = after ≡ before
 CountsNext before after (nexts.Block b) = after ≡ before + 1
 CountsNext before after nexts.Record = after ≡ before
 CountsNext before after nexts.Aside = after ≡ before
+
+-- the record itself is appended
+abbrev pub StandsAlone : Next → Type 0
+StandsAlone nexts.Waits = ⊥
+StandsAlone (nexts.Block b) = ⊥
+StandsAlone nexts.Record = Unit {0}
+StandsAlone nexts.Aside = Unit {0}
 
 -- the plan stopped, with so many blocks and bytes before the piece
 pub record StoppedBefore (blocks bytes : ℕ) (stop : Stop) (after : Planning) : Type 0 where

@@ -120,8 +120,10 @@ KeepsOn old new = (before : List ℕ) → old ≡ Some before → (more : List �
 -- which entry a put record gives: that of the block that it closes, if it does so
 abbrev pub GivesEntry : {X : Type 0} → SeenExtents X → FileOptions → List Rec → Rec → Option (Entry X) → Type 0
 GivesEntry seen options history r None =
-    blocks_in (cuts options.chunk options.span (history ++ r ∷ [])).pieces ≡ blocks_in (cuts options.chunk options.span history).pieces
-GivesEntry seen options history r (Some e) = (records : List Rec) × ClosesPiece options.chunk options.span history r (block records)
+    blocks_in (cuts options.chunk options.span (history ++ r ∷ [])).pieces
+    ≡ blocks_in (cuts options.chunk options.span history).pieces
+GivesEntry seen options history r (Some e) = (records : List Rec)
+    × ClosesPiece options.chunk options.span history r (block records)
     × HasBlockExtent seen e (length (written_of options history)) records
 
 -- the last entry is that of the block of the records that wait, where there are any
@@ -145,7 +147,8 @@ pub record ListsEntry {L X : Type 0} (state : L → LiveState) (seen : SeenExten
 
 -- the blocks of a history that are sure, each with its offset in the file
 abbrev pub sure_blocks : FileOptions → List Rec → List (ℕ × List Rec)
-sure_blocks options history = blocks_from (length (front options.profile)) (cuts options.chunk options.span history).pieces
+sure_blocks options history =
+    blocks_from (length (front options.profile)) (cuts options.chunk options.span history).pieces
 
 -- records that are put behind a history give an entry for each block that they make sure, in the order of these
 pub record GivesEntries {X : Type 0} (seen : SeenExtents X) (options : FileOptions) (history records : List Rec)

@@ -1,5 +1,5 @@
 -- Where a writer stopped, and what its store holds then.
-use Rattle.std.specs.Prelude.{◌≡◌, ℕ, List, length, Option, Result, Ok, Err, ◌+◌, ◌-◌, [], ◌++◌, take, Some}
+use Rattle.std.specs.Prelude.{◌≡◌, ℕ, List, length, Option, Result, Ok, Err, ◌+◌, ◌-◌, ◌++◌, take, Some}
 use Rattle.rec_data.specs.declared.owned.Rec.{Rec}
 use Rattle.mcap_io.specs.Outside.{Adds, RisesOnce}
 use Rattle.mcap_model.specs.declared.options.FileOptions.{FileOptions}

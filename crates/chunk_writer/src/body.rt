@@ -35,11 +35,13 @@ pub(crate) fn begin(alloc: Global, size: u64, span: Option<u64>) -> Result<Body,
     return Ok(Body { chunker, summary });
 }
 
-/// Notes a framed record that is no extra and puts it into the open chunk, and gives the block that this closes. That isn't noted yet.
+/// Notes a framed record that is no extra and puts it into the open chunk, and gives the block that this closes. That isn't
+/// noted yet.
 pub(crate) fn take(body: &mut Body, framed: &[u8]) -> Result<Option<Block>, Memory>
     requires framed { (r : Rec) × AreInner framed.now r }
     requires few { body.old.summary.messages < record_count_limit }
-    ensures ok { IfOk result (λ closed. (r : Rec) → AreInner framed.now r → (size : ℕ) (span : Option ℕ) (at : ℕ) (history : List Rec)
+    ensures ok { IfOk result (λ closed. (r : Rec) → AreInner framed.now r
+        → (size : ℕ) (span : Option ℕ) (at : ℕ) (history : List Rec)
         → IsBody size span at history body.old → BodyTakes size span at history r closed body.new) }
     ensures blocks { OnOk result (body.new.summary.blocks ≡ body.old.summary.blocks) }
 {
@@ -55,8 +57,8 @@ pub(crate) fn take(body: &mut Body, framed: &[u8]) -> Result<Option<Block>, Memo
 
 /// Gives the last block, where records wait for one, which isn't noted yet.
 pub(crate) fn take_last(body: &mut Body) -> Result<Option<Block>, Memory>
-    ensures ok { IfOk result (λ last. (size : ℕ) (span : Option ℕ) (at : ℕ) (history : List Rec) → IsBody size span at history body.old
-        → TakesLast size span at history last body.new) }
+    ensures ok { IfOk result (λ last. (size : ℕ) (span : Option ℕ) (at : ℕ) (history : List Rec)
+        → IsBody size span at history body.old → TakesLast size span at history last body.new) }
     ensures blocks { OnOk result (body.new.summary.blocks ≡ body.old.summary.blocks) }
 {
     match body.chunker.finish() {

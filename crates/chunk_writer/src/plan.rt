@@ -17,7 +17,7 @@ ghost use Rattle.chunk_writer.specs.Limits.{Holds, ChunkSizeFits};
 ghost use Rattle.chunk_writer.specs.LimitSteps.{HoldsOrStops, IsNoFault};
 ghost use Rattle.chunk_writer.specs.Bodies.{BodyFor, SummaryFor, StandsSo, NextBlock, LastBlock};
 ghost use Rattle.chunk_writer.specs.Waiting.{AreExtra, AreAside};
-ghost use Rattle.chunk_writer.specs.Plans.{Plans, counted_on, IsPlanned, PutStopped, IsLastBlock, LastStopped, IsFilled, ExtraStopped, BackStopped, HoldsBlock, HoldsNext, CountsNext, CountsBlock, StoppedBefore};
+ghost use Rattle.chunk_writer.specs.Plans.{Plans, counted_on, IsPlanned, PutStopped, IsLastBlock, LastStopped, IsFilled, ExtraStopped, BackStopped, HoldsBlock, HoldsNext, CountsNext, StandsAlone, CountsBlock, StoppedBefore};
 
 use crate::body::{Body, begin, take, take_last};
 use crate::limits::keep_limit;
@@ -261,6 +261,8 @@ impl Plan {
         ensures room { IfOk result (λ next. HoldsNext self.old.blocks self.old.bytes framed.now next) }
         ensures counted { IfOk result (λ next. CountsNext self.old.blocks self.new.blocks next) }
         ensures plain { IfOk result (λ next. next ≡ nexts.Record → self.old.body ≡ None) }
+        ensures alone { IfOk result (λ next. (r : Rec) → AreFramed framed.now r → is_inner r ≡ false
+            → StandsAlone next) }
         ensures err { IfErr result (λ stop. (r : Rec) → AreFramed framed.now r
             → (options : FileOptions) (history : List Rec) → Plans options history self.old
             → PutStopped options.chunk options.span history r self.old.blocks self.old.bytes stop) }
@@ -337,7 +339,8 @@ impl Plan {
         ensures room { IfOk result (λ last. HoldsBlock self.old.blocks self.old.bytes last) }
         ensures counted { IfOk result (λ last. CountsBlock self.old last self.new) }
         ensures err { IfErr result (λ stop. (options : FileOptions) (history : List Rec)
-            → Plans options history self.old → LastStopped options.chunk options.span history self.old.blocks self.old.bytes stop) }
+            → Plans options history self.old
+            → LastStopped options.chunk options.span history self.old.blocks self.old.bytes stop) }
         ensures no_fault { IfErr result (λ stop. IsNoFault stop) }
         ensures stopped { IfErr result (λ stop. StoppedBefore self.old.blocks self.old.bytes stop self.new) }
     {

@@ -190,8 +190,9 @@ impl<L: LiveStore> Scribe<L> {
         }
     }
 
-    /// Adds a record to the history, and gives the entry of the block that this closes, if it does so. A block is appended
-    /// through; so is an extra, alone and at once. A record that stands at top level without chunks is appended alone.
+    /// Adds a record to the history, and gives the entry of the block that this closes, if it does so; an extra closes none. A
+    /// block is appended through. In a file in chunks an extra is appended at once, alone and through. Without chunks each
+    /// record is appended alone.
     pub fn put(&mut self, r: &Rec) -> Result<Option<Entry<L::Extent>>, Stop>
         requires fits { LengthsFit r.now }
         requires extra { is_inner r.now ≡ false → IsExtra (rec_top r.now) }
@@ -200,6 +201,7 @@ impl<L: LiveStore> Scribe<L> {
         ensures entry { IfOk result (λ entry. OfEach L.state self.old (λ options history. GivesEntry
             (seen_before (λ e. L.Extent.tells e) (λ e. L.Extent.size e) (L.state (store_of self.old))) options history
             r.now entry)) }
+        ensures alone { is_inner r.now ≡ false → IfOk result (λ entry. entry ≡ None) }
         ensures counted { IfOk result (λ entry. CountsLast (blocks_of self.old) (blocks_of self.new) entry) }
         ensures keeps { KeepsOn (L.state (store_of self.old)).held (L.state (store_of self.new)).held }
         ensures goes_on { OnOk result ((phase_of self.old ≡ phases.Going) × (phase_of self.new ≡ phases.Going)) }
@@ -230,12 +232,15 @@ impl<L: LiveStore> Scribe<L> {
     /// Does the same with a record that is given by its framed bytes.
     pub fn put_bytes(&mut self, framed: &[u8]) -> Result<Option<Entry<L::Extent>>, Stop>
         requires framed { (r : Rec) × AreFramed framed.now r }
+        requires extra { (r : Rec) → AreFramed framed.now r → is_inner r ≡ false → IsExtra (rec_top r) }
         requires unended { phase_of self.old ≡ phases.Ended → ⊥ }
         ensures stands { (r : Rec) → AreFramed framed.now r → ScribeGrows L.state self.old self.new (r ∷ []) }
         ensures entry { IfOk result (λ entry. (r : Rec) → AreFramed framed.now r
             → OfEach L.state self.old (λ options history. GivesEntry
             (seen_before (λ e. L.Extent.tells e) (λ e. L.Extent.size e) (L.state (store_of self.old))) options history r
             entry)) }
+        ensures alone { IfOk result (λ entry. (r : Rec) → AreFramed framed.now r → is_inner r ≡ false
+            → entry ≡ None) }
         ensures counted { IfOk result (λ entry. CountsLast (blocks_of self.old) (blocks_of self.new) entry) }
         ensures keeps { KeepsOn (L.state (store_of self.old)).held (L.state (store_of self.new)).held }
         ensures goes_on { OnOk result ((phase_of self.old ≡ phases.Going) × (phase_of self.new ≡ phases.Going)) }
@@ -259,7 +264,8 @@ impl<L: LiveStore> Scribe<L> {
         return self.put_framed(framed);
     }
 
-    /// Adds an Attachment, a Metadata or a record of an application, which waits for the end of the file. Only memory may lack for it.
+    /// Adds an Attachment, a Metadata or a record of an application, which waits for the end of the file. Only memory may lack
+    /// for it.
     pub fn add_extra(&mut self, op: u8, content: &[u8]) -> Result<(), Stop>
         requires meets { IsExtra (top op content.now) }
         requires unended { phase_of self.old ≡ phases.Ended → ⊥ }
@@ -475,6 +481,8 @@ impl<L: LiveStore> Scribe<L> {
             → OfEach L.state self.old (λ options history. GivesEntry
             (seen_before (λ e. L.Extent.tells e) (λ e. L.Extent.size e) (L.state (store_of self.old))) options history r
             entry)) }
+        ensures alone { IfOk result (λ entry. (r : Rec) → AreFramed framed.now r → is_inner r ≡ false
+            → entry ≡ None) }
         ensures counted { IfOk result (λ entry. CountsLast (blocks_of self.old) (blocks_of self.new) entry) }
         ensures keeps { KeepsOn (L.state (store_of self.old)).held (L.state (store_of self.new)).held }
         ensures goes_on { OnOk result (phase_of self.new ≡ phases.Going) }

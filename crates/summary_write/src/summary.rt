@@ -82,8 +82,8 @@ impl Summary {
         })
     }
 
-    /// Notes a record of the history that is no extra. Of Schemas and of Channels the first of each id is kept. Where memory lacks nothing
-    /// changes.
+    /// Notes a record of the history that is no extra. Of Schemas and of Channels the first of each id is kept. Where memory
+    /// lacks nothing changes.
     pub fn note_record(&mut self, r: &Rec) -> Result<(), Memory>
         requires fits { LengthsFit r.now }
         requires inner { is_inner r.now ≡ true }

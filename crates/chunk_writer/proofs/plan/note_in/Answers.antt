@@ -1,5 +1,5 @@
 -- An extra is noted by its opcode.
-use Rattle.std.proofs.Common.{arith, sym, ◌∙◌}
+use Rattle.std.proofs.Common.{arith}
 use Rattle.std.proofs.lemmas.Result.{on_ok_weaker}
 use Rattle.chunk_writer.proofs.Gathered.{long, attachment_meets, metadata_meets, noted_attachment, noted_metadata, noted_other}
 use Rattle.chunk_writer.proofs.plan.note_in.Goals as goal

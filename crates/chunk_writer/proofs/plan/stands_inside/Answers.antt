@@ -1,4 +1,4 @@
-use Rattle.chunk_writer.proofs.Gathered.{inner_there, some_bytes}
+use Rattle.chunk_writer.proofs.Gathered.{inner_there}
 use Rattle.chunk_writer.proofs.plan.stands_inside.Goals as goal
 
 pub returns : goal.returns

@@ -1,4 +1,4 @@
-use Rattle.std.proofs.Common.{take, sym, ap, subst, ◌∙◌, arith, length, ◌≤◌, ℕ, List}
+use Rattle.std.proofs.Common.{take, sym, ap, ◌∙◌, arith, length, ℕ, List}
 use Rattle.std.proofs.lemmas.List.{length-take-le}
 use Rattle.record_cache.proofs.Apart.{framed_bytes}
 use Rattle.chunk_writer.proofs.Fronts.{front_bytes, front_within}

@@ -1,5 +1,5 @@
 -- An extra waits, or memory lacks.
-use Rattle.std.proofs.Common.{refl, sym, ap, ◌∙◌}
+use Rattle.std.proofs.Common.{sym, ◌∙◌}
 use Rattle.mcap_model.specs.Made.{top}
 use Rattle.chunk_writer.proofs.Gathered.{waits_more}
 use Rattle.chunk_writer.proofs.Writing.{waits_same}

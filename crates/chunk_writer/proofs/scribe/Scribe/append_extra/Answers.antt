@@ -1,5 +1,5 @@
 -- An extra was appended, or refused.
-use Rattle.std.proofs.Common.{◌≡◌, ℕ, List, [], ◌++◌, ◌∷◌, Err, sym, subst, ◌∙◌}
+use Rattle.std.proofs.Common.{◌∙◌}
 use Rattle.chunk_writer.proofs.Stopping.{added_err}
 use Rattle.chunk_writer.proofs.Writing.{fills_more, extra_stopped, extra_not_appended}
 use Rattle.chunk_writer.proofs.scribe.Scribe.append_extra.Goals as goal

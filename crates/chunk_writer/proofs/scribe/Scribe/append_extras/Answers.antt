@@ -1,5 +1,5 @@
 -- The extras that wait were appended, or one was refused.
-use Rattle.std.proofs.Common.{List, length, refl, sym, ap, subst, ◌∙◌, arith}
+use Rattle.std.proofs.Common.{List, length, refl, ap, subst, ◌∙◌, arith}
 use Rattle.chunk_writer.specs.Stops.{StopCause}
 use Rattle.chunk_writer.proofs.Gathered.{filling_on, filling_stopped, filling_done}
 use Rattle.chunk_writer.proofs.scribe.Scribe.append_extras.Goals as goal

@@ -1,4 +1,4 @@
-use Rattle.std.proofs.Common.{sym, ◌∙◌, arith, ap}
+use Rattle.std.proofs.Common.{sym, ◌∙◌, arith}
 use Rattle.chunk_writer.proofs.Writing.{fills_none, ends_so, stopped_ends, last_begun, back_begun}
 use Rattle.chunk_writer.proofs.scribe.Scribe.finish.Goals as goal
 
