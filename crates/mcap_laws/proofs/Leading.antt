@@ -1,5 +1,5 @@
 -- The summary of a fully indexed file leads to the messages of its scan.
-use Rattle.std.proofs.Common.{◌≡◌, ◌⊎◌, ℕ, zero, suc, ◌+◌, ◌-◌, ◌^◌, ◌<◌, ◌≤◌, Bool, true, false, eqb, List, [], ◌∷◌, ◌++◌, length, take, drop, Some, refl, sym, ap, subst, inl, inr, ◌∙◌, append_assoc, cond, arith}
+use Rattle.std.proofs.Common.{◌≡◌, ◌⊎◌, ℕ, zero, suc, ◌+◌, ◌-◌, ◌^◌, ◌<◌, ◌≤◌, Bool, true, false, eqb, List, [], ◌∷◌, ◌++◌, length, take, drop, refl, sym, ap, subst, inl, inr, ◌∙◌, append_assoc, cond, arith}
 use Rattle.std.specs.Prelude.{◌≢◌, filter, take_while, if◌then◌else◌}
 use Rattle.std.specs.List.{list_any}
 use Rattle.std.proofs.lemmas.Bool.{both_ways, cases_lt, eqb-true, eq-eqb}
@@ -7,9 +7,8 @@ use Rattle.std.proofs.lemmas.List.{append-nil, append_cancel_left, length-append
 use Rattle.std.proofs.lemmas.List.Sums.{take_while-cons}
 use Rattle.std.proofs.lemmas.Grind.{flat_map-append}
 use Rattle.std.proofs.lemmas.Option.{same_Some}
-use Rattle.mcap_wire.specs.Layout.{le, string, prefixed, magic, part}
+use Rattle.mcap_wire.specs.Layout.{magic, part}
 use Rattle.mcap_wire.proofs.Framing.{records_apart}
-use Rattle.mcap_wire.proofs.Numbers.{length-le}
 use Rattle.rec_data.specs.Fields.{FooterFields}
 use Rattle.rec_data.specs.Records.{ShowsFooter}
 use Rattle.rec_data.proofs.Contents.{length-footer_text, footer_decided}

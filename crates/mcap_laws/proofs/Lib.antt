@@ -15,6 +15,7 @@ mod OneMessage
 mod Indexing
 mod Repeats
 mod Order
+mod InTurn
 mod Recovered
 mod Premises
 pub mod Leading

@@ -1,5 +1,5 @@
 -- A block that is cut at a small size holds few messages.
-use Rattle.std.proofs.Common.{◌≡◌, ℕ, ◌+◌, ◌*◌, ◌≤◌, Bool, true, false, List, [], ◌∷◌, ◌++◌, length, map, Some, refl, sym, ap, subst, ◌∙◌, arith}
+use Rattle.std.proofs.Common.{◌≡◌, ℕ, ◌+◌, ◌*◌, ◌≤◌, Bool, true, false, List, [], ◌∷◌, ◌++◌, length, Some, refl, sym, ap, subst, arith}
 use Rattle.std.specs.Prelude.{◌==◌, ◌||◌}
 use Rattle.std.proofs.lemmas.Bool.{leb-false}
 use Rattle.std.proofs.lemmas.List.{length-append}
@@ -7,17 +7,14 @@ use Rattle.rec_data.specs.declared.owned.Rec.{Rec}
 use Rattle.rec_data.specs.declared.owned.Rec.TheVariants.{Schema, Channel, Message, Extra}
 use Rattle.rec_data.specs.Owned.{rec_bytes}
 use Rattle.mcap_model.specs.Places.{At}
-use Rattle.mcap_model.specs.Tops.{Top}
 use Rattle.mcap_model.specs.History.{rec_top, body_of, history_bytes}
 use Rattle.mcap_model.proofs.Growth.{logged_all}
 use Rattle.mcap_wire.proofs.Numbers.{length-le}
 use Rattle.mcap_model.specs.Blocks.{chunk_content, Logged, logged_one, logged_from, logged, reaches, spans, is_ripe, Piece, blocks_in, pieces_of}
 use Rattle.mcap_model.specs.Histories.{AreBlocks, pieces_by}
 use Rattle.mcap_model.specs.Summary.{messages_on}
-use Rattle.mcap_model.specs.Whole.{count_of}
 use Rattle.mcap_model.specs.Laws.{EntriesFit, SmallBlocksFit}
 use Rattle.mcap_model.proofs.Readings.{length-top}
-use Rattle.mcap_model.proofs.Flat.{map-append}
 use Rattle.mcap_model.proofs.Cutting.{last_of, blocks_are_one, sizes_ripen}
 use Rattle.rec_data.proofs.Contents.{length-message_text}
 use Rattle.mcap_model.proofs.Logging.{few_filtered}

@@ -1,5 +1,5 @@
 -- The messages of what is repaired, and what repairing makes of a written file.
-use Rattle.std.proofs.Common.{◌≡◌, ◌⊎◌, ℕ, zero, suc, Bool, true, false, cond, List, [], ◌∷◌, ◌++◌, map, ◌||◌, refl, sym, ap, subst, inl, inr, ◌∙◌, append_assoc, append-nil, arith}
+use Rattle.std.proofs.Common.{◌≡◌, ℕ, zero, suc, Bool, true, false, cond, List, [], ◌∷◌, ◌++◌, map, ◌||◌, refl, sym, ap, subst, inl, inr, ◌∙◌, append_assoc, append-nil, arith}
 use Rattle.std.specs.Prelude.{filter, fold, if◌then◌else◌, ◌==◌, nat_le}
 use Rattle.std.specs.List.{AllZip, list_any, flat_map}
 use Rattle.std.proofs.lemmas.List.Elements.{filter-append}

@@ -2,7 +2,7 @@
 #![tactic(auto)]
 
 ghost use Rattle.mcap_model.specs.Recovery.{RepairsCanBeWritten, FilesAreRepaired, FrontsAreRepaired, RepairsKeepMessages, RepairsGoOn, GoodRecordsAreKept};
-ghost use Rattle.mcap_model.specs.Laws.{GoodFromTheFront, ReadingsHaltOnce, KeptIsOne, HaltsAreLast, FrontsKeepWhole, RecordsAreFound, ChunksAreOpened, ExtrasAreIndexed, ChunksAreWritten, IndexesAreWritten, ReplaysAreOne, BlocksAreOne, PiecesStandInTurn, SizesRipen, GoodListsAgree, GoodListsAreScanned, NumberedIdsAgree, RepeatsMayGo, RepairsAreOne, FlawsExcludeValidity, FilesAreScanned, FilesAreValid, FilesAreIndexed, PrefixesAreKept, GoodHistoriesAgree, SmallBlocksFit, WholeFilesAreOne, PiecesMakeFiles, StopsLeavePrefixes, IndexesLeadToTheScan, LedReplaysAreScans};
+ghost use Rattle.mcap_model.specs.Laws.{GoodFromTheFront, ReadingsHaltOnce, KeptIsOne, HaltsAreLast, FrontsKeepWhole, RecordsAreFound, ChunksAreOpened, ExtrasAreIndexed, ChunksAreWritten, IndexesAreWritten, ReplaysAreOne, BlocksAreOne, PiecesStandInTurn, PiecesAreOne, PlainPiecesAreRecords, SizesRipen, GoodListsAgree, GoodListsAreScanned, NumberedIdsAgree, RepeatsMayGo, RepairsAreOne, FlawsExcludeValidity, FilesAreScanned, FilesAreValid, FilesAreIndexed, PrefixesAreKept, GoodHistoriesAgree, SmallBlocksFit, WholeFilesAreOne, PiecesMakeFiles, StopsLeavePrefixes, IndexesLeadToTheScan, LedReplaysAreScans};
 
 /// What stands in front in a good list is a good list.
 pub fn good_from_the_front()
@@ -64,15 +64,25 @@ pub fn blocks_are_one()
     ensures { BlocksAreOne }
 {}
 
-/// The extras of a history and its blocks stand in the order of their places: an extra at its own, a block at that of the record
-/// that makes it ripe, and the last block, where it isn't ripe, behind all.
+/// In front of each place of a history stand just the extras among some first pieces; its other records there are those of
+/// their blocks, which are ripe, and some that wait and aren't. At its end what waits is the last piece, if there is any.
 pub fn pieces_stand_in_turn()
     ensures { PiecesStandInTurn }
+{}
+
+/// No other pieces stand so at every place.
+pub fn pieces_are_one()
+    ensures { PiecesAreOne }
 {}
 
 /// So it is with blocks of a size, and of a span of log times.
 pub fn sizes_ripen()
     ensures { SizesRipen }
+{}
+
+/// Without a chunk size each record is a piece, whatever the span.
+pub fn plain_pieces_are_records()
+    ensures { PlainPiecesAreRecords }
 {}
 
 /// The flat records of a good list meet their layouts, and each agrees with those before it.
