@@ -6,10 +6,8 @@ use Rattle.std.proofs.lemmas.List.{append-nil, map-append}
 use Rattle.std.proofs.lemmas.List.Elements.{filter-append}
 use Rattle.rec_data.specs.declared.owned.Rec.{Rec}
 use Rattle.rec_data.specs.declared.owned.Rec.TheVariants.{Schema, Channel, Message, Extra}
-use Rattle.mcap_model.specs.Places.{At, Has, Each, EachBehind}
-use Rattle.mcap_model.specs.Tops.{Top}
-use Rattle.mcap_model.specs.Fields.{SchemaFields, ChannelFields}
-use Rattle.mcap_model.specs.History.{schema_of, channel_of, is_schema, is_channel, is_message, is_inner, body_of, rec_top, extras_in, schema_count, channel_count, Follows, SchemaFollows, ChannelFollows, Numbered}
+use Rattle.mcap_model.specs.Places.{At, Each, EachBehind}
+use Rattle.mcap_model.specs.History.{schema_of, channel_of, is_schema, is_channel, is_message, is_inner, body_of, rec_top, extras_in, schema_count, channel_count, Follows, Numbered}
 use Rattle.mcap_model.specs.Laws.{IsInner}
 use Rattle.mcap_model.proofs.Places.{at_none}
 use Rattle.mcap_model.proofs.Lists.{filter_passed, filter_has}

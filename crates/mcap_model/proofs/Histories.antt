@@ -1,5 +1,5 @@
 -- The records of a history, as a file holds them.
-use Rattle.std.proofs.Common.{◌≡◌, ◌⊎◌, ℕ, zero, suc, ◌+◌, ◌<◌, ◌≤◌, Bool, true, false, cond, ◌==◌, List, [], ◌∷◌, ◌++◌, take, drop, map, refl, sym, ap, subst, inl, inr, ◌∙◌, arith}
+use Rattle.std.proofs.Common.{◌≡◌, ◌⊎◌, ℕ, zero, suc, ◌+◌, ◌<◌, ◌≤◌, Bool, false, cond, ◌==◌, List, [], ◌∷◌, ◌++◌, take, drop, map, refl, sym, ap, subst, inl, inr, ◌∙◌, arith}
 use Rattle.std.specs.Prelude.{nat_lt, filter, ◌||◌, if◌then◌else◌}
 use Rattle.std.proofs.lemmas.Bool.{or_from, le-ltb, both_ways, ne_eqb}
 use Rattle.std.proofs.lemmas.List.{take-append-drop}

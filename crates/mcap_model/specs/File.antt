@@ -49,7 +49,8 @@ abbrev pub section : FileOptions → List Top → List Rec → List ℕ
 section options extras history =
     front options.profile ++ (pieces_bytes (pieces_of options.chunk options.span history) ++ spelled extras)
 
--- what the summary of a file in chunks is made of; of the records at top level it takes the Attachments and the Metadata
+-- What the summary of a file in chunks is made of. Of the records at top level it takes the Attachments and the
+-- Metadata.
 abbrev pub noted : FileOptions → List Top → List Rec → Noted
 noted options extras history = record {
   records = body_of history;

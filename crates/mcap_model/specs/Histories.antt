@@ -1,5 +1,5 @@
 -- Histories as their writers and the laws of files speak of them.
-use Rattle.std.specs.Prelude.{◌≡◌, ℕ, suc, ◌+◌, ◌≤◌, List, [], ◌∷◌, ◌++◌, length, fold, Bool, true, false, not, filter, map, take, drop}
+use Rattle.std.specs.Prelude.{◌≡◌, ℕ, suc, ◌≤◌, List, [], ◌∷◌, ◌++◌, length, fold, Bool, true, false, not, filter, map, take, drop}
 use Rattle.std.specs.List.{flat_map}
 use Rattle.rec_data.specs.declared.owned.Rec.{Rec}
 use Rattle.mcap_model.specs.Places.{At, Each, EachBehind}
@@ -29,8 +29,8 @@ alone_in (block records) = []
 alone_in (alone r) = r ∷ []
 
 -- In front of a place of a history are just those of the pieces that end in front of it: its extras there, and the ripe
--- blocks whose last record stands there. What is left of its other records is no block yet; at the end of the history it is
--- the last piece, if anything is left.
+-- blocks whose last record stands there. What is left of its other records is no block yet; at the end of the history it
+-- is the last piece, if anything is left.
 pub record StandInTurn (ripe : List Rec → Bool) (history : List Rec) (pieces : List Piece) (place : ℕ)
     : Type 0 where
   pub count : ℕ

@@ -60,14 +60,15 @@ HaltsAreLast = (bytes : List ℕ) (tops : List Top) (rest : List ℕ) (halt : Ha
     → Good reading_limits tops → HasDataEnd tops ⊎ HaltsThere reading_limits tops rest halt
     → Kept reading_limits bytes tops
 
--- Some bytes that hold the magic keep these records, the first of others: all of them, up to the Data End; or those that
--- are whole in the bytes, where the next one is cut short.
+-- Some bytes that hold the magic keep these records, the first of others: all of them, up to the Data End; or those
+-- that are whole in the bytes, where the next one is cut short.
 pub record KeepsWhole (front : List ℕ) (tops : List Top) : Type 0 where
   pub whole : List Top
   pub others : List Top
   pub joined : tops ≡ whole ++ others
   pub halts : ((others ≡ []) × Halts reading_limits front whole (at_end (offset_behind whole)))
-      ⊎ ((length front < offset_behind tops) × Halts reading_limits front whole (grammar (offset_behind whole) rules.V4))
+      ⊎ ((length front < offset_behind tops)
+      × Halts reading_limits front whole (grammar (offset_behind whole) rules.V4))
 
 -- a front of bytes with good records up to the Data End keeps those of them that are whole in it
 abbrev pub FrontsKeepWhole : Type 0
@@ -134,8 +135,8 @@ BlocksAreOne = (ripe : List Rec → Bool) (history : List Rec) → Ripens ripe
     × ((blocks : List (List Rec)) → AreBlocks ripe (body_of history) blocks
     → blocks ≡ blocks_in (pieces_by ripe history))
 
--- its extras and its blocks stand in the order of their places, an extra at its own and a ripe block at that of its last
--- record; a last block that isn't ripe stands behind them
+-- its extras and its blocks stand in the order of their places, an extra at its own and a ripe block at that of its
+-- last record; a last block that isn't ripe stands behind them
 abbrev pub PiecesStandInTurn : Type 0
 PiecesStandInTurn = (ripe : List Rec → Bool) (history : List Rec) (place : ℕ) → Ripens ripe
     → StandInTurn ripe history (pieces_by ripe history) place
@@ -172,8 +173,8 @@ abbrev pub EntriesFit : List Rec → Type 0
 EntriesFit records = Each (λ channel. messages_on records channel < 2 ^ 28) (logged_channels records)
 
 -- Records and extras of which a file can be written: the ids agree, the extras, those among the records too, meet their
--- rules, and each number that the file holds fits its field. Offsets, lengths and counts of messages do where the length of
--- the file does.
+-- rules, and each number that the file holds fits its field. Offsets, lengths and counts of messages do where the length
+-- of the file does.
 pub record CanBeWritten (options : FileOptions) (extras : List Top) (history : List Rec) : Type 0 where
   pub profile : IsUtf8 options.profile
   pub profile_fits : length options.profile < 2 ^ 32
@@ -276,8 +277,8 @@ StopsLeavePrefixes = (pieces : List (List ℕ)) (place : ℕ) (stop : Stop) (tex
 
 -- ---- what indexes lead to
 
--- On a fully indexed file that is read to its Data End the summary leads, in a range, to just those messages of the scan
--- that lie in it, at the same places and with the same topics.
+-- On a fully indexed file that is read to its Data End the summary leads, in a range, to just those messages of the
+-- scan that lie in it, at the same places and with the same topics.
 abbrev pub IndexesLeadToTheScan : Type 0
 IndexesLeadToTheScan = (file : List ℕ) (tops : List Top) (end : ℕ) (messages : List Seen) (range : Range)
     → IsFullyIndexed file → Halts reading_limits file tops (at_end end) → Scan tops messages → (s : Seen)

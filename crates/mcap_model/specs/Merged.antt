@@ -9,10 +9,10 @@ use Rattle.rec_data.specs.declared.channel.ChannelDef.{ChannelDef}
 use Rattle.rec_data.specs.Owned.{def_fields}
 use Rattle.mcap_model.specs.Places.{At, Has, Each}
 use Rattle.mcap_model.specs.Tops.{Top, flat}
-use Rattle.mcap_model.specs.Fields.{SchemaFields, IsSchema, ChannelFields}
+use Rattle.mcap_model.specs.Fields.{IsSchema, ChannelFields}
 use Rattle.mcap_model.specs.Kept.{Halts, at_end, reading_limits}
 use Rattle.mcap_model.specs.Scan.{Seen, Scan, PlaceBefore}
-use Rattle.mcap_model.specs.History.{schema_of, channel_of, message_of, is_message, is_inner, Numbered}
+use Rattle.mcap_model.specs.History.{channel_of, message_of, is_message, is_inner, Numbered}
 use Rattle.mcap_model.specs.Written.{SourceShows, IsWrittenAs}
 use Rattle.mcap_model.specs.Repaired.{is_extra, ProfileIs}
 

@@ -19,11 +19,12 @@ abbrev pub back_of : FileOptions → List Top → List Rec → List ℕ
 back_of options extras history = data_end
     ++ tail_by options.chunk (noted options extras history) (length (section options extras history ++ data_end))
 
--- What is appended of a file at once: the magic and the Header; each block, and each record of the history that stands at
--- top level; each extra behind them; and the back.
+-- What is appended of a file at once: the magic and the Header; each block, and each record of the history that stands
+-- at top level; each extra behind them; and the back.
 abbrev pub file_pieces : FileOptions → List Top → List Rec → List (List ℕ)
 file_pieces options extras history = front options.profile
-    ∷ (map piece_bytes (pieces_of options.chunk options.span history) ++ (map top_bytes extras ++ back_of options extras history ∷ []))
+    ∷ (map piece_bytes (pieces_of options.chunk options.span history)
+    ++ (map top_bytes extras ++ back_of options extras history ∷ []))
 
 -- the whole pieces before a place
 abbrev pub pieces_before : List (List ℕ) → ℕ → List ℕ

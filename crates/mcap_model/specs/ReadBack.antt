@@ -1,4 +1,4 @@
--- Which extras a file may have, and that it is read back.
+-- Which records are read back as themselves, and which extras a file may have.
 use Rattle.std.specs.Prelude.{◌≡◌, ◌⊎◌, ◌≤◌, ℕ}
 use Rattle.rec_data.specs.Records.{attachment_opcode, metadata_opcode, application_opcode}
 use Rattle.rec_data.specs.declared.owned.Rec.{Rec}

@@ -23,8 +23,8 @@ use Rattle.mcap_model.specs.declared.rules.Rule.TheVariants as rules
 abbrev pub IsFirstOf : {X : Type 0} → List X → List X → Type 0
 IsFirstOf {X} some whole = (rest : List X) × (some ++ rest ≡ whole)
 
--- Of records that are a good list a file can be written as they are repaired, with a chunk size, where the numbers that a
--- writer counts are within their limits.
+-- Of records that are a good list a file can be written as they are repaired, with a chunk size, where the numbers that
+-- a writer counts are within their limits.
 abbrev pub RepairsCanBeWritten : Type 0
 RepairsCanBeWritten = (options : FileOptions) (tops extras : List Top) (history : List Rec) (size : ℕ)
     → Good reading_limits tops → Repairs tops options.profile extras history → options.chunk ≡ Some size → 0 < size
@@ -49,8 +49,8 @@ abbrev pub GoodRecordsAreKept : Type 0
 GoodRecordsAreKept = (bytes : List ℕ) (tops kept : List Top) (rest : List ℕ) → Tops bytes tops rest
     → Good reading_limits tops → Kept reading_limits bytes kept → IsFirstOf tops kept
 
--- A file is read to its Data End, and repairing makes of it what it was written of, without what declares an id again; the
--- extras of the history come before those behind it.
+-- A file is read to its Data End, and repairing makes of it what it was written of, without what declares an id again;
+-- the extras of the history come before those behind it.
 abbrev pub FilesAreRepaired : Type 0
 FilesAreRepaired = (options : FileOptions) (extras : List Top) (history : List Rec)
     → CanBeWritten options extras history → CanBeRead options extras history
@@ -73,10 +73,10 @@ bytes_with_records (alone r) = rec_bytes r
 abbrev pub offset_behind_piece : FileOptions → List Piece → Piece → ℕ
 offset_behind_piece options before p = length (front options.profile ++ (pieces_bytes before ++ bytes_with_records p))
 
--- What repairing makes of a first part of a file. Its whole records are the first ones of the file's up to the Data End, and
--- its reading halts behind them: at the Data End if that is there, and else because the bytes are cut short. It has the profile
--- if the Header is whole there; of the pieces those whose records are whole there, whether or not their Message Indexes are;
--- and of the extras those that are whole there.
+-- What repairing makes of a first part of a file. Its whole records are the first ones of the file's up to the Data End,
+-- and its reading halts behind them: at the Data End if that is there, and else because the bytes are cut short. It has
+-- the profile if the Header is whole there; of the pieces those whose records are whole there, whether or not their
+-- Message Indexes are; and of the extras behind the pieces those that are whole there.
 pub record FrontIsRepaired (options : FileOptions) (extras : List Top) (history : List Rec) (some : List ℕ)
     : Type 0 where
   pub whole : List Top
@@ -97,7 +97,8 @@ pub record FrontIsRepaired (options : FileOptions) (extras : List Top) (history 
   pub first_is : first ≡ without_repeats (body_of
       (flat_map piece_records (take piece_count (pieces_of options.chunk options.span history))))
   pub pieces_are : (n : ℕ) (p : Piece) → At (pieces_of options.chunk options.span history) n p
-      → (n < piece_count) ↔ (offset_behind_piece options (take n (pieces_of options.chunk options.span history)) p ≤ length some)
+      → (n < piece_count)
+      ↔ (offset_behind_piece options (take n (pieces_of options.chunk options.span history)) p ≤ length some)
   pub extra_count : ℕ
   pub kept_is : kept ≡ extras_in
       (flat_map piece_records (take piece_count (pieces_of options.chunk options.span history)))

@@ -17,8 +17,8 @@ abbrev pub ProfileIs : List Top → List ℕ → Type 0
 ProfileIs [] profile = profile ≡ []
 ProfileIs (t ∷ ts) profile = (header : IsHeader t) × (header.profile ≡ profile)
 
--- What repairing makes of records: a profile; the extras, their contents unchanged; and the Schemas, Channels and Messages
--- with their own ids, but for an id's further declarations.
+-- What repairing makes of records: a profile; the extras at top level, their contents unchanged; and the Schemas,
+-- Channels and Messages with their own ids, but for an id's further declarations.
 pub record Repairs (tops : List Top) (profile : List ℕ) (extras : List Top) (history : List Rec) : Type 0 where
   pub profile_is : ProfileIs tops profile
   pub extras_are : extras ≡ filter is_extra tops

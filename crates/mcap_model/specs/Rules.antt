@@ -31,7 +31,7 @@ abbrev pub HasDataEnd : List Top → Type 0
 HasDataEnd [] = ⊥
 HasDataEnd (t ∷ ts) = (t.op ≡ data_end_opcode) ⊎ HasDataEnd ts
 
--- An opcode from 16 on is unknown here and passed over: MCAP reserves those up to 127 and leaves the others to applications.
+-- The rules know no opcode from 16 on: MCAP reserves those up to 127, and leaves the others to applications.
 abbrev pub is_unknown : ℕ → Bool
 is_unknown op = nat_le 16 op
 

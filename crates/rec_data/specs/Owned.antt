@@ -31,14 +31,14 @@ rec_text (Extra op content) = content
 abbrev pub rec_bytes : Rec → List ℕ
 rec_bytes r = framed (rec_opcode r) (rec_text r)
 
--- What may stand beside Schemas, Channels and Messages: an Attachment or a Metadata, whose content meets its layout, or a
--- record of an application, whatever its content.
+-- What may stand beside Schemas, Channels and Messages: an Attachment or a Metadata, whose content meets its layout, or
+-- a record of an application, whatever its content.
 abbrev pub IsExtraContent : ℕ → List ℕ → Type 0
 IsExtraContent op content = ((op ≡ attachment_opcode) × (f : AttachmentFields) × ShowsAttachment content f)
     ⊎ (((op ≡ metadata_opcode) × (f : MetadataFields) × ShowsMetadata content f) ⊎ (application_opcode ≤ op))
 
--- Each number and length of the record fits its field, its texts are UTF-8 and the keys of its map differ. The content of
--- an extra meets its layout.
+-- Each number and length of the record fits its field, its texts are UTF-8 and the keys of its map differ. An Attachment's
+-- or a Metadata's content meets its layout.
 abbrev pub RecFits : Rec → Type 0
 RecFits (Schema id schema) = AllFit schema_kinds (schema_values id (def_fields schema))
 RecFits (Channel id schema topic encoding metadata) =

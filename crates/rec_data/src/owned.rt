@@ -18,8 +18,8 @@ use mcap_wire::{
 };
 use std::alloc::Global;
 
-/// A record of the data section that owns what it holds (MCAP specification, "Schema", "Channel", "Message"); or an extra, which is
-/// an Attachment, a Metadata or a record of an application (opcodes from 0x80 on), by its content.
+/// A record of the data section that owns what it holds (MCAP specification, "Schema", "Channel", "Message"); or an
+/// extra, which is an Attachment, a Metadata or a record of an application (opcodes from 0x80 on), by its content.
 #[derive(Debug, Drop)]
 pub enum Rec {
     Schema {
@@ -126,9 +126,9 @@ impl Rec {
         }
     }
 
-    /// Reads a record that the bytes are, no more and no less. Bytes after a Schema's or Channel's fields are dropped, those of an
-    /// extra stay. There is none exactly where the bytes aren't one framed Schema, Channel, Message or extra whose content meets
-    /// its layout.
+    /// Reads a record that the bytes are, no more and no less. Bytes after a Schema's or Channel's fields are dropped,
+    /// those of an extra stay. There is none exactly where the bytes aren't one framed Schema, Channel, Message or extra
+    /// whose content meets its layout.
     pub fn from_framed(alloc: Global, bytes: &[u8]) -> Result<Option<Rec>, Memory>
         ensures { FramedRead bytes.now result }
     {
