@@ -21,6 +21,7 @@ pub mod RuleNumbers
 pub mod Showing
 pub mod Valid
 pub mod WantsOfMemory
+pub mod RefusalKinds
 -- What the functions of this crate and its proofs say besides.
 pub mod Histories
 pub mod Readings

@@ -1,4 +1,7 @@
 //! Why a reading didn't go through.
+ghost use Rattle.std.specs.Prelude.{◌≡◌};
+ghost use Rattle.mcap_model.specs.RefusalKinds.{is_memory_refusal};
+
 use crate::rules::Rule;
 use mcap_wire::Text;
 
@@ -18,6 +21,21 @@ pub enum ReadingRefused {
     Limit { offset: u64 },
     /// Memory lacked.
     Memory,
+}
+
+impl ReadingRefused {
+    /// Whether memory lacked.
+    pub fn is_memory(&self) -> bool
+        ensures { result ≡ is_memory_refusal self.now }
+    {
+        match self {
+            ReadingRefused::Memory => true,
+            ReadingRefused::Fault { .. }
+            | ReadingRefused::Grammar { .. }
+            | ReadingRefused::Compressed { .. }
+            | ReadingRefused::Limit { .. } => false,
+        }
+    }
 }
 
 /// Why a file isn't indexed (MCAP specification, "Summary Section").
