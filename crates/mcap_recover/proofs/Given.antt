@@ -93,60 +93,6 @@ recs_ahead (p ∷ ps) meets =
 pub recs_one : (t : Top) → V6 t → (rs : List Rec) × AllZip IsRec (filter is_flat_kind (t ∷ [])) rs
 recs_one t v6 = rec_more t [] [] v6 tt
 
--- ---- Attachments and Metadata
-
--- neither stands in a chunk
-no_extra : (t : Top) → stands_in_chunk t.op ≡ true → is_extra t ≡ false
-no_extra t stands = by (is_extra t) refl
-  where
-    kind_of : (b : Top) → is_extra b ≡ true → (b.op ≡ 9) ⊎ (b.op ≡ 12)
-    kind_of b is = grind arith
-
-    none : (t.op ≡ 9) ⊎ (t.op ≡ 12) → ⊥
-    none (inl is) = false≢true (ap stands_in_chunk (sym is) ∙ stands)
-    none (inr is) = false≢true (ap stands_in_chunk (sym is) ∙ stands)
-
-    by : (b : Bool) → is_extra t ≡ b → b ≡ false
-    by true is = absurd (none (kind_of t is))
-    by false is = refl
-
-no_extras : (ps : List Placed) → Each (λ (p : Placed). stands_in_chunk p.top.op ≡ true) ps → filter is_extra (tops_at ps) ≡ []
-no_extras [] each = refl
-no_extras (p ∷ ps) each =
-    ap (λ (b : Bool). if b then p.top ∷ filter is_extra (tops_at ps) else filter is_extra (tops_at ps)) (no_extra p.top (each zero p refl))
-    ∙ no_extras ps (λ n q at. each (suc n) q at)
-
-record KeepsChunks (t : Top) : Type 0 where
-  v6 : V6 t
-  v8 : V8 t
-  plain : (name : List ℕ) → NamesCompression t name → ⊥
-
-one_extras : (at : ℕ) (t : Top) → KeepsChunks t → filter is_extra (tops_at (walked_one at t)) ≡ filter is_extra (t ∷ [])
-one_extras at t keeps = ap (λ (l : List Top). if is_extra t then t ∷ l else l) (by (is_chunk t) refl)
-  where
-    by : (b : Bool) → is_chunk t ≡ b → filter is_extra (tops_at (if b then placed_inside at 0 (inner_tops t) else [])) ≡ []
-    by true is =
-        let shown = let v6 = keeps.v6 in v6.chunk (eqb-true t.op 6 is) in
-        let f = shown.0 in
-        let right = let v8 = keeps.v8 in v8 f shown.1 (named_or t f f.compression shown.1 refl keeps.plain) in
-        let same : records_in f.records ≡ inner_tops t = ap records_in (sym (chunks_are_opened t f shown.1)) in
-        let kinds : Each (λ (u : Top). stands_in_chunk u.op ≡ true) (inner_tops t) = subst (Each (λ (u : Top). stands_in_chunk u.op ≡ true)) same right.kinds in
-        no_extras (placed_inside at 0 (inner_tops t)) (λ j p here. kinds j p.top (inside_back at 0 (inner_tops t) j p here).0)
-    by false is = refl
-
-from_extras : (at : ℕ) (tops : List Top) → Each KeepsChunks tops → filter is_extra (tops_at (walked_from at tops)) ≡ filter is_extra tops
-from_extras at [] each = refl
-from_extras at (t ∷ ts) each =
-    let next = at + length (top_bytes t) in
-    ap (filter is_extra) (tops_joined (walked_one at t) (walked_from next ts))
-    ∙ filter-append is_extra (tops_at (walked_one at t)) (tops_at (walked_from next ts))
-    ∙ ap (λ (l : List Top). l ++ filter is_extra (tops_at (walked_from next ts))) (one_extras at t (each zero t refl))
-    ∙ ap (λ (l : List Top). filter is_extra (t ∷ []) ++ l) (from_extras next ts (λ n u here. each (suc n) u here))
-    ∙ sym (filter-append is_extra (t ∷ []) ts)
-
-pub extras_walked : (tops : List Top) → Good reading_limits tops → filter is_extra (tops_at (walked tops)) ≡ filter is_extra tops
-extras_walked tops good = from_extras 8 tops (λ n t here. let fits = good n t here in record { v6 = fits.v6; v8 = fits.v8; plain = fits.plain })
-
 -- ---- the profile
 
 profile_front : (us more : List Top) (profile : List ℕ) → (us ≡ [] → ⊥) → ProfileIs us profile → ProfileIs (us ++ more) profile
@@ -168,21 +114,21 @@ profile_given tops given ahead profile all some is =
 given_more : (given : List Placed) (p : Placed) → tops_at (given ++ p ∷ []) ≡ tops_at given ++ p.top ∷ []
 given_more given p = tops_joined given (p ∷ [])
 
-pub repairs_more : (given : List Placed) (p : Placed) (profile : List ℕ) (extras : List Top) (history rs : List Rec) → (given ≡ [] → ⊥) → RepairsGiven given profile extras history → AllZip IsRec (filter is_flat_kind (p.top ∷ [])) rs
-    → RepairsGiven (given ++ p ∷ []) profile (extras ++ filter is_extra (p.top ∷ [])) (fold kept_with history rs)
-repairs_more given p profile extras history rs some was zip = record {
+pub repairs_more : (tops more : List Top) (given : List Placed) (p : Placed) (profile : List ℕ) (extras others : List Top) (history rs : List Rec) → (given ≡ [] → ⊥) → RepairsGiven tops given profile extras history → others ≡ filter is_extra more
+    → AllZip IsRec (filter is_flat_kind (p.top ∷ [])) rs → RepairsGiven (tops ++ more) (given ++ p ∷ []) profile (extras ++ others) (fold kept_with history rs)
+repairs_more tops more given p profile extras others history rs some was are zip = record {
   profile_is = subst (λ (l : List Top). ProfileIs l profile) (sym (given_more given p)) (profile_front (tops_at given) (p.top ∷ []) profile (λ none. some (tops_none given none)) was.profile_is);
-  extras_are = ap (λ (l : List Top). l ++ filter is_extra (p.top ∷ [])) was.extras_are ∙ sym (filter-append is_extra (tops_at given) (p.top ∷ [])) ∙ ap (filter is_extra) (sym (given_more given p));
+  extras_are = ap (λ (l : List Top). l ++ others) was.extras_are ∙ ap (λ (l : List Top). filter is_extra tops ++ l) are ∙ sym (filter-append is_extra tops more);
   flattened = was.flattened ++ rs;
   are_flattened = subst (λ (l : List Top). AllZip IsRec l (was.flattened ++ rs)) (sym (filter-append is_flat_kind (tops_at given) (p.top ∷ [])) ∙ ap (filter is_flat_kind) (sym (given_more given p)))
       (zip_join IsRec (filter is_flat_kind (tops_at given)) (filter is_flat_kind (p.top ∷ [])) was.flattened rs was.are_flattened zip);
   history_is = ap (λ (l : List Rec). fold kept_with l rs) was.history_is ∙ sym (fold_more [] was.flattened rs);
 }
 
-pub repairs_whole : (tops : List Top) (given : List Placed) (profile : List ℕ) (extras : List Top) (history : List Rec) → given ≡ walked tops → Good reading_limits tops → RepairsGiven given profile extras history → Repairs tops profile extras history
-repairs_whole tops given profile extras history whole good was = record {
+pub repairs_whole : (tops : List Top) (given : List Placed) (profile : List ℕ) (extras : List Top) (history : List Rec) → given ≡ walked tops → RepairsGiven tops given profile extras history → Repairs tops profile extras history
+repairs_whole tops given profile extras history whole was = record {
   profile_is = profile_walked tops profile (subst (λ (l : List Placed). ProfileIs (tops_at l) profile) whole was.profile_is);
-  extras_are = was.extras_are ∙ ap (λ (l : List Placed). filter is_extra (tops_at l)) whole ∙ extras_walked tops good;
+  extras_are = was.extras_are;
   flattened = was.flattened;
   are_flattened = subst (λ (l : List Top). AllZip IsRec l was.flattened) (ap (λ (l : List Placed). filter is_flat_kind (tops_at l)) whole ∙ flat_walked tops) was.are_flattened;
   history_is = was.history_is;

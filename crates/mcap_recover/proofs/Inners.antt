@@ -1,17 +1,17 @@
 -- What the bytes of a record frame, and the walk over the records of a chunk.
-use Rattle.std.proofs.Common.{◌≡◌, ◌⊎◌, ℕ, ◌+◌, ◌≤◌, Bool, true, false, List, [], ◌∷◌, ◌++◌, length, take, drop, refl, sym, ap, subst, inl, inr, ◌∙◌, append_assoc, arith}
+use Rattle.std.proofs.Common.{◌≡◌, ◌⊎◌, ℕ, ◌+◌, ◌≤◌, Bool, true, false, List, [], ◌∷◌, ◌++◌, length, take, drop, Option, Some, None, refl, sym, ap, subst, inl, inr, ◌∙◌, append_assoc, arith}
 use Rattle.std.specs.Prelude.{filter, if◌then◌else◌}
 use Rattle.std.specs.List.{AllZip, list_any}
 use Rattle.std.proofs.lemmas.List.{append-nil, length-append, drop_at, take_at}
 use Rattle.mcap_wire.proofs.Framing.{length-framed}
 use Rattle.std.proofs.lemmas.List.Elements.{filter-append}
-use Rattle.std.proofs.lemmas.Bool.{ne_eqb}
+use Rattle.std.proofs.lemmas.Bool.{ne_eqb, false≢true}
 use Rattle.std.proofs.lemmas.Grind.{flat_map-append}
 use Rattle.mcap_wire.specs.Layout.{framed}
 use Rattle.rec_data.specs.declared.owned.Rec.{Rec}
-use Rattle.rec_data.specs.declared.owned.Rec.TheVariants.{Schema, Channel, Message}
+use Rattle.rec_data.specs.declared.owned.Rec.TheVariants.{Schema, Channel, Message, Extra}
 use Rattle.rec_data.specs.Owned.{rec_bytes, def_fields}
-use Rattle.rec_data.proofs.OwnedReading.{rec_shown}
+use Rattle.rec_data.proofs.OwnedReading.{rec_shown, extra_not}
 use Rattle.rec_data.specs.Records.{ShowsMessage, ShowsSchema, ShowsChannel, schema_text, channel_text}
 use Rattle.mcap_io.specs.Outside.{LiveState}
 use Rattle.mcap_model.specs.declared.inner.Inner.{Inner}
@@ -31,7 +31,8 @@ use Rattle.chunk_build.specs.Chunker.{AreFramed}
 use Rattle.mcap_recover.specs.declared.keeping.Keeping.{Keeping}
 use Rattle.chunk_writer.specs.declared.phase.Phase.TheVariants as phases
 use Rattle.chunk_writer.specs.Scribes.{ScribeGrows, phase_of}
-use Rattle.mcap_recover.specs.Keeping.{is_declared, declared_with, counted, CountsSo, AddsFlatRecords, AddsOneRecord, AddsRecords}
+use Rattle.mcap_recover.specs.Keeping.{is_declared, declared_with, counted, CountsSo, extras_of, AddsFlatRecords, AddsOneRecord, AddsRecords}
+use denote.Ref.{Bor}
 use Rattle.mcap_recover.proofs.Keepings.{going_apart, schema_known, channel_known, message_known, adds_put, adds_left, takes_by, schema_counts, channel_counts, message_counts}
 
 pub message_framed : (bytes content : List ℕ) (channel : ℕ) (m : MessageFields) → bytes ≡ framed 5 content → ShowsMessage content channel m → AreFramed bytes (message_of channel m)
@@ -51,16 +52,19 @@ pub shown_no_message : (content : List ℕ) → ((channel : ℕ) (m : MessageFie
 shown_no_message content none (Schema id schema) is = omega (arith, is.0)
 shown_no_message content none (Channel id schema topic encoding metadata) is = omega (arith, is.0)
 shown_no_message content none (Message channel sequence log_time publish_time payload) is = none channel (record { sequence = sequence; log_time = log_time; publish_time = publish_time; payload = payload }) is.1
+shown_no_message content none (Extra op bytes) is = extra_not op bytes 5 is.2 (omega arith) (sym is.0)
 
 pub shown_no_schema : (content : List ℕ) → ((id : ℕ) (f : SchemaFields) → ShowsSchema content id f → ⊥) → (r : Rec) → IsRec (top 3 content) r → ⊥
 shown_no_schema content none (Schema id schema) is = none id (def_fields schema) is.1
 shown_no_schema content none (Channel id schema topic encoding metadata) is = omega (arith, is.0)
 shown_no_schema content none (Message channel sequence log_time publish_time payload) is = omega (arith, is.0)
+shown_no_schema content none (Extra op bytes) is = extra_not op bytes 3 is.2 (omega arith) (sym is.0)
 
 pub shown_no_channel : (content : List ℕ) → ((id : ℕ) (f : ChannelFields) → ShowsChannel content id f → ⊥) → (r : Rec) → IsRec (top 4 content) r → ⊥
 shown_no_channel content none (Schema id schema) is = omega (arith, is.0)
 shown_no_channel content none (Channel id schema topic encoding metadata) is = none id (record { schema = schema; topic = topic; encoding = encoding; metadata = metadata }) is.1
 shown_no_channel content none (Message channel sequence log_time publish_time payload) is = omega (arith, is.0)
+shown_no_channel content none (Extra op bytes) is = extra_not op bytes 4 is.2 (omega arith) (sym is.0)
 
 -- ---- messages
 
@@ -77,6 +81,7 @@ pub message_lacks : {L : Type 0} (seen : L → LiveState) (old new : Keeping L) 
 message_lacks seen old new content stop going stopped grows [] zip = absurd zip
 message_lacks seen old new content stop going stopped grows (Schema id schema ∷ rs) zip = absurd (omega (arith, zip.0.0))
 message_lacks seen old new content stop going stopped grows (Channel id schema topic encoding metadata ∷ rs) zip = absurd (omega (arith, zip.0.0))
+message_lacks seen old new content stop going stopped grows (Extra op bytes ∷ rs) zip = absurd (extra_not op bytes 5 zip.0.2 (omega arith) (sym zip.0.0))
 message_lacks seen old new content stop going stopped grows (Message channel sequence log_time publish_time payload ∷ []) zip =
     let m : MessageFields = record { sequence = sequence; log_time = log_time; publish_time = publish_time; payload = payload } in
     adds_put seen old new (message_of channel m) going (λ extras history c. message_known channel m history) (grows (message_of channel m))
@@ -141,39 +146,44 @@ channel_left seen old new content id f shown going known same channels schemas m
 
 -- ---- one record
 
-pub extra_of : (op : ℕ) (content : List ℕ) → V6 (top op content) → V10 (top op content) → (op ≡ 9) ⊎ (op ≡ 12) → IsExtra (top op content)
-extra_of op content v6 v10 kind = record { kind = kind; v6 = v6; v10 = v10 }
-
-pub one_taken : {L : Type 0} (seen : L → LiveState) (old new : Keeping L) (op : ℕ) (content : List ℕ) → ((op ≡ 3) ⊎ ((op ≡ 4) ⊎ (op ≡ 5))) → AddsFlatRecords seen old new (top op content ∷ []) → AddsOneRecord seen old new (top op content)
-one_taken seen old new op content (inl is) takes = subst (λ (n : ℕ). AddsFlatRecords seen old new (top n content ∷ []) → AddsOneRecord seen old new (top n content)) (sym is) (λ it. it) takes
-one_taken seen old new op content (inr (inl is)) takes = subst (λ (n : ℕ). AddsFlatRecords seen old new (top n content ∷ []) → AddsOneRecord seen old new (top n content)) (sym is) (λ it. it) takes
-one_taken seen old new op content (inr (inr is)) takes = subst (λ (n : ℕ). AddsFlatRecords seen old new (top n content ∷ []) → AddsOneRecord seen old new (top n content)) (sym is) (λ it. it) takes
-
-pub one_taken_at : {L : Type 0} (seen : L → LiveState) (old new : Keeping L) (op n : ℕ) (content : List ℕ) → ((op ≡ 3) ⊎ ((op ≡ 4) ⊎ (op ≡ 5))) → op ≡ n → AddsFlatRecords seen old new (top n content ∷ []) → AddsOneRecord seen old new (top op content)
-one_taken_at seen old new op n content kind is takes = one_taken seen old new op content kind (subst (λ (k : ℕ). AddsFlatRecords seen old new (top k content ∷ [])) (sym is) takes)
+-- a Schema, a Channel or a Message shows what it is taken for, and is no extra
+pub one_taken : {L : Type 0} (seen : L → LiveState) (old new : Keeping L) (frame : Option (Bor (List ℕ))) (op n : ℕ) (content : List ℕ) → op ≡ n → filter is_flat_kind (top n content ∷ []) ≡ top n content ∷ [] → filter is_extra (top n content ∷ []) ≡ []
+    → AddsFlatRecords seen old new (top n content ∷ []) → AddsOneRecord seen old new frame (top op content)
+one_taken seen old new frame op n content is flat none takes =
+    subst (λ (k : ℕ). AddsOneRecord seen old new frame (top k content)) (sym is)
+    (λ records zip. subst (λ (l : List Top). AddsRecords seen old new l records) (sym (silent frame)) (takes records (subst (λ (l : List Top). AllZip IsRec l records) flat zip)))
+  where
+    silent : (f : Option (Bor (List ℕ))) → extras_of f (top n content) ≡ []
+    silent None = none
+    silent (Some bytes) = refl
 
 none_left : (records : List Rec) → AllZip IsRec [] records → records ≡ []
 none_left [] zip = refl
 none_left (r ∷ rs) zip = absurd zip
 
-pub extra_taken : {L : Type 0} (seen : L → LiveState) (old new : Keeping L) (op : ℕ) (content : List ℕ) → ((op ≡ 9) ⊎ (op ≡ 12)) → AddsRecords seen old new (top op content ∷ []) [] → AddsOneRecord seen old new (top op content)
-extra_taken seen old new op content (inl is) adds =
-    subst (λ (n : ℕ). AddsRecords seen old new (top n content ∷ []) [] → AddsOneRecord seen old new (top n content)) (sym is) (λ it records zip. subst (λ (l : List Rec). AddsRecords seen old new (top 9 content ∷ []) l) (sym (none_left records zip)) it) adds
-extra_taken seen old new op content (inr is) adds =
-    subst (λ (n : ℕ). AddsRecords seen old new (top n content ∷ []) [] → AddsOneRecord seen old new (top n content)) (sym is) (λ it records zip. subst (λ (l : List Rec). AddsRecords seen old new (top 12 content ∷ []) l) (sym (none_left records zip)) it) adds
-
--- no other kind shows or is anything that is kept
-pub other_taken : {L : Type 0} (seen : L → LiveState) (old : Keeping L) (op : ℕ) (content : List ℕ) → (op ≡ 3 → ⊥) → (op ≡ 4 → ⊥) → (op ≡ 5 → ⊥) → (op ≡ 9 → ⊥) → (op ≡ 12 → ⊥)
-    → AddsRecords seen old old [] [] → AddsOneRecord seen old old (top op content)
-other_taken seen old op content no3 no4 no5 no9 no12 none records zip =
+-- no other kind shows anything that is kept
+other_none : (op : ℕ) (content : List ℕ) (records : List Rec) → (op ≡ 3 → ⊥) → (op ≡ 4 → ⊥) → (op ≡ 5 → ⊥) → AllZip IsRec (filter is_flat_kind (top op content ∷ [])) records → records ≡ []
+other_none op content records no3 no4 no5 zip =
     let t = top op content in
     let empty : filter is_flat_kind (t ∷ []) ≡ [] = ap (λ (b : Bool). if b then t ∷ [] else []) (flat_not op content no3 no4 no5) in
-    let silent : filter is_extra (t ∷ []) ≡ [] = ap (λ (b : Bool). if b then t ∷ [] else []) (extra_not op content no9 no12) in
-    subst (λ (l : List Top). AddsRecords seen old old l records) (sym silent)
-    (subst (λ (l : List Rec). AddsRecords seen old old [] l) (sym (none_left records (subst (λ (l : List Top). AllZip IsRec l records) empty zip))) none)
+    none_left records (subst (λ (l : List Top). AllZip IsRec l records) empty zip)
   where
     flat_not : (n : ℕ) (c : List ℕ) → (n ≡ 3 → ⊥) → (n ≡ 4 → ⊥) → (n ≡ 5 → ⊥) → is_flat_kind (top n c) ≡ false
     flat_not n c a b d = let x = ne_eqb 3 n (λ e. a (sym e)) in let y = ne_eqb 4 n (λ e. b (sym e)) in let z = ne_eqb 5 n (λ e. d (sym e)) in cc
 
-    extra_not : (n : ℕ) (c : List ℕ) → (n ≡ 9 → ⊥) → (n ≡ 12 → ⊥) → is_extra (top n c) ≡ false
-    extra_not n c a b = let x = ne_eqb n 9 a in let y = ne_eqb n 12 b in cc
+-- of another record these are kept, which it is as an extra
+pub other_taken : {L : Type 0} (seen : L → LiveState) (old new : Keeping L) (frame : Option (Bor (List ℕ))) (op : ℕ) (content : List ℕ) (kept : List Top) → (op ≡ 3 → ⊥) → (op ≡ 4 → ⊥) → (op ≡ 5 → ⊥)
+    → kept ≡ extras_of frame (top op content) → AddsRecords seen old new kept [] → AddsOneRecord seen old new frame (top op content)
+other_taken seen old new frame op content kept no3 no4 no5 is adds records zip =
+    subst (λ (l : List Top). AddsRecords seen old new l records) is
+    (subst (λ (l : List Rec). AddsRecords seen old new kept l) (sym (other_none op content records no3 no4 no5 zip)) adds)
+
+-- an extra at top level is kept
+pub extra_taken : {L : Type 0} (seen : L → LiveState) (old new : Keeping L) (frame : Option (Bor (List ℕ))) (op : ℕ) (content : List ℕ) → is_extra (top op content) ≡ true → extras_of frame (top op content) ≡ filter is_extra (top op content ∷ [])
+    → AddsRecords seen old new (top op content ∷ []) [] → AddsOneRecord seen old new frame (top op content)
+extra_taken seen old new frame op content is there adds =
+    let t = top op content in
+    other_taken seen old new frame op content (t ∷ []) (other 3 refl) (other 4 refl) (other 5 refl) (sym (there ∙ ap (λ (b : Bool). if b then t ∷ [] else []) is)) adds
+  where
+    other : (n : ℕ) → is_extra (top n content) ≡ false → op ≡ n → ⊥
+    other n none same = false≢true (sym none ∙ ap (λ (k : ℕ). is_extra (top k content)) (sym same) ∙ is)

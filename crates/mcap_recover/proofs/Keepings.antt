@@ -5,7 +5,7 @@ use Rattle.std.specs.List.{AllZip, list_any}
 use Rattle.std.proofs.lemmas.List.{append-nil, map-append, length-append}
 use Rattle.std.proofs.lemmas.List.Elements.{filter-append}
 use Rattle.rec_data.specs.declared.owned.Rec.{Rec}
-use Rattle.rec_data.specs.declared.owned.Rec.TheVariants.{Schema, Channel, Message}
+use Rattle.rec_data.specs.declared.owned.Rec.TheVariants.{Schema, Channel, Message, Extra}
 use Rattle.rec_data.proofs.OwnedReading.{shown_once}
 use Rattle.mcap_io.specs.Outside.{LiveState}
 use Rattle.mcap_model.specs.declared.ends.Stop.{Stop}
@@ -46,18 +46,21 @@ schema_known id f [] = refl
 schema_known id f (Schema other s ∷ rs) = ap (λ (b : Bool). eqb id other || b) (schema_known id f rs)
 schema_known id f (Channel other s topic encoding metadata ∷ rs) = schema_known id f rs
 schema_known id f (Message channel sequence log_time publish_time payload ∷ rs) = schema_known id f rs
+schema_known id f (Extra op content ∷ rs) = schema_known id f rs
 
 pub channel_known : (id : ℕ) (f : ChannelFields) (history : List Rec) → list_any (declare_same (channel_of id f)) history ≡ is_declared (map record_id (filter is_channel history)) id
 channel_known id f [] = refl
 channel_known id f (Schema other s ∷ rs) = channel_known id f rs
 channel_known id f (Channel other s topic encoding metadata ∷ rs) = ap (λ (b : Bool). eqb id other || b) (channel_known id f rs)
 channel_known id f (Message channel sequence log_time publish_time payload ∷ rs) = channel_known id f rs
+channel_known id f (Extra op content ∷ rs) = channel_known id f rs
 
 pub message_known : (channel : ℕ) (m : MessageFields) (history : List Rec) → list_any (declare_same (message_of channel m)) history ≡ false
 message_known channel m [] = refl
 message_known channel m (Schema other s ∷ rs) = message_known channel m rs
 message_known channel m (Channel other s topic encoding metadata ∷ rs) = message_known channel m rs
 message_known channel m (Message other sequence log_time publish_time payload ∷ rs) = message_known channel m rs
+message_known channel m (Extra op content ∷ rs) = message_known channel m rs
 
 -- ---- one record
 

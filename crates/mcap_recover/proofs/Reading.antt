@@ -1,5 +1,5 @@
 -- What is kept with a record of a source more.
-use Rattle.std.proofs.Common.{◌≡◌, ◌⊎◌, ℕ, zero, suc, ◌+◌, ◌≤◌, Bool, true, false, ◌||◌, List, [], ◌∷◌, ◌++◌, length, map, Option, Some, None, Result, Ok, Err, refl, sym, ap, subst, inl, inr, ◌∙◌, append_assoc, append-nil, arith}
+use Rattle.std.proofs.Common.{◌≡◌, ◌⊎◌, ℕ, zero, suc, ◌+◌, ◌-◌, ◌≤◌, Bool, true, false, ◌||◌, List, [], ◌∷◌, ◌++◌, length, map, Option, Some, None, Result, Ok, Err, refl, sym, ap, subst, inl, inr, ◌∙◌, append_assoc, append-nil, arith}
 use Rattle.std.specs.Prelude.{filter, fold, nat_lt, if◌then◌else◌}
 use Rattle.std.specs.List.{AllZip, flat_map}
 use Rattle.std.proofs.lemmas.Bool.{both_ways, ltb-false}
@@ -7,7 +7,7 @@ use Rattle.std.proofs.lemmas.List.{length-append, map-append}
 use Rattle.std.proofs.lemmas.List.Elements.{filter-append}
 use Rattle.std.proofs.lemmas.Grind.{flat_map-append}
 use Rattle.mcap_wire.proofs.Framing.{length-framed, length-string}
-use Rattle.mcap_wire.specs.Layout.{string, framed, magic}
+use Rattle.mcap_wire.specs.Layout.{string, framed, magic, part}
 use Rattle.rec_data.specs.declared.owned.Rec.{Rec}
 use Rattle.rec_data.specs.Fields.{HeaderFields}
 use Rattle.rec_data.specs.Records.{ShowsHeader}
@@ -33,17 +33,17 @@ use Rattle.mcap_scan.specs.declared.reader.Stage.TheVariants as stages
 use Rattle.mcap_scan.specs.declared.reader.Stage.{Stage}
 use Rattle.mcap_model.specs.declared.refusals.ReadingRefused.{ReadingRefused}
 use Rattle.mcap_model.specs.declared.refusals.ReadingRefused.TheVariants as scans
-use Rattle.mcap_scan.specs.Scanning.{Stands, StageStands, IsOver, IsGoing, Refuses}
+use Rattle.mcap_scan.specs.Scanning.{content_of, Stands, StageStands, IsOver, IsGoing, Refuses}
 use Rattle.mcap_scan.specs.RefusedReadings.{RefusalStands}
 use Rattle.mcap_scan.proofs.Scanning.{good_stand, lacks_behind}
 use Rattle.chunk_writer.specs.Scribes.{phase_of}
 use Rattle.chunk_writer.specs.declared.phase.Phase.TheVariants as phases
 use Rattle.mcap_recover.specs.declared.keeping.Keeping.{Keeping}
-use Rattle.mcap_recover.specs.Keeping.{KeepingStandsFor, AddsOneRecord, IsFrame, tops_at}
+use Rattle.mcap_recover.specs.Keeping.{KeepingStandsFor, extras_of, AddsOneRecord, IsFrame, tops_at}
 use Rattle.mcap_recover.specs.declared.recovering.Over.TheVariants as overs
 use Rattle.mcap_recover.specs.Readings.{FirstShows, RepairsGiven, Repairing, KeptOf, origin, ReadingCameToEnd as ReadingIsOver, IsStopped, OverSo, BeginsFile, UnbegunSo, BeginsReading, StartsSo, StartsUntold, HaltsStart, KeepsNone}
 use Rattle.mcap_recover.specs.Recovering.{lacks, HasMagic}
-use Rattle.mcap_recover.proofs.Given.{flat_given, extras_walked, repairs_whole, profile_given, given_none, tops_some, recs_ahead, recs_one, repairs_more, not_none}
+use Rattle.mcap_recover.proofs.Given.{flat_given, repairs_whole, profile_given, given_none, tops_some, recs_ahead, recs_one, repairs_more, not_none}
 use Rattle.mcap_recover.proofs.Keepings.{stopped_more}
 use Rattle.record_walk.specs.declared.flat_reader.FlatReader.{FlatReader}
 use Rattle.record_walk.specs.Walking.{flat_content, flat_frame, IsHeldFrame, ahead_of, placed_at, FlatStands, FlatGives, FlatFinds, FlatRefuses, IsFlatDone}
@@ -111,10 +111,24 @@ pub frame_held : (flat : FlatReader) (op : ℕ) (content : List ℕ) (frame : Op
 frame_held flat op content None same held each = tt
 frame_held flat op content (Some bytes) same held each = each bytes.now held ∙ ap (framed op) (sym same)
 
+-- an extra is kept exactly where it was read by this step
+kept_of : (flat : FlatReader) (frame : Option (Bor (List ℕ))) (more : List Top) (t : Top) → IsHeldFrame flat frame → (flat.inside ≡ true → more ≡ []) → (flat.inside ≡ false → more ≡ t ∷ []) → extras_of frame t ≡ filter is_extra more
+kept_of flat frame more t held within alone = by flat.inside refl frame held
+  where
+    lent : Bool → Option (List ℕ)
+    lent b = if b then Some (part (flat.lo - 9) flat.hi (content_of flat.reader)) else None
+
+    by : (b : Bool) → flat.inside ≡ b → (f : Option (Bor (List ℕ))) → IsHeldFrame flat f → extras_of f t ≡ filter is_extra more
+    by true inside (Some bytes) is = ap (filter is_extra) (sym (within inside))
+    by true inside None is = let none : lent true ≡ None = sym (ap lent inside) ∙ is in absurd (cc)
+    by false inside None is = ap (filter is_extra) (sym (alone inside))
+    by false inside (Some bytes) is = let some : lent false ≡ Some bytes.now = sym (ap lent inside) ∙ is in absurd (cc)
+
 -- one record more was read, and kept
-pub repairing_on : {L : Type 0} (seen : L → LiveState) (options : FileOptions) (before mid now : SourceState) (opened : LiveState) (flat next : FlatReader) (k after : Keeping L) (op : ℕ) (place : Place)
-    → (was : Repairing seen options before mid opened flat k) → (IsFlatDone flat → ⊥) → FlatGives next before now was.tops was.given op place → AddsOneRecord seen k after (top op (flat_content next)) → Repairing seen options before now opened next after
-repairing_on seen options before mid now opened flat next k after op place was undone gives takes =
+pub repairing_on : {L : Type 0} (seen : L → LiveState) (options : FileOptions) (before mid now : SourceState) (opened : LiveState) (flat next : FlatReader) (k after : Keeping L) (op : ℕ) (place : Place) (frame : Option (Bor (List ℕ)))
+    → (was : Repairing seen options before mid opened flat k) → (IsFlatDone flat → ⊥) → FlatGives next before now was.tops was.given op place → IsHeldFrame next frame → AddsOneRecord seen k after frame (top op (flat_content next))
+    → Repairing seen options before now opened next after
+repairing_on seen options before mid now opened flat next k after op place frame was undone gives held takes =
     let t = top op (flat_content next) in
     let p = placed_at place op (flat_content next) in
     let stands = gives.stands in
@@ -129,9 +143,10 @@ repairing_on seen options before mid now opened flat next k after op place was u
       read = λ bytes told. let (rest, left, there) = read_stand next.reader before now gives.tops gives.going stands.stands some bytes told in inr (rest, there);
       magic = was.magic;
       begun = λ none. absurd (not_none was.given p none);
-      extras = was.extras ++ filter is_extra (t ∷ []);
+      extras = was.extras ++ extras_of frame t;
       history = fold kept_with was.history rs;
-      repairs = repairs_more was.given p options.profile was.extras was.history rs (λ none. undone (was.begun none).0) was.repairs zip;
+      repairs = subst (λ (l : List Top). RepairsGiven l (was.given ++ p ∷ []) options.profile (was.extras ++ extras_of frame t) (fold kept_with was.history rs)) (sym gives.grown)
+          (repairs_more was.tops gives.more was.given p options.profile was.extras (extras_of frame t) was.history rs (λ none. undone (was.begun none).0) was.repairs (kept_of next frame gives.more t held gives.within gives.alone) zip);
       keeps = takes rs zip options was.extras opened was.history was.keeps;
     }
 
@@ -140,13 +155,13 @@ ended_some [] ended none = ended
 ended_some (t ∷ ts) ended none = cc
 
 -- it was read, and the writer stopped at what it shows: it stands for the records of the chunk too that weren't given
-pub stopped_on_it : {L : Type 0} (seen : L → LiveState) (options : FileOptions) (before mid now : SourceState) (opened : LiveState) (flat next : FlatReader) (k after : Keeping L) (op : ℕ) (place : Place) (stop : Stop)
-    → (was : Repairing seen options before mid opened flat k) → (IsFlatDone flat → ⊥) → FlatGives next before now was.tops was.given op place → AddsOneRecord seen k after (top op (flat_content next)) → phase_of after.scribe ≡ phases.Stopped stop
-    → IsStopped seen options before now opened after stop
+pub stopped_on_it : {L : Type 0} (seen : L → LiveState) (options : FileOptions) (before mid now : SourceState) (opened : LiveState) (flat next : FlatReader) (k after : Keeping L) (op : ℕ) (place : Place) (frame : Option (Bor (List ℕ))) (stop : Stop)
+    → (was : Repairing seen options before mid opened flat k) → (IsFlatDone flat → ⊥) → FlatGives next before now was.tops was.given op place → IsHeldFrame next frame → AddsOneRecord seen k after frame (top op (flat_content next))
+    → phase_of after.scribe ≡ phases.Stopped stop → IsStopped seen options before now opened after stop
 unfolding repairing_on
-stopped_on_it seen options before mid now opened flat next k after op place stop was undone gives takes stopped =
+stopped_on_it seen options before mid now opened flat next k after op place frame stop was undone gives held takes stopped =
     let p = placed_at place op (flat_content next) in
-    let later = repairing_on seen options before mid now opened flat next k after op place was undone gives takes in
+    let later = repairing_on seen options before mid now opened flat next k after op place frame was undone gives held takes in
     let given = was.given ++ p ∷ [] in
     let ahead = ahead_of next in
     let stands = gives.stands in
@@ -191,7 +206,7 @@ ended_over seen options before mid now opened flat next k offset was finds =
         begun = λ none. absurd (ended_some finds.tops is.ended none);
         extras = was.extras;
         history = was.history;
-        repairs = repairs_whole finds.tops was.given options.profile was.extras was.history finds.whole is.good was.repairs;
+        repairs = repairs_whole finds.tops was.given options.profile was.extras was.history finds.whole (subst (λ (l : List Top). RepairsGiven l was.given options.profile was.extras was.history) (sym finds.same) was.repairs);
         keeps = was.keeps;
       };
       over_so = end.halts;
@@ -213,7 +228,7 @@ refused_over seen options before mid now opened flat next k was refuses =
         begun = λ none. (was.begun (given_none was.tops was.given (ahead_of flat) stands.all none)).2;
         extras = was.extras;
         history = was.history;
-        repairs = repairs_whole was.tops was.given options.profile was.extras was.history (refuses.whole ∙ ap walked same) was.good was.repairs;
+        repairs = repairs_whole was.tops was.given options.profile was.extras was.history (refuses.whole ∙ ap walked same) was.repairs;
         keeps = was.keeps;
       };
       over_so = (it.why, it.stage, subst (λ (l : List Top). RefusalStands it.why before now l) same it.stands);
@@ -239,10 +254,10 @@ header_repairs t header = record {
   history_is = refl;
 }
 
-header_given : (p : Placed) (header : IsHeader p.top) → RepairsGiven (p ∷ []) header.profile [] []
-header_given p header = let t = p.top in record {
+header_given : (tops : List Top) (p : Placed) (header : IsHeader p.top) → tops ≡ p.top ∷ [] → RepairsGiven tops (p ∷ []) header.profile [] []
+header_given tops p header are = let t = p.top in record {
   profile_is = (header, refl);
-  extras_are = subst (λ (n : ℕ). [] ≡ filter is_extra (top n t.content ∷ [])) (sym header.kind) refl;
+  extras_are = subst (λ (n : ℕ). [] ≡ filter is_extra (top n t.content ∷ [])) (sym header.kind) refl ∙ ap (filter is_extra) (sym are);
   flattened = [];
   are_flattened = subst (λ (n : ℕ). AllZip IsRec (filter is_flat_kind (top n t.content ∷ [])) []) (sym header.kind) tt;
   history_is = refl;
@@ -254,6 +269,14 @@ first_top [] p more all = absurd (cc)
 first_top (t ∷ ts) p more all =
     let same : record { place = record { top = 8; inner = 0 }; top = t } ≡ p = cc in
     (ts, ap (λ (q : Placed). q.top ∷ ts) same)
+
+-- where none was read before, the record that is given stands at top level
+first_alone : (flat : FlatReader) (tops more : List Top) (t : Top) → tops ≡ [] ++ more → (tops ≡ [] → ⊥) → (flat.inside ≡ true → more ≡ []) → (flat.inside ≡ false → more ≡ t ∷ []) → tops ≡ t ∷ []
+first_alone flat tops more t grown some within alone = by flat.inside refl
+  where
+    by : (b : Bool) → flat.inside ≡ b → tops ≡ t ∷ []
+    by true inside = absurd (some (grown ∙ within inside))
+    by false outside = grown ∙ alone outside
 
 one_good : (t : Top) (ts : List Top) → Good reading_limits (t ∷ ts) → Good reading_limits (t ∷ [])
 one_good t ts good zero u at = good zero u at
@@ -287,7 +310,7 @@ begun_header flat before now op place profile gives reads =
       read = λ bytes told. let (rest, left, there) = read_stand flat.reader before now gives.tops gives.going stands.stands some bytes told in inr (rest, there);
       magic = λ bytes told. let (rest, left, there) = read_stand flat.reader before now gives.tops gives.going stands.stands some bytes told in (spelled gives.tops ++ rest, there.split);
       begun = λ none. absurd (not_none [] p none);
-      repairs = subst (λ (l : List ℕ). RepairsGiven (p ∷ []) l [] []) (sym same) (header_given p header);
+      repairs = subst (λ (l : List ℕ). RepairsGiven gives.tops (p ∷ []) l [] []) (sym same) (header_given gives.tops p header (first_alone flat gives.tops gives.more t gives.grown some gives.within gives.alone));
       shows = record {
         first = t ∷ [];
         good = one;
@@ -319,7 +342,7 @@ begun_refused flat before now why (Ok profile) was done stands (none, halts) = r
   read = λ bytes told. inl refl;
   magic = has_magic why stands halts;
   begun = λ same. (done, refl, keeps_none why stands halts);
-  repairs = subst (λ (l : List ℕ). RepairsGiven [] l [] []) (sym none) (record { profile_is = refl; extras_are = refl; flattened = []; are_flattened = tt; history_is = refl });
+  repairs = subst (λ (l : List ℕ). RepairsGiven [] [] l [] []) (sym none) (record { profile_is = refl; extras_are = refl; flattened = []; are_flattened = tt; history_is = refl });
   shows = record {
     first = [];
     good = λ n t at. absurd (at_none n t at);

@@ -2,7 +2,7 @@
 use Rattle.std.specs.Prelude.{◌≡◌, ℕ, ◌^◌, ◌-◌, List, [], ◌∷◌, ◌++◌, length, filter, map, fold, min, Bool, ◌==◌, if◌then◌else◌, Option, Some, None}
 use Rattle.std.specs.List.{AllZip, list_any}
 use Rattle.rec_data.specs.declared.owned.Rec.{Rec}
-use Rattle.rec_data.specs.declared.owned.Rec.TheVariants.{Schema, Channel, Message}
+use Rattle.rec_data.specs.declared.owned.Rec.TheVariants.{Schema, Channel, Message, Extra}
 use Rattle.mcap_io.specs.Outside.{LiveState}
 use Rattle.mcap_model.specs.declared.options.FileOptions.{FileOptions}
 use Rattle.mcap_wire.specs.Layout.{framed}
@@ -24,11 +24,12 @@ is_declared ids id = list_any (λ other. id == other) ids
 abbrev pub declared_with : List ℕ → ℕ → List ℕ
 declared_with ids id = if is_declared ids id then ids else ids ++ id ∷ []
 
--- the id that a record declares, or that it is on
+-- the id that a record declares, or that it is on; an extra has none
 abbrev pub record_id : Rec → ℕ
 record_id (Schema id schema) = id
 record_id (Channel id schema topic encoding metadata) = id
 record_id (Message channel sequence log_time publish_time payload) = channel
+record_id (Extra op content) = 0
 
 -- ---- what was kept so far
 
@@ -61,10 +62,17 @@ abbrev pub AddsFlatRecords : {L : Type 0} → (L → LiveState) → Keeping L �
 AddsFlatRecords seen before after flat =
     (records : List Rec) → AllZip IsRec flat records → AddsRecords seen before after [] records
 
--- the same of what one record shows or is, of the top level or inside a chunk
-abbrev pub AddsOneRecord : {L : Type 0} → (L → LiveState) → Keeping L → Keeping L → Top → Type 0
-AddsOneRecord seen before after t = (records : List Rec) → AllZip IsRec (filter is_flat_kind (t ∷ [])) records
-    → AddsRecords seen before after (filter is_extra (t ∷ [])) records
+-- The frame that is at hand tells where a record stands: inside a chunk there is one, and at top level none. So this is the
+-- record where it is an extra that is kept, which one inside a chunk isn't, whatever its opcode.
+abbrev pub extras_of : Option (Bor (List ℕ)) → Top → List Top
+extras_of None t = filter is_extra (t ∷ [])
+extras_of (Some bytes) t = []
+
+-- the same of what one record shows, and of what it is where it stands at top level
+abbrev pub AddsOneRecord : {L : Type 0} → (L → LiveState) → Keeping L → Keeping L → Option (Bor (List ℕ)) → Top
+    → Type 0
+AddsOneRecord seen before after frame t = (records : List Rec) → AllZip IsRec (filter is_flat_kind (t ∷ [])) records
+    → AddsRecords seen before after (extras_of frame t) records
 
 -- ---- records that are given
 
@@ -72,7 +80,7 @@ AddsOneRecord seen before after t = (records : List Rec) → AllZip IsRec (filte
 abbrev pub tops_at : List Placed → List Top
 tops_at given = map (λ (p : Placed). p.top) given
 
--- the bytes are the record with its head, where they are at hand
+-- the bytes are the record with its head, where it stands inside a chunk
 abbrev pub IsFrame : ℕ → List ℕ → Option (Bor (List ℕ)) → Type 0
 IsFrame op content None = Unit {0}
 IsFrame op content (Some bytes) = bytes.now ≡ framed op content

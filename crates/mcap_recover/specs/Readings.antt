@@ -64,11 +64,12 @@ OverSo reader before now tops overs.Refused =
 abbrev pub KeepsNone : SourceState → Type 0
 KeepsNone before = (bytes : List ℕ) → before.left ≡ Some bytes → Kept reading_limits bytes []
 
--- What repairing makes of records that were given in their places, those inside chunks too: the same as of the records at top
--- level, where all were given.
-pub record RepairsGiven (given : List Placed) (profile : List ℕ) (extras : List Top) (history : List Rec) : Type 0 where
+-- What repairing makes of records at top level of which these were given in their places, those inside chunks too: the same as
+-- of the records at top level, where all were given. Each one at top level was, so the extras are those of these alone.
+pub record RepairsGiven (tops : List Top) (given : List Placed) (profile : List ℕ) (extras : List Top)
+    (history : List Rec) : Type 0 where
   pub profile_is : ProfileIs (tops_at given) profile
-  pub extras_are : extras ≡ filter is_extra (tops_at given)
+  pub extras_are : extras ≡ filter is_extra tops
   pub flattened : List Rec
   pub are_flattened : AllZip IsRec (filter is_flat_kind (tops_at given)) flattened
   pub history_is : history ≡ without_repeats flattened
@@ -86,7 +87,7 @@ pub record Repairing {L : Type 0} (seen : L → LiveState) (options : FileOption
   pub begun : given ≡ [] → IsFlatDone flat × (tops ≡ []) × KeepsNone before
   pub extras : List Top
   pub history : List Rec
-  pub repairs : RepairsGiven given options.profile extras history
+  pub repairs : RepairsGiven tops given options.profile extras history
   pub keeps : KeepingStandsFor seen options extras opened history k
 
 -- these good records were read, and what repairing makes of them was kept
@@ -179,7 +180,7 @@ pub record BeginsFile (before now : SourceState) (flat : FlatReader) (profile : 
   pub read : (bytes : List ℕ) → before.left ≡ Some bytes → Begins bytes tops
   pub magic : HasMagic before
   pub begun : given ≡ [] → IsFlatDone flat × (tops ≡ []) × KeepsNone before
-  pub repairs : RepairsGiven given profile [] []
+  pub repairs : RepairsGiven tops given profile [] []
   pub shows : FirstShows before profile
   pub short : length profile ≤ content_limit
   pub still : now.faults ≡ before.faults

@@ -33,9 +33,9 @@ lacks = refusals.Refused scans.Memory
 abbrev pub HasMagic : SourceState → Type 0
 HasMagic before = (bytes : List ℕ) → before.left ≡ Some bytes → V1 bytes
 
--- how a recovered file is written: in chunks of that size
+-- how a recovered file is written: in chunks of that size, and of whatever span of log time
 abbrev pub recovered_options : List ℕ → ℕ → FileOptions
-recovered_options profile chunk = record { profile = profile; chunk = Some chunk }
+recovered_options profile chunk = record { profile = profile; chunk = Some chunk; span = None }
 
 -- the reason that is answered is that of the halt
 abbrev pub TellsHalt : ℕ → Why → Halt → Type 0
@@ -60,7 +60,7 @@ pub record IsRecovered (chunk : ℕ) (before now : SourceState) (opened stored :
   pub history : List Rec
   pub repairs : Repairs tops profile extras history
   pub file : Adds opened.held stored.held (file_of (recovered_options profile chunk) extras history)
-  pub within : Holds (length (blocks_in (pieces_of (Some chunk) history))) (length
+  pub within : Holds (length (blocks_in (pieces_of (Some chunk) None history))) (length
       (file_of (recovered_options profile chunk) extras history))
   pub messages : r.messages ≡ length (filter is_message history)
   pub records : r.records ≡ length history

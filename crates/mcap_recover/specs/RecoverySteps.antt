@@ -35,7 +35,7 @@ repair options extras history = record { options = options; extras = extras; his
 abbrev pub Finished : LiveState → Repair → LiveState → LiveState → ℕ → Why → Result Recovered RecoverRefused → Type 0
 Finished last new opened stored at why (Ok r) = Adds opened.held stored.held (file_of new.options new.extras
     new.history) × AnswersSo new.extras new.history at why r
-    × Holds (length (blocks_in (pieces_of new.options.chunk new.history))) (length
+    × Holds (length (blocks_in (pieces_of new.options.chunk new.options.span new.history))) (length
     (file_of new.options new.extras new.history)) × (stored.faults ≡ last.faults) × (stored.waiting ≡ 0)
 Finished last new opened stored at why (Err refusals.NoMagic) = ⊥
 Finished last new opened stored at why (Err (refusals.Refused told)) = ⊥

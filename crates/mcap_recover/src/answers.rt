@@ -12,8 +12,9 @@ pub enum Why {
     Limit,
 }
 
-/// What was recovered: how many records, how many of them messages, how many Attachments and Metadata; where the first record
-/// stands that wasn't kept, or what follows the Data End; and why the reading stopped there.
+/// What was recovered: how many Schemas, Channels and Messages, how many of these are Messages, and how many extras, which are
+/// Attachments, Metadata and records of applications (opcodes from 0x80) at top level. Then the offset, in bytes from the source's
+/// front, of the first record that wasn't kept, or of what follows the Data End; and why the reading stopped there.
 #[derive(Clone, Copy, Debug, PartialEq, Eq)]
 pub struct Recovered {
     pub messages: u64,

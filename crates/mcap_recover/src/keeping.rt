@@ -8,6 +8,7 @@ ghost use Rattle.mcap_model.specs.Tops.{Top};
 ghost use Rattle.mcap_model.specs.Made.{top};
 ghost use Rattle.mcap_model.specs.History.{is_message};
 ghost use Rattle.mcap_model.specs.ReadBack.{IsExtra};
+ghost use Rattle.mcap_model.specs.Repaired.{is_extra};
 ghost use Rattle.mcap_model.specs.Rules.{V6, V10};
 ghost use Rattle.chunk_build.specs.Chunker.{AreFramed};
 ghost use Rattle.chunk_writer.specs.declared.phase.Phase.TheVariants as phases;
@@ -21,7 +22,7 @@ use indexmap::IndexSet;
 use mcap_io::LiveStore;
 use mcap_model::Stop;
 use mcap_wire::{HEAD_LENGTH, add_bytes, add_head, make_room};
-use rec_data::{ATTACHMENT, CHANNEL, Channel, MESSAGE, METADATA, Message, SCHEMA, Schema};
+use rec_data::{APPLICATION, ATTACHMENT, CHANNEL, Channel, MESSAGE, METADATA, Message, SCHEMA, Schema};
 use std::alloc::Global;
 
 /// The scribe of the new file, the ids of the Schemas and of the Channels in it, and how many messages, records and extras it
@@ -149,7 +150,14 @@ fn keep_channel<L: LiveStore>(alloc: Global, k: &mut Keeping<L>, content: &[u8])
     return put(k, bytes.as_slice());
 }
 
-// Keeps an Attachment or a Metadata for the end of the file.
+// Whether a record of that opcode is an extra at top level.
+fn is_extra_kind(op: u8) -> bool
+    ensures { result ≡ is_extra (top op []) }
+{
+    op == ATTACHMENT || op == METADATA || op >= APPLICATION
+}
+
+// Keeps an Attachment, a Metadata or a record of an application for the end of the file.
 fn keep_extra<L: LiveStore>(k: &mut Keeping<L>, op: u8, content: &[u8]) -> Result<(), Stop>
     requires going { phase_of k.old.scribe ≡ phases.Going }
     requires meets { IsExtra (top op content.now) }
@@ -169,7 +177,8 @@ fn keep_extra<L: LiveStore>(k: &mut Keeping<L>, op: u8, content: &[u8]) -> Resul
     return Ok(());
 }
 
-/// Keeps what a record shows, of the top level or inside a chunk. The frame is the record with its head, where that is at hand.
+/// Keeps what a record shows. The frame is the record with its head, where it stands inside a chunk; at top level there is none, and
+/// the record is kept where it is an extra.
 pub(crate) fn keep_record<L: LiveStore>(
     alloc: Global,
     k: &mut Keeping<L>,
@@ -181,7 +190,7 @@ pub(crate) fn keep_record<L: LiveStore>(
     requires v6 { V6 (top op content.now) }
     requires v10 { V10 (top op content.now) }
     requires framed { IsFrame op content.now frame }
-    ensures takes { AddsOneRecord L.state k.old k.new (top op content.now) }
+    ensures takes { AddsOneRecord L.state k.old k.new frame.entry (top op content.now) }
     ensures goes_on { OnOk result (phase_of k.new.scribe ≡ phases.Going) }
     ensures stopped { IfErr result (λ stop. phase_of k.new.scribe ≡ phases.Stopped stop) }
     ensures cause { Cause (L.state (store_of k.old.scribe)).faults (L.state (store_of k.new.scribe)).faults result }
@@ -193,8 +202,15 @@ pub(crate) fn keep_record<L: LiveStore>(
         },
         SCHEMA => return keep_schema(alloc, k, content),
         CHANNEL => return keep_channel(alloc, k, content),
-        ATTACHMENT => return keep_extra(k, op, content),
-        METADATA => return keep_extra(k, op, content),
-        _ => return Ok(()),
+        _ => match frame {
+            // No record of an application is kept from inside a chunk.
+            Some(_) => return Ok(()),
+            None => {
+                if is_extra_kind(op) {
+                    return keep_extra(k, op, content);
+                }
+                return Ok(());
+            }
+        },
     }
 }

@@ -1,4 +1,5 @@
-//! Recovery: of whatever bytes a source gives, the records that a reading keeps are written as a new file.
+//! Recovery: of whatever bytes a source gives, the records that a reading keeps are written as a new file. Extras are kept unchanged:
+//! the Attachments, Metadata and records of applications that stand at top level.
 #![tactic(auto)]
 
 mod answers;

@@ -215,9 +215,11 @@ fn keeping_of<L>(alloc: Global, scribe: Scribe<L>) -> Keeping<L>
 }
 
 /// Writes the records that a reading of the source keeps as a new file into the store, which is empty where the file is to be read
-/// back: its Schemas, Channels and Messages in chunks of that size, in bytes, but for what declares an id again, and its Attachments
-/// and Metadata behind them, which wait in memory until all chunks stand. The source is read once. A source that doesn't begin with
-/// the magic is refused, and the store is as it was; behind other refusals the store holds a first part of the file.
+/// back: its Schemas, Channels and Messages in chunks of that size, in bytes, but for what declares an id again, and after them its
+/// extras, contents unchanged, in the order of the source. These are the Attachments, Metadata and records of applications (opcodes
+/// from 0x80) at top level; they wait in memory until all chunks stand. The other records are dropped, and those of applications
+/// inside chunks. The source is read once. A source that doesn't begin with the magic is refused, and the store is as it was; after
+/// other refusals the store holds a first part of the file.
 pub fn recover<S: Source, L: LiveStore>(
     alloc: Global,
     source: &mut S,
@@ -242,6 +244,7 @@ pub fn recover<S: Source, L: LiveStore>(
     let options = FileOptions {
         profile,
         chunk: Some(chunk),
+        span: None,
     };
     let scribe = match Scribe::open(alloc, store, &options) {
         Ok(scribe) => scribe,

@@ -40,10 +40,10 @@ records-preserved g c =
     let (some, each, going, still, stays) = c.records.invariant in
     let (options, before, opened, was) = some in
     let undone : IsFlatDone c.records.reader → ⊥ = λ done. (c.in-Record.ensures.over done).2 in
-    let takes = subst (λ (l : List ℕ). AddsOneRecord g.L.LiveStore.state c.records.k c.keep_record.new.k (top c.in-Record.op l)) c.content.ensures c.in-Ok.ensures.takes in (
-      (options, before, opened, repairing_on g.L.LiveStore.state options before _ _ opened c.records.reader c.advance.new.self c.records.k c.keep_record.new.k c.in-Record.op c.in-Record.place was undone (c.in-Record.ensures.steps before was.tops was.given was.stands) takes),
+    let takes = subst (λ (l : List ℕ). AddsOneRecord g.L.LiveStore.state c.records.k c.keep_record.new.k c.frame.result (top c.in-Record.op l)) c.content.ensures c.in-Ok.ensures.takes in (
+      (options, before, opened, repairing_on g.L.LiveStore.state options before _ _ opened c.records.reader c.advance.new.self c.records.k c.keep_record.new.k c.in-Record.op c.in-Record.place c.frame.result was undone (c.in-Record.ensures.steps before was.tops was.given was.stands) c.frame.ensures takes),
       λ o b l first. let later = each o b l first in
-          repairing_on g.L.LiveStore.state o b _ _ l c.records.reader c.advance.new.self c.records.k c.keep_record.new.k c.in-Record.op c.in-Record.place later undone (c.in-Record.ensures.steps b later.tops later.given later.stands) takes,
+          repairing_on g.L.LiveStore.state o b _ _ l c.records.reader c.advance.new.self c.records.k c.keep_record.new.k c.in-Record.op c.in-Record.place c.frame.result later undone (c.in-Record.ensures.steps b later.tops later.given later.stands) c.frame.ensures takes,
       c.in-Ok.ensures.goes_on,
       c.in-Ok.ensures.cause ∙ still,
       g.S.Source.stays_on c.args.source.now c.records.source c.advance.new.source stays c.in-Record.ensures.stays,
@@ -53,9 +53,9 @@ pub returns-in-Err-clause-reads : goal.returns-in-Err-clause-reads
 returns-in-Err-clause-reads g c =
     let (some, each, going, still, stays) = c.records.invariant in
     let undone : IsFlatDone c.records.reader → ⊥ = λ done. (c.in-Record.ensures.over done).2 in
-    let takes = subst (λ (l : List ℕ). AddsOneRecord g.L.LiveStore.state c.records.k c.keep_record.new.k (top c.in-Record.op l)) c.content.ensures c.in-Err.ensures.takes in
+    let takes = subst (λ (l : List ℕ). AddsOneRecord g.L.LiveStore.state c.records.k c.keep_record.new.k c.frame.result (top c.in-Record.op l)) c.content.ensures c.in-Err.ensures.takes in
     λ o b l first. let later = each o b l first in
-    stopped_on_it g.L.LiveStore.state o b _ _ l c.records.reader c.advance.new.self c.records.k c.keep_record.new.k c.in-Record.op c.in-Record.place c.in-Err.stop later undone (c.in-Record.ensures.steps b later.tops later.given later.stands) takes c.in-Err.ensures.stopped
+    stopped_on_it g.L.LiveStore.state o b _ _ l c.records.reader c.advance.new.self c.records.k c.keep_record.new.k c.in-Record.op c.in-Record.place c.frame.result c.in-Err.stop later undone (c.in-Record.ensures.steps b later.tops later.given later.stands) c.frame.ensures takes c.in-Err.ensures.stopped
 
 pub returns-in-Err-clause-cause : goal.returns-in-Err-clause-cause
 returns-in-Err-clause-cause g c =
