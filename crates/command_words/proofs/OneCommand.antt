@@ -17,8 +17,8 @@ use Rattle.command_words.proofs.ItemLemmas.{Lacks, marked_once}
 
 -- ---- values
 
-abbrev options_with : Word → Option ℕ → FileOptions
-options_with profile chunk = record { profile = profile; chunk = chunk }
+abbrev options_with : Word → Option ℕ → Option ℕ → FileOptions
+options_with profile chunk span = record { profile = profile; chunk = chunk; span = span }
 
 abbrev range_with : ℕ → Option ℕ → Range
 range_with start end = record { start = start; end = end }
@@ -58,14 +58,14 @@ one_chunk items a b is other =
 one_profile : (items : List Item) (a b : Word) → HasProfile items a → HasProfile items b → b ≡ a
 one_profile items a b is other = other.is ∙ ap (λ (v : Option Word). unwrap_or v []) (one_value is.value other.value (sym is.once ∙ other.once)) ∙ sym is.is
 
-options_same : (p q : Word) (c d : Option ℕ) → q ≡ p → d ≡ c → options_with q d ≡ options_with p c
-options_same p q c d profile chunk = cc
+options_same : (p q : Word) (c d s t : Option ℕ) → q ≡ p → d ≡ c → t ≡ s → options_with q d t ≡ options_with p c s
+options_same p q c d s t profile chunk span = cc
 
 one_options : (items : List Item) (a b : FileOptions) → IsFileOptions items a → IsFileOptions items b → b ≡ a
 one_options items a b is other =
     let chunk = one_chunk items a.chunk b.chunk is.chunk other.chunk in
     let profile = one_profile items a.profile b.profile is.profile other.profile in
-    options_same a.profile b.profile a.chunk b.chunk profile chunk
+    options_same a.profile b.profile a.chunk b.chunk a.span b.span profile chunk (other.no_span ∙ sym is.no_span)
 
 pub range_same : (s t : ℕ) (e f : Option ℕ) → t ≡ s → f ≡ e → range_with t f ≡ range_with s e
 range_same s t e f start end = cc

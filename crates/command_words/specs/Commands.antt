@@ -180,10 +180,11 @@ pub record HasProfile (items : List Item) (profile : Word) : Type 0 where
   pub is : profile ≡ unwrap_or value []
   pub short : length profile ≤ profile_limit
 
--- --plain, --chunk and --profile
+-- --plain, --chunk and --profile; no word gives a span
 pub record IsFileOptions (items : List Item) (file : FileOptions) : Type 0 where
   pub chunk : HasChunks items file.chunk
   pub profile : HasProfile items file.profile
+  pub no_span : file.span ≡ None
 
 -- START:END
 pub record IsSpan (word : Word) (span : Range) : Type 0 where

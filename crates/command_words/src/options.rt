@@ -105,7 +105,7 @@ fn profile_of<'a>(found: &ArgMatches<'a>) -> Result<&'a str, BadValue>
     Ok(profile)
 }
 
-/// The profile and the size of the chunks.
+/// The profile and the size of the chunks; no word gives a span.
 pub fn file_options(alloc: Global, found: &ArgMatches) -> Result<FileOptions, WordsRefused>
     ensures options { (items : List Item) (places : List Word)
         → ParsesInto (synopsis_of verb.Record) items places (rows_found found.now) → IfOk result (IsFileOptions items) }
@@ -113,17 +113,18 @@ pub fn file_options(alloc: Global, found: &ArgMatches) -> Result<FileOptions, Wo
         → ParsesInto (synopsis_of verb.Record) items places (rows_found found.now)
         → IfErr result (λ refused. refused ≡ WordsRefused.BadWords → (file : Options) → IsFileOptions items file → ⊥) }
 {
-    let chunk = match chunk_of(found) {
-        Ok(chunk) => chunk,
-        Err(BadValue) => return Err(WordsRefused::BadWords),
+    let Ok(chunk) = chunk_of(found) else {
+        return Err(WordsRefused::BadWords);
     };
-    match profile_of(found) {
-        Ok(profile) => match copy_of(alloc, profile) {
-            Ok(profile) => return Ok(FileOptions { profile, chunk }),
-            Err(refused) => return Err(refused),
-        },
-        Err(BadValue) => return Err(WordsRefused::BadWords),
-    }
+    let Ok(profile) = profile_of(found) else {
+        return Err(WordsRefused::BadWords);
+    };
+    let profile = copy_of(alloc, profile)?;
+    Ok(FileOptions {
+        profile,
+        chunk,
+        span: None,
+    })
 }
 
 /// --start and --end.
