@@ -29,7 +29,7 @@ use Rattle.record_core.specs.declared.answers.CallRefused.TheVariants as refusin
 use Rattle.feed_lane.specs.Causes.{is_over, is_memory}
 use Rattle.feed_lane.specs.Lanes.{messages, LastFindsEnd, CauseFits}
 use Rattle.feed_lane.specs.Feeds.{FeedEnds, TakesMessages}
-use Rattle.recorder.specs.declared.options.RecordOptions.{RecordOptions}
+use Rattle.mcap_model.specs.declared.options.RecordOptions.{RecordOptions}
 use Rattle.recorder.specs.declared.report.Report.{Report}
 use Rattle.recorder.specs.Assembled.{LanePartStands}
 use Rattle.recorder.specs.Recorded.{FeedRecorded, lane_of, sides, Recorded}

@@ -4,7 +4,7 @@ use Rattle.std.proofs.lemmas.Bool.{both_ways}
 use Rattle.mcap_io.specs.Outside.{Rose, added, SourceState, WorldState, SinkState, Told, Keeping, Opening}
 use Rattle.mcap_io.specs.declared.outside.ObjectKind.TheVariants as kinds
 use Rattle.mcap_model.specs.declared.refusals.ReadingRefused.TheVariants as refusals
-use Rattle.recorder.specs.declared.options.RecordOptions.{RecordOptions}
+use Rattle.mcap_model.specs.declared.options.RecordOptions.{RecordOptions}
 use Rattle.recorder.specs.declared.report.Report.{Report}
 use Rattle.message_sums.specs.declared.sums.Sums.{Sums}
 use Rattle.message_sums.specs.Reading.{SumsAll}

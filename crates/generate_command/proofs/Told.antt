@@ -1,7 +1,7 @@
 -- What a generation comes to, of what its parts came to.
 use Rattle.std.proofs.Common.{◌≡◌, ◌⊎◌, ◌↔◌, ◌||◌, ℕ, Bool, true, List, ◌++◌, Option, Some, None, ap, subst, ◌∙◌}
 use Rattle.mcap_io.specs.Outside.{Rose, WorldState}
-use Rattle.recorder.specs.declared.options.RecordOptions.{RecordOptions}
+use Rattle.mcap_model.specs.declared.options.RecordOptions.{RecordOptions}
 use Rattle.recorder.specs.declared.report.Report.{Report}
 use Rattle.command_base.specs.declared.statuses.Status.{Status}
 use Rattle.command_base.specs.declared.faults.Counts.{Counts}

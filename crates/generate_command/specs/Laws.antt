@@ -10,7 +10,7 @@ use Rattle.command_base.proofs.Refusals.{refusal_fails, rises_some}
 use Rattle.generate_command.specs.Back.{SumsComeTo}
 use Rattle.std.specs.List.{flat_map, range_with_len}
 use Rattle.rec_data.specs.Fields.{MessageFields}
-use Rattle.recorder.specs.declared.options.RecordOptions.{RecordOptions}
+use Rattle.mcap_model.specs.declared.options.RecordOptions.{RecordOptions}
 use Rattle.recorder.specs.declared.report.Report.{Report}
 use Rattle.command_base.specs.Printing.{TellsAll}
 use Rattle.command_base.specs.Ran.{Scene}

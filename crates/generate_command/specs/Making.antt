@@ -3,7 +3,7 @@ use Rattle.std.specs.Prelude.{◌≡◌, ◌⊎◌, ℕ, List, [], ◌∷◌, ma
 use Rattle.std.specs.List.{All, range_with_len}
 use Rattle.mcap_io.specs.Outside.{SourceState, LiveState, WorldState, Told, Keeping, Opening}
 use Rattle.mcap_io.specs.declared.outside.ObjectKind.TheVariants as kinds
-use Rattle.recorder.specs.declared.options.RecordOptions.{RecordOptions}
+use Rattle.mcap_model.specs.declared.options.RecordOptions.{RecordOptions}
 use Rattle.recorder.specs.declared.report.Report.{Report}
 use Rattle.recorder.specs.Recorded.{sides, Recorded}
 use Rattle.command_base.specs.Ran.{kept, refused, AreOpened, Leaves, CountsKept}

@@ -18,8 +18,8 @@ use command_base::{
     read_source_name, rose,
 };
 use mcap_io::{Sink, World};
-use mcap_model::End;
-use recorder::{RecordOptions, Report};
+use mcap_model::{End, RecordOptions};
+use recorder::Report;
 use report_findings::{has_limit, names_memory};
 use std::alloc::Global;
 use std::sync::Wait;

@@ -7,8 +7,9 @@ ghost use Rattle.generate_command.specs.Allowed.{OptionsAllowed};
 
 use generated_feed::GeneratedFeed;
 use mcap_io::{Failed, OutsideRefused, Source, World};
+use mcap_model::RecordOptions;
 use mcap_wire::Memory;
-use recorder::{RecordOptions, Recording, Report, record};
+use recorder::{Recording, Report, record};
 use std::alloc::Global;
 use std::sync::Wait;
 use std::thread::Threads;

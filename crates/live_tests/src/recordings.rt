@@ -3,9 +3,9 @@ ghost use Rattle.std.specs.Prelude.{◌≡◌, vec_len, IfOk};
 
 use crate::published::feed_bytes;
 use io_memory::{FailingWrite, MemoryLive, MemorySink, MemorySource};
-use mcap_model::{End, FileOptions, Range};
+use mcap_model::{End, FileOptions, Range, RecordOptions};
 use mcap_wire::{Memory, Text};
-use recorder::{RecordOptions, Report};
+use recorder::Report;
 use std::alloc::Global;
 use std::test::*;
 use watched_recording::{WatchedRecording, record_watched};

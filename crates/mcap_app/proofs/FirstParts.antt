@@ -39,7 +39,7 @@ use Rattle.chunk_writer.specs.declared.tape.Written.{Written}
 use Rattle.chunk_writer.specs.Stops.{StopsAt}
 use Rattle.recorder.specs.Laws.{ReadsAs}
 use Rattle.recorder.specs.Recorded.{Sides, sides, Recorded, AreReadable}
-use Rattle.recorder.specs.declared.options.RecordOptions.{RecordOptions}
+use Rattle.mcap_model.specs.declared.options.RecordOptions.{RecordOptions}
 use Rattle.recorder.specs.declared.report.Report.{Report}
 use Rattle.recorder.proofs.ReadBack.{IsClosedFile, closed_file, can_be_read, files_read_back}
 use Rattle.recorder.proofs.Validity.{can_be_written, files_sound}

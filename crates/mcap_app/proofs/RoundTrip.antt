@@ -22,7 +22,7 @@ use Rattle.command_base.specs.declared.statuses.Status.TheVariants as statuses
 use Rattle.command_base.specs.declared.file_reading.Reading.{Reading}
 use Rattle.command_base.specs.declared.file_reading.Reading.TheVariants as readings
 use Rattle.command_base.specs.Ran.{Scene, counts_in, AnyRose}
-use Rattle.recorder.specs.declared.options.RecordOptions.{RecordOptions}
+use Rattle.mcap_model.specs.declared.options.RecordOptions.{RecordOptions}
 use Rattle.record_command.specs.RecordSteps.{AreAllowed}
 use Rattle.mcap_model.specs.declared.refusals.ReadingRefused.{ReadingRefused}
 use Rattle.command_base.specs.OneFile.{refusal_ending}

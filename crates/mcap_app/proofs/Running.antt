@@ -18,7 +18,7 @@ use Rattle.generate_command.specs.Allowed.{OptionsAllowed}
 use Rattle.record_command.specs.Record.{Records}
 use Rattle.record_command.specs.Watched.{requested}
 use Rattle.record_command.specs.WatchedAnswer.{RecordsWatched}
-use Rattle.recorder.specs.declared.options.RecordOptions.{RecordOptions}
+use Rattle.mcap_model.specs.declared.options.RecordOptions.{RecordOptions}
 use Rattle.mcap_app.specs.Runs.{RecordsBeside, generate_options}
 use Rattle.mcap_app.specs.Ways.{IsAllowed, IsWatchable}
 

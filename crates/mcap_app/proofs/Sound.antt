@@ -28,7 +28,7 @@ use Rattle.mcap_model.proofs.Halting.{readings_halt_once}
 use Rattle.mcap_model.proofs.Prefixes.{ends_there}
 use Rattle.mcap_model.proofs.Fronts.{fronts_keep_whole}
 use Rattle.mcap_model.proofs.Flaws.{flaws_exclude_validity}
-use Rattle.recorder.specs.declared.options.RecordOptions.{RecordOptions}
+use Rattle.mcap_model.specs.declared.options.RecordOptions.{RecordOptions}
 use Rattle.recorder.specs.declared.report.Report.{Report}
 use Rattle.recorder.specs.Laws.{ReadsAs, IsSoundFile}
 use Rattle.recorder.proofs.Validity.{recordings_are_valid}

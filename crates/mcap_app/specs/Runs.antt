@@ -17,7 +17,7 @@ use Rattle.file_commands.specs.Indexed.{IndexedCats}
 use Rattle.output_commands.specs.Recover.{RecoversFile}
 use Rattle.output_commands.specs.Merge.{MergesFiles}
 use Rattle.command_words.specs.Defaults.{usual_chunk_size, usual_limit, watch_names}
-use Rattle.recorder.specs.declared.options.RecordOptions.{RecordOptions}
+use Rattle.mcap_model.specs.declared.options.RecordOptions.{RecordOptions}
 use Rattle.generate_command.specs.Generating.{Generates}
 
 -- generated feeds are recorded without loss, with no profile and the usual sizes

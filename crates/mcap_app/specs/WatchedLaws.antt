@@ -16,7 +16,7 @@ use Rattle.watching.specs.Text.{end_line}
 use Rattle.command_base.specs.declared.statuses.Status.{Status}
 use Rattle.command_base.specs.declared.statuses.Status.TheVariants as statuses
 use Rattle.command_base.specs.Ran.{Scene, counts_in, AnyRose}
-use Rattle.recorder.specs.declared.options.RecordOptions.{RecordOptions}
+use Rattle.mcap_model.specs.declared.options.RecordOptions.{RecordOptions}
 use Rattle.recorder.specs.declared.report.Report.{Report}
 use Rattle.record_command.specs.RecordSteps.{AreAllowed}
 use Rattle.record_command.specs.Watched.{requested}

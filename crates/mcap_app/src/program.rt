@@ -21,11 +21,11 @@ use command_words::{
 use file_commands::{print_file, print_indexed, run_file_command};
 use generate_command::{Generated, Numbers, generate_file};
 use mcap_io::{Sink, World};
-use mcap_model::{FileOptions, Range};
+use mcap_model::{FileOptions, Range, RecordOptions};
 use mcap_wire::{Memory, Text};
 use output_commands::{merge_file, recover_file};
 use record_command::{Ended, record_file, record_watched_file};
-use recorder::{RecordOptions, Report};
+use recorder::Report;
 use std::alloc::Global;
 use std::sync::Wait;
 use std::thread::Threads;

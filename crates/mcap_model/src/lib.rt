@@ -28,7 +28,7 @@ pub use block::{Block, IndexPart};
 pub use checked::{Counts, Verdict};
 pub use ends::{End, Stop};
 pub use inner::{Inner, InnerWalk};
-pub use options::FileOptions;
+pub use options::{FileOptions, RecordOptions};
 pub use plain::scan_plain;
 pub use refusals::{IndexedRefused, NotIndexed, ReadingRefused};
 pub use replay::{Place, Range, Replayed, Shown, Topic};

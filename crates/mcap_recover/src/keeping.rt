@@ -22,7 +22,9 @@ use indexmap::IndexSet;
 use mcap_io::LiveStore;
 use mcap_model::Stop;
 use mcap_wire::{HEAD_LENGTH, add_bytes, add_head, make_room};
-use rec_data::{APPLICATION, ATTACHMENT, CHANNEL, Channel, MESSAGE, METADATA, Message, SCHEMA, Schema};
+use rec_data::{
+    APPLICATION, ATTACHMENT, CHANNEL, Channel, MESSAGE, METADATA, Message, SCHEMA, Schema,
+};
 use std::alloc::Global;
 
 /// The scribe of the new file, the ids of the Schemas and of the Channels in it, and how many messages, records and extras it

@@ -7,7 +7,7 @@ use Rattle.mcap_io.specs.Outside.{Rose, WorldState, Opening, Keeping}
 use Rattle.mcap_io.specs.declared.outside.ObjectKind.{ObjectKind}
 use Rattle.mcap_io.specs.declared.outside.ObjectKind.TheVariants as kinds
 use Rattle.mcap_model.specs.Places.{Has, Each}
-use Rattle.recorder.specs.declared.options.RecordOptions.{RecordOptions}
+use Rattle.mcap_model.specs.declared.options.RecordOptions.{RecordOptions}
 use Rattle.command_base.specs.Ran.{first_failed, has_failed, failed_so, kept_failed, failures_keeping, failures_opening, object_faults, source_faults, live_faults, world_faults, input_faults, output_faults, blamed_among}
 use Rattle.command_base.proofs.Counting.{failed_often}
 use Rattle.output_base.specs.declared.blaming.FailedParts.{FailedParts}

@@ -16,7 +16,7 @@ use Rattle.mcap_io.proofs.Notes.{noted_in}
 use Rattle.mcap_model.specs.Places.{At, Has, Each}
 use Rattle.mcap_model.proofs.Places.{at_none}
 use Rattle.mcap_model.proofs.Lists.{at_either, cut_at}
-use Rattle.recorder.specs.declared.options.RecordOptions.{RecordOptions}
+use Rattle.mcap_model.specs.declared.options.RecordOptions.{RecordOptions}
 use Rattle.recorder.specs.declared.report.Report.{Report}
 use Rattle.recorder.specs.Recorded.{sides, Recorded}
 use Rattle.output_base.specs.Outputs.{inputs_and_output, failed_of, LeftUnderName}

@@ -6,7 +6,7 @@ use Rattle.mcap_io.specs.Outside.{Rose, WorldState, Opening}
 use Rattle.mcap_io.specs.declared.outside.ObjectKind.{ObjectKind}
 use Rattle.mcap_io.specs.declared.outside.ObjectKind.TheVariants as kinds
 use Rattle.mcap_model.specs.declared.replay.Range.{Range}
-use Rattle.recorder.specs.declared.options.RecordOptions.{RecordOptions}
+use Rattle.mcap_model.specs.declared.options.RecordOptions.{RecordOptions}
 use Rattle.watching.specs.declared.report.WatchReport.{WatchReport}
 use Rattle.command_base.specs.Ran.{has_failed, object_faults, source_faults, live_faults, world_faults, input_faults, output_faults}
 use Rattle.record_command.specs.declared.watched_names.WatchedOutcome.{WatchedOutcome}

@@ -19,7 +19,7 @@ use Rattle.mcap_model.proofs.Places.{at_none, at_within, at_kept, at_last}
 use Rattle.mcap_model.proofs.Lists.{at_either, at_second, take_second, each_cons}
 use Rattle.live_directory.specs.declared.front.Added.{Added}
 use Rattle.chunk_writer.specs.Stops.{Cause}
-use Rattle.recorder.specs.declared.options.RecordOptions.{RecordOptions}
+use Rattle.mcap_model.specs.declared.options.RecordOptions.{RecordOptions}
 use Rattle.recorder.specs.declared.report.Report.{Report}
 use Rattle.recorder.specs.Recorded.{Sides, sides, Recorded, AreFeeds, AreReadable}
 use Rattle.watching.specs.declared.report.WatchReport.{WatchReport}

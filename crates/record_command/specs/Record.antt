@@ -18,7 +18,7 @@ use Rattle.feed_lane.specs.declared.report.Refused.{Refused}
 use Rattle.feed_lane.specs.declared.report.FeedReport.{FeedReport}
 use Rattle.feed_lane.specs.declared.report.FeedEnd.{FeedEnd}
 use Rattle.feed_lane.specs.declared.report.FeedEnd.TheVariants as feed_ends
-use Rattle.recorder.specs.declared.options.RecordOptions.{RecordOptions}
+use Rattle.mcap_model.specs.declared.options.RecordOptions.{RecordOptions}
 use Rattle.recorder.specs.declared.report.Report.{Report}
 use Rattle.recorder.specs.declared.report.WriterReport.{WriterReport}
 use Rattle.recorder.specs.Recorded.{sides, Recorded}

@@ -7,7 +7,7 @@ use Rattle.mcap_wire.specs.RecordingLimits.{buffer_limit, profile_limit}
 use Rattle.mcap_model.specs.Places.{Each}
 use Rattle.feed_lane.specs.declared.report.FeedReport.{FeedReport}
 use Rattle.chunk_writer.specs.Limits.{ChunkSizeFits}
-use Rattle.recorder.specs.declared.options.RecordOptions.{RecordOptions}
+use Rattle.mcap_model.specs.declared.options.RecordOptions.{RecordOptions}
 use Rattle.recorder.specs.declared.report.Report.{Report}
 use Rattle.record_command.specs.declared.answering.Outcome.{Outcome}
 use Rattle.command_base.specs.Texts.{Trouble}

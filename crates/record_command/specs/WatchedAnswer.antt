@@ -6,7 +6,7 @@ use Rattle.mcap_io.specs.declared.outside.ObjectKind.TheVariants as kinds
 use Rattle.mcap_model.specs.Places.{Each}
 use Rattle.mcap_model.specs.Kept.{Halt}
 use Rattle.feed_lane.specs.declared.report.FeedReport.{FeedReport}
-use Rattle.recorder.specs.declared.options.RecordOptions.{RecordOptions}
+use Rattle.mcap_model.specs.declared.options.RecordOptions.{RecordOptions}
 use Rattle.recorder.specs.declared.report.Report.{Report}
 use Rattle.watching.specs.declared.report.WatchEnd.{WatchEnd}
 use Rattle.watching.specs.declared.report.WatchEnd.TheVariants as watch_ends

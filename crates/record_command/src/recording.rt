@@ -13,9 +13,10 @@ ghost use Rattle.record_command.specs.RecordSteps.{AreAllowed, AreFew, NamesReco
 use crate::answering::{Outcome, Telling};
 use command_base::{Counts, Status, has_failed};
 use mcap_io::{LiveStore, OutsideRefused, Sink, Source, World};
+use mcap_model::RecordOptions;
 use mcap_wire::{Memory, Text};
 use output_base::{FailedNames, answer_writing};
-use recorder::{RecordOptions, Recording, Report, record};
+use recorder::{Recording, Report, record};
 use std::alloc::Global;
 use std::sync::Wait;
 use std::thread::Threads;

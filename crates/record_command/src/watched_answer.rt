@@ -22,13 +22,13 @@ use crate::watched_names::{WatchedOutcome, record_watched_names};
 use arrayvec::ArrayVec;
 use command_base::{Complaint, Counts, Status, complain_of, due_when, rose};
 use mcap_io::{Sink, World};
-use mcap_model::Range;
+use mcap_model::{Range, RecordOptions};
 use mcap_wire::Text;
 use output_base::{
     FailedParts, MOST_COMPLAINTS, any_holds, has_some, holds_alone, input_complaints,
     is_part_failed,
 };
-use recorder::{RecordOptions, Report};
+use recorder::Report;
 use report_findings::{has_limit, names_memory};
 use std::sync::Wait;
 use std::thread::Threads;

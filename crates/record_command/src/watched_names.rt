@@ -16,9 +16,9 @@ use crate::recording::{Room, add_refused, is_failed, keep_feeds, make_room, open
 use crate::sinks::{keep_sinks, keep_views, open_sinks};
 use command_base::has_failed;
 use mcap_io::{LiveStore, World};
-use mcap_model::Range;
+use mcap_model::{Range, RecordOptions};
 use mcap_wire::{Memory, Text};
-use recorder::{RecordOptions, Report};
+use recorder::Report;
 use std::alloc::Global;
 use std::sync::Wait;
 use std::thread::Threads;

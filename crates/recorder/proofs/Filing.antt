@@ -15,7 +15,7 @@ use Rattle.chunk_writer.specs.Scribes.{WritesHistory, store_of, phase_of, blocks
 use Rattle.chunk_writer.specs.Tapes.{KeepsCause, seen_store, TakesOn, EndsOn, MeetsLimit}
 use Rattle.feed_lane.specs.declared.report.FeedReport.{FeedReport}
 use Rattle.feed_lane.specs.Steps.{ListsMessages}
-use Rattle.recorder.specs.declared.options.RecordOptions.{RecordOptions}
+use Rattle.mcap_model.specs.declared.options.RecordOptions.{RecordOptions}
 use Rattle.recorder.specs.declared.report.Report.{Report}
 use Rattle.recorder.specs.declared.report.WriterReport.{WriterReport}
 use Rattle.recorder.specs.Recorded.{answer_of, Sides, sides, WriterRecorded, Recorded}

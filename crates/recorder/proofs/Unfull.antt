@@ -13,7 +13,7 @@ use Rattle.record_core.specs.declared.answers.CallRefused.{CallRefused}
 use Rattle.feed_lane.specs.Pass.{FullAt}
 use Rattle.feed_lane.specs.Lanes.{CauseFits}
 use Rattle.buffer_swap.specs.Shown.{HeldThere}
-use Rattle.recorder.specs.declared.options.RecordOptions.{RecordOptions}
+use Rattle.mcap_model.specs.declared.options.RecordOptions.{RecordOptions}
 use Rattle.recorder.specs.declared.report.Report.{Report}
 use Rattle.recorder.specs.Assembled.{LanePartStands}
 use Rattle.recorder.specs.Recorded.{FeedRecorded, lane_of, Sides, Recorded}

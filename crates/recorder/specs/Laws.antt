@@ -17,7 +17,7 @@ use Rattle.mcap_model.specs.File.{file_of}
 use Rattle.mcap_model.specs.Whole.{offset_of, IsWhole}
 use Rattle.mcap_model.specs.Laws.{IsValid, HoldsSeen, CanBeWritten}
 use Rattle.mcap_model.specs.Valid.{IsFullyIndexed}
-use Rattle.recorder.specs.declared.options.RecordOptions.{RecordOptions}
+use Rattle.mcap_model.specs.declared.options.RecordOptions.{RecordOptions}
 use Rattle.recorder.specs.declared.report.Report.{Report}
 use Rattle.recorder.specs.Assembled.{LanePart, Assembled}
 use Rattle.feed_lane.specs.declared.report.FeedReport.{FeedReport}

@@ -4,7 +4,6 @@
 
 mod lanes;
 pub mod laws;
-mod options;
 mod recording;
 mod report;
 mod rousing;
@@ -13,7 +12,6 @@ mod writer;
 
 pub use feed_lane::{Accepted, DeclaredAt, FeedEnd, FeedReport, Refusals, Refused};
 pub use listing::Listing;
-pub use options::RecordOptions;
 pub use record_core::CallRefused;
 pub use recording::{
     Onto, Ran, Ready, Recording, Room, make_ready, make_room, record, record_onto,

@@ -20,7 +20,6 @@ ghost use Rattle.recorder.specs.Onto.{TapeIsWritten, IsAll, IsReported, tape_sid
 ghost use Rattle.recorder.specs.Recorded.{sides, Recorded};
 
 use crate::lanes::{Lane, Lanes};
-use crate::options::RecordOptions;
 use crate::report::Report;
 use crate::unopened::{Unwritten, run_unwritten, stop_unread};
 use crate::writer::{Writer, Written};
@@ -29,7 +28,7 @@ use buffer_swap::{Drain, Turn, meet};
 use chunk_writer::{Scribe, Tape};
 use feed_lane::FeedReport;
 use mcap_io::{LiveStore, Source};
-use mcap_model::Stop;
+use mcap_model::{RecordOptions, Stop};
 use mcap_wire::Memory;
 use record_cache::Cache;
 use record_core::Desk;

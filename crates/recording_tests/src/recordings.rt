@@ -4,9 +4,9 @@ ghost use Rattle.mcap_wire.specs.RecordingLimits.{buffer_limit};
 
 use crate::same::{holds, holds_at};
 use io_memory::{FailingWrite, MemoryLive, MemorySource};
-use mcap_model::{End, FileOptions, Stop};
+use mcap_model::{End, FileOptions, RecordOptions, Stop};
 use mcap_wire::{Memory, Text};
-use recorder::{FeedEnd, FeedReport, RecordOptions, Recording, Report, record};
+use recorder::{FeedEnd, FeedReport, Recording, Report, record};
 use std::alloc::Global;
 use std::sync::Wait;
 use std::test::Fail;

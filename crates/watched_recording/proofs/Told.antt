@@ -25,7 +25,7 @@ use Rattle.chunk_writer.specs.Stops.{numbers, StopsAt, StopCause, Cause}
 use Rattle.chunk_writer.specs.Scribes.{WritesHistory, store_of, phase_of, blocks_of, planned_bytes}
 use Rattle.chunk_writer.specs.Tapes.{KeepsCause, seen_store}
 use Rattle.chunk_writer.proofs.Planned.{length-front}
-use Rattle.recorder.specs.declared.options.RecordOptions.{RecordOptions}
+use Rattle.mcap_model.specs.declared.options.RecordOptions.{RecordOptions}
 use Rattle.recorder.specs.declared.report.Report.{Report}
 use Rattle.recorder.specs.declared.report.WriterReport.{WriterReport}
 use Rattle.recorder.specs.Recorded.{answer_of, sides, WriterRecorded}

@@ -13,7 +13,7 @@ use Rattle.feed_lane.specs.Lanes.{InStep}
 use Rattle.live_directory.specs.declared.front.Added.{Added}
 use Rattle.live_directory.specs.Reading.{unread}
 use Rattle.live_directory.specs.Published.{at_most_one}
-use Rattle.recorder.specs.declared.options.RecordOptions.{RecordOptions}
+use Rattle.mcap_model.specs.declared.options.RecordOptions.{RecordOptions}
 use Rattle.recorder.specs.declared.report.Report.{Report}
 use Rattle.recorder.specs.Recorded.{Sides, sides, Recorded}
 use Rattle.watching.specs.declared.report.WatchReport.{WatchReport}

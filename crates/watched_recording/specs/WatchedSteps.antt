@@ -2,7 +2,7 @@
 use Rattle.std.specs.Prelude.{◌≡◌, ℕ, List, true, Option, Some, ◌⊎◌, ◌≤◌, [], ◌∷◌, length, map, Bool, false, None, Result, Ok, Err, IsSome}
 use Rattle.mcap_model.specs.declared.replay.Range.{Range}
 use Rattle.mcap_model.specs.Places.{Each}
-use Rattle.recorder.specs.declared.options.RecordOptions.{RecordOptions}
+use Rattle.mcap_model.specs.declared.options.RecordOptions.{RecordOptions}
 use Rattle.recorder.specs.declared.report.Report.{Report}
 use Rattle.recorder.specs.Recorded.{AreReadable, Sides, sides, Recorded}
 use Rattle.watched_recording.specs.Files.{IsWatchedFile}

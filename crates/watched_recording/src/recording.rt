@@ -22,9 +22,9 @@ use crate::seats::{AllLeft, Unviewed, finish_seats, left_room, make_seats, run_s
 use live_directory::{Directory, Naming, Note, Opened, Reader, open_directory};
 use live_entry::Entry;
 use mcap_io::{Extent, LiveStore, LiveView, Sink, Source};
-use mcap_model::Range;
+use mcap_model::{Range, RecordOptions};
 use mcap_wire::Memory;
-use recorder::{Ready, RecordOptions, Recording, Report, Room, make_ready, make_room, record};
+use recorder::{Ready, Recording, Report, Room, make_ready, make_room, record};
 use std::alloc::Global;
 use std::marker::Brand;
 use std::sync::Wait;

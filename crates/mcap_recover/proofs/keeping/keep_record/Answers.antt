@@ -25,7 +25,6 @@ returns-in-3-clause-takes g c = one_taken g.L.LiveStore.state c.args.k.now c.kee
 pub returns-in-4-clause-takes : goal.returns-in-4-clause-takes
 returns-in-4-clause-takes g c = one_taken g.L.LiveStore.state c.args.k.now c.keep_channel.new.k c.args.frame c.args.op 4 c.args.content.now c.in-4.is refl refl c.keep_channel.ensures.takes
 
-
 pub returns-then-is_extra_kind-clause-takes : goal.returns-then-is_extra_kind-clause-takes
 returns-then-is_extra_kind-clause-takes g c =
     let t = top c.args.op c.args.content.now in
