@@ -38,3 +38,4 @@ pub mod Declarations
 pub mod Chunked
 pub mod Judging
 pub mod Plain
+pub mod RecordViews

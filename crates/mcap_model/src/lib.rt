@@ -23,6 +23,7 @@ mod taking;
 mod times;
 mod topics;
 mod tops;
+mod views;
 
 pub use block::{Block, IndexPart};
 pub use checked::{Counts, Verdict};
@@ -38,3 +39,4 @@ pub use table::Table;
 pub use tables::{Ruling, Tables};
 pub use topics::topics_of;
 pub use tops::{Judged, judge, judge_first};
+pub use views::{RecordView, view_record};
