@@ -1,5 +1,7 @@
 //! Records that are put as values, and the vectors of blocks.
-ghost use Rattle.std.specs.Prelude.{◌≤◌};
+ghost use Rattle.std.specs.Prelude.{◌≡◌, ◌≤◌, true, IfOk};
+ghost use Rattle.rec_data.specs.OwnedReading.{LengthsFit};
+ghost use Rattle.mcap_model.specs.History.{is_inner};
 
 use crate::same::holds_at;
 use chunk_build::Chunker;
@@ -29,11 +31,35 @@ fn block() -> &'static [u8] {
     \x07\x16\0\0\0\0\0\0\0\x01\0\x10\0\0\0\x0a\0\0\0\0\0\0\0\x1b\0\0\0\0\0\0\0"
 }
 
-// Puts a record.
-fn put(alloc: Global, chunker: &mut Chunker, framed: &[u8]) -> Result<Option<Block>, Fail> {
+// Whether it is a Schema, a Channel or a Message.
+fn stands_inside(r: &Rec) -> bool
+    ensures { result ≡ is_inner r.now }
+{
+    match r {
+        Rec::Schema { .. } => true,
+        Rec::Channel { .. } => true,
+        Rec::Message { .. } => true,
+        Rec::Extra { .. } => false,
+    }
+}
+
+/// The record of these bytes, which is no extra.
+pub(crate) fn record_of(alloc: Global, framed: &[u8]) -> Result<Rec, Fail>
+    ensures fits { IfOk result LengthsFit }
+    ensures inner { IfOk result (λ r. is_inner r ≡ true) }
+{
     let Some(record) = Rec::from_framed(alloc, framed)? else {
         return Err(Fail::from("no record"));
     };
+    if !stands_inside(&record) {
+        return Err(Fail::from("an extra"));
+    }
+    Ok(record)
+}
+
+// Puts a record.
+fn put(alloc: Global, chunker: &mut Chunker, framed: &[u8]) -> Result<Option<Block>, Fail> {
+    let record = record_of(alloc, framed)?;
     Ok(chunker.put(&record)?)
 }
 
@@ -71,7 +97,7 @@ fn new_fills_both(alloc: Global, size: u64) -> Result<bool, Fail>
     requires some { 1 ≤ size }
     requires small { size ≤ 1000 }
 {
-    let mut chunker = Chunker::new(alloc, size)?;
+    let mut chunker = Chunker::new(alloc, size, None)?;
     fills_both(alloc, &mut chunker)
 }
 
