@@ -1,43 +1,38 @@
 -- What a recovery leaves where it ends.
-use Rattle.std.proofs.Common.{◌≡◌, ◌⊎◌, ℕ, zero, suc, ◌+◌, ◌≤◌, ◌<◌, ◌-◌, ◌^◌, min, Bool, true, false, List, [], ◌∷◌, ◌++◌, length, take, drop, Option, Some, Result, Ok, Err, refl, sym, ap, subst, inl, inr, ◌∙◌, append_assoc, append-nil, arith}
+use Rattle.std.proofs.Common.{◌≡◌, ℕ, zero, suc, ◌+◌, ◌≤◌, Bool, true, false, List, [], ◌∷◌, ◌++◌, length, take, drop, Some, Result, Ok, Err, refl, sym, ap, subst, inl, inr, ◌∙◌, append-nil, arith}
 use Rattle.std.specs.Prelude.{filter, fold, if◌then◌else◌}
 use Rattle.std.specs.List.{AllZip, list_any}
 use Rattle.std.proofs.lemmas.List.{length-append}
-use Rattle.std.proofs.lemmas.Grind.{flat_map-append}
-use Rattle.mcap_wire.specs.Layout.{magic, text_length, bytes_length}
-use Rattle.mcap_wire.proofs.Contents.{shows_decided}
+use Rattle.mcap_wire.specs.Layout.{text_length, bytes_length}
 use Rattle.rec_data.specs.declared.owned.Rec.{Rec}
-use Rattle.rec_data.specs.Records.{header_kinds}
-use Rattle.rec_data.proofs.OwnedReading.{shown_once}
-use Rattle.mcap_io.specs.Outside.{SourceState, LiveState, RisesOnce, Adds}
+use Rattle.mcap_io.specs.Outside.{SourceState, LiveState}
 use Rattle.mcap_model.specs.declared.options.FileOptions.{FileOptions}
 use Rattle.mcap_model.specs.declared.ends.Stop.{Stop}
 use Rattle.mcap_model.specs.declared.ends.Stop.TheVariants as stops
-use Rattle.mcap_model.specs.Tops.{Top, Tops, Begins, top_bytes, spelled, offset_behind, flat, flattened, is_flat_kind, is_chunk, inner_tops, chunk_records, records_in, first_records, begins_record, behind_first, first_top}
+use Rattle.mcap_model.specs.Tops.{Top, Begins, top_bytes, spelled, offset_behind, flat, flattened, is_flat_kind, is_chunk, inner_tops, chunk_records, records_in, first_records, begins_record, behind_first, first_top}
 use Rattle.mcap_wire.proofs.Framing.{length-framed}
 use Rattle.mcap_recover.proofs.Reading.{good_within}
 use Rattle.mcap_recover.specs.declared.answers.Recovered.{Recovered}
 use Rattle.mcap_model.specs.Rules.{V1}
-use Rattle.mcap_model.specs.Kept.{Good, Kept, reading_limits, Halt, at_end, grammar, compressed, beyond, HaltsThere, HaltsAt, Halts, no_magic, behind_kept, at_data_end, short_head, zero_opcode, past_limit, cut_short, packed_chunk, broken_rule}
-use Rattle.mcap_model.specs.History.{kept_with, without_repeats, is_message, declare_same}
-use Rattle.mcap_model.specs.Pieces.{file_pieces, joined}
+use Rattle.mcap_model.specs.Kept.{Good, Kept, reading_limits, Halt, at_end, grammar, compressed, beyond, HaltsThere, HaltsAt, no_magic, behind_kept, at_data_end, short_head, zero_opcode, past_limit, cut_short, packed_chunk, broken_rule}
+use Rattle.mcap_model.specs.History.{kept_with, is_message, declare_same}
+use Rattle.mcap_model.specs.Pieces.{file_pieces}
 use Rattle.mcap_model.specs.File.{file_of, IsPrefix}
-use Rattle.mcap_model.specs.Written.{IsRec, AreFlatRecords}
-use Rattle.mcap_model.specs.Repaired.{is_extra, ProfileIs, Repairs, Repaired}
+use Rattle.mcap_model.specs.Written.{IsRec}
+use Rattle.mcap_model.specs.Repaired.{is_extra, ProfileIs, Repairs}
 use Rattle.mcap_model.proofs.Readings.{kept_once}
 use Rattle.mcap_model.proofs.Places.{at_none}
 use Rattle.mcap_model.proofs.Repairs.{profile_once, repairs_once, repairs_go_on, good_records_are_kept}
 use Rattle.mcap_model.proofs.Pieces.{pieces_make_files, stops_leave_prefixes}
 use Rattle.mcap_scan.specs.declared.reader.Reader.{Reader}
-use Rattle.mcap_scan.specs.declared.reader.Stage.TheVariants as stages
 use Rattle.mcap_model.specs.declared.refusals.ReadingRefused.{ReadingRefused}
 use Rattle.mcap_model.specs.declared.refusals.ReadingRefused.TheVariants as scans
 use Rattle.mcap_model.specs.declared.rules.Rule.{Rule}
-use Rattle.mcap_scan.specs.RefusedReadings.{HaltsSo, FaultStands, MemoryStands, RefusalStands}
+use Rattle.mcap_scan.specs.RefusedReadings.{HaltsSo, RefusalStands}
 use Rattle.record_walk.specs.declared.flat_reader.FlatReader.{FlatReader}
 use Rattle.chunk_writer.specs.declared.tape.Written.{Written}
 use Rattle.chunk_writer.specs.Stops.{numbers, StopsAt, StopCause}
-use Rattle.chunk_writer.specs.Scribes.{ScribeStands, phase_of, blocks_of, planned_bytes, store_of}
+use Rattle.chunk_writer.specs.Scribes.{phase_of, blocks_of, planned_bytes}
 use Rattle.chunk_writer.specs.declared.phase.Phase.TheVariants as phases
 use Rattle.chunk_writer.proofs.Writing.{holding}
 use Rattle.chunk_writer.proofs.Stopping.{put_lacks}
@@ -50,7 +45,7 @@ use Rattle.mcap_recover.specs.declared.answers.RecoverRefused.{RecoverRefused}
 use Rattle.mcap_recover.specs.declared.answers.RecoverRefused.TheVariants as refusals
 use Rattle.mcap_recover.specs.Keeping.{KeepingStandsFor, counted}
 use Rattle.mcap_recover.specs.Readings.{GrammarTold, RefusalTold, HaltTold, OverSo, KeepsNone, Repairing, KeptOf, origin, ReadingCameToEnd, IsStopped, BeginsFile, BeginsReading}
-use Rattle.mcap_recover.specs.Recovering.{HasMagic, lacks, recovered_options, TellsHalt, OfRead, OfBoth, OfRepaired, StandsPart, LacksMagic, FaultsStill, Recovers}
+use Rattle.mcap_recover.specs.Recovering.{HasMagic, lacks, recovered_options, TellsHalt, OfBoth, StandsPart, Recovers}
 use Rattle.mcap_recover.specs.RecoverySteps.{FinishesFile}
 
 -- ---- the first ones of some records
@@ -112,22 +107,6 @@ of_none chunk before holds each = record {
     stands = each (recovered_options [] chunk) [] [];
   };
   of_repaired = λ bytes told profile extras history repaired. each (recovered_options profile chunk) extras history;
-}
-
-of_part : (chunk : ℕ) (before : SourceState) (holds others : FileOptions → List Top → List Rec → Type 0) → ((options : FileOptions) (extras : List Top) (history : List Rec) → holds options extras history → others options extras history)
-    → OfBoth chunk before holds → OfBoth chunk before others
-of_part chunk before holds others weaker both = record {
-  of_read = let it = both.of_read in record {
-    tops = it.tops;
-    good = it.good;
-    read = it.read;
-    profile = it.profile;
-    extras = it.extras;
-    history = it.history;
-    repairs = it.repairs;
-    stands = weaker (recovered_options it.profile chunk) it.extras it.history it.stands;
-  };
-  of_repaired = λ bytes told profile extras history repaired. let each = both.of_repaired in weaker (recovered_options profile chunk) extras history (each bytes told profile extras history repaired);
 }
 
 -- ---- first parts of files

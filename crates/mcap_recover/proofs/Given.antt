@@ -1,25 +1,18 @@
 -- What repairing makes of records that were given in their places.
-use Rattle.std.proofs.Common.{◌≡◌, ◌⊎◌, ℕ, zero, suc, ◌+◌, Bool, true, false, List, [], ◌∷◌, ◌++◌, length, map, refl, sym, ap, subst, inl, inr, ◌∙◌, cond, arith}
+use Rattle.std.proofs.Common.{◌≡◌, ◌⊎◌, ℕ, zero, suc, Bool, true, false, List, [], ◌∷◌, ◌++◌, map, refl, sym, ap, subst, inl, inr, ◌∙◌, arith}
 use Rattle.std.specs.Prelude.{filter, fold, if◌then◌else◌}
 use Rattle.std.specs.List.{AllZip}
-use Rattle.std.proofs.lemmas.Bool.{eqb-true, false≢true}
 use Rattle.std.proofs.lemmas.List.{map-append}
 use Rattle.std.proofs.lemmas.List.Elements.{filter-append}
 use Rattle.rec_data.specs.declared.owned.Rec.{Rec}
-use Rattle.mcap_model.specs.Places.{At, Each}
-use Rattle.mcap_model.proofs.Places.{at_none}
-use Rattle.mcap_model.specs.Tops.{Top, Placed, top_bytes, flat, records_in, inner_tops, is_chunk, is_flat_kind, placed_inside}
-use Rattle.mcap_model.specs.WalkedRecords.{walked_one, walked_from, walked}
-use Rattle.mcap_model.specs.Fields.{IsHeader}
-use Rattle.mcap_model.specs.Rules.{V6, V8, stands_in_chunk}
-use Rattle.mcap_model.specs.Kept.{NamesCompression, Good, reading_limits}
+use Rattle.mcap_model.specs.Places.{Each}
+use Rattle.mcap_model.specs.Tops.{Top, Placed, flat, is_flat_kind}
+use Rattle.mcap_model.specs.WalkedRecords.{walked}
+use Rattle.mcap_model.specs.Rules.{V6}
 use Rattle.mcap_model.specs.History.{kept_with, schema_of, channel_of, message_of}
 use Rattle.mcap_model.specs.Written.{IsRec}
 use Rattle.mcap_model.specs.Repaired.{is_extra, ProfileIs, Repairs}
 use Rattle.mcap_model.proofs.Repairs.{fold_more, zip_join}
-use Rattle.mcap_model.proofs.Flat.{named_or}
-use Rattle.mcap_model.proofs.Unpacking.{chunks_are_opened}
-use Rattle.mcap_model.proofs.OpenedChunks.{inside_back}
 use Rattle.record_walk.proofs.Walked.{walked_flat_tops}
 use Rattle.mcap_recover.specs.Keeping.{tops_at}
 use Rattle.mcap_recover.specs.Readings.{RepairsGiven}

@@ -1,32 +1,22 @@
--- What the bytes of a record frame, and the walk over the records of a chunk.
-use Rattle.std.proofs.Common.{◌≡◌, ◌⊎◌, ℕ, ◌+◌, ◌≤◌, Bool, true, false, List, [], ◌∷◌, ◌++◌, length, take, drop, Option, Some, None, refl, sym, ap, subst, inl, inr, ◌∙◌, append_assoc, arith}
+-- What the bytes of a record frame, and what is kept of each kind of record.
+use Rattle.std.proofs.Common.{◌≡◌, ℕ, ◌+◌, Bool, true, false, List, [], ◌∷◌, ◌++◌, Option, Some, None, refl, sym, ap, subst, ◌∙◌, arith}
 use Rattle.std.specs.Prelude.{filter, if◌then◌else◌}
 use Rattle.std.specs.List.{AllZip, list_any}
-use Rattle.std.proofs.lemmas.List.{append-nil, length-append, drop_at, take_at}
-use Rattle.mcap_wire.proofs.Framing.{length-framed}
-use Rattle.std.proofs.lemmas.List.Elements.{filter-append}
 use Rattle.std.proofs.lemmas.Bool.{ne_eqb, false≢true}
-use Rattle.std.proofs.lemmas.Grind.{flat_map-append}
 use Rattle.mcap_wire.specs.Layout.{framed}
 use Rattle.rec_data.specs.declared.owned.Rec.{Rec}
 use Rattle.rec_data.specs.declared.owned.Rec.TheVariants.{Schema, Channel, Message, Extra}
-use Rattle.rec_data.specs.Owned.{rec_bytes, def_fields}
+use Rattle.rec_data.specs.Owned.{def_fields}
 use Rattle.rec_data.proofs.OwnedReading.{rec_shown, extra_not}
 use Rattle.rec_data.specs.Records.{ShowsMessage, ShowsSchema, ShowsChannel, schema_text, channel_text}
 use Rattle.mcap_io.specs.Outside.{LiveState}
-use Rattle.mcap_model.specs.declared.inner.Inner.{Inner}
-use Rattle.mcap_model.specs.Tops.{Top, top_bytes, spelled, records_in, inner_tops, chunk_records, is_chunk, is_flat_kind, flattened, unchunked}
-use Rattle.mcap_model.specs.Fields.{SchemaFields, ChannelFields, MessageFields, ChunkFields, IsChunk}
-use Rattle.mcap_model.specs.Rules.{V6, V10}
+use Rattle.mcap_model.specs.Tops.{Top, is_flat_kind}
+use Rattle.mcap_model.specs.Fields.{SchemaFields, ChannelFields, MessageFields}
 use Rattle.mcap_model.specs.declared.ends.Stop.{Stop}
 use Rattle.mcap_model.specs.History.{schema_of, channel_of, message_of, declare_same}
-use Rattle.mcap_model.specs.ReadBack.{IsExtra}
 use Rattle.mcap_model.specs.Made.{top}
-use Rattle.mcap_model.specs.Walk.{inner_top, StepsOver}
 use Rattle.mcap_model.specs.Repaired.{is_extra}
 use Rattle.mcap_model.specs.Written.{IsRec}
-use Rattle.mcap_model.proofs.Unpacking.{chunks_are_opened}
-use Rattle.mcap_model.proofs.Walks.{WalkedSoFar, walked_all}
 use Rattle.chunk_build.specs.Chunker.{AreFramed}
 use Rattle.mcap_recover.specs.declared.keeping.Keeping.{Keeping}
 use Rattle.chunk_writer.specs.declared.phase.Phase.TheVariants as phases

@@ -1,7 +1,7 @@
 -- What is kept with a record more.
-use Rattle.std.proofs.Common.{◌≡◌, ℕ, ◌+◌, ◌-◌, ◌^◌, min, Bool, true, false, ◌||◌, eqb, List, [], ◌∷◌, ◌++◌, length, map, not, refl, sym, ap, subst, ◌∙◌, append_assoc, arith}
-use Rattle.std.specs.Prelude.{filter, fold, if◌then◌else◌, ◌==◌}
-use Rattle.std.specs.List.{AllZip, list_any}
+use Rattle.std.proofs.Common.{◌≡◌, ℕ, ◌+◌, Bool, true, false, ◌||◌, eqb, List, [], ◌∷◌, ◌++◌, length, map, not, refl, sym, ap, subst, ◌∙◌, arith}
+use Rattle.std.specs.Prelude.{filter, fold, if◌then◌else◌}
+use Rattle.std.specs.List.{list_any}
 use Rattle.std.proofs.lemmas.List.{append-nil, map-append, length-append}
 use Rattle.std.proofs.lemmas.List.Elements.{filter-append}
 use Rattle.rec_data.specs.declared.owned.Rec.{Rec}
@@ -14,7 +14,7 @@ use Rattle.mcap_model.specs.Tops.{Top}
 use Rattle.mcap_model.specs.Fields.{SchemaFields, ChannelFields, MessageFields}
 use Rattle.mcap_model.specs.History.{is_schema, is_channel, is_message, declare_same, kept_with, schema_of, channel_of, message_of}
 use Rattle.mcap_model.specs.Written.{IsRec}
-use Rattle.mcap_model.proofs.Repairs.{kept_new, kept_old, fold_more, fold_grows, zip_parts}
+use Rattle.mcap_model.proofs.Repairs.{kept_new, kept_old, fold_grows}
 use Rattle.chunk_writer.specs.declared.phase.Phase.{Phase}
 use Rattle.chunk_writer.specs.declared.phase.Phase.TheVariants as phases
 use Rattle.chunk_writer.specs.Scribes.{WritesHistory, ScribeGrows, GathersExtra, phase_of}
@@ -27,9 +27,6 @@ going_apart p stop stopped going = cc
 
 pub from_none : {old new more : List ℕ} → old ≡ [] → new ≡ old ++ more → new ≡ more
 from_none {old} {new} {more} none is = is ∙ ap (λ (l : List ℕ). l ++ more) none
-
-pub counted_more : (n : ℕ) → counted (n + 1) ≡ counted (counted n + 1)
-counted_more n = omega arith
 
 pub not_so : (b : Bool) → true ≡ not b → b ≡ false
 not_so true is = absurd (let same : true ≡ false = is in cc)
@@ -102,22 +99,7 @@ pub takes_absurd : {L : Type 0} (seen : L → LiveState) (old new : Keeping L) (
 takes_absurd seen old new t none [] zip = absurd zip
 takes_absurd seen old new t none (s ∷ ss) zip = absurd (none s zip.0)
 
-pub takes_none : {L : Type 0} (seen : L → LiveState) (old : Keeping L) → AddsFlatRecords seen old old []
-takes_none seen old [] zip = adds_none seen old
-takes_none seen old (s ∷ ss) zip = absurd zip
-
 -- ---- several records
-
-pub adds_on : {L : Type 0} (seen : L → LiveState) (old mid new : Keeping L) (one two : List Top) (rs ss : List Rec) → AddsRecords seen old mid one rs → AddsRecords seen mid new two ss → AddsRecords seen old new (one ++ two) (rs ++ ss)
-adds_on seen old mid new one two rs ss first second options extras opened history keeps =
-    subst (λ (l : List Rec). KeepingStandsFor seen options (extras ++ (one ++ two)) opened l new) (sym (fold_more history rs ss))
-    (subst (λ (l : List Top). KeepingStandsFor seen options l opened (fold kept_with (fold kept_with history rs) ss) new) (append_assoc extras one two)
-    (second options (extras ++ one) opened (fold kept_with history rs) (first options extras opened history keeps)))
-
-pub takes_on : {L : Type 0} (seen : L → LiveState) (old mid new : Keeping L) (us vs : List Top) → AddsFlatRecords seen old mid us → AddsFlatRecords seen mid new vs → AddsFlatRecords seen old new (us ++ vs)
-takes_on seen old mid new us vs first second records zip =
-    let (rs, ss, is, one, two) = zip_parts IsRec us vs records zip in
-    subst (λ (l : List Rec). AddsRecords seen old new [] l) (sym is) (adds_on seen old mid new [] [] rs ss (first rs one) (second ss two))
 
 -- one that stopped stands for whatever more
 pub stopped_more : {L : Type 0} (seen : L → LiveState) (options : FileOptions) (extras : List Top) (opened : LiveState) (history ss : List Rec) (k : Keeping L) (stop : Stop) → phase_of k.scribe ≡ phases.Stopped stop
@@ -128,13 +110,6 @@ stopped_more seen options extras opened history ss k stop stopped keeps =
       writes = (stopped_on options opened.held (seen k.scribe.store).held history more k.scribe.plan stop stopped keeps.writes.0, keeps.writes.1, keeps.writes.2);
       counts = λ going. absurd (going_apart (phase_of k.scribe) stop stopped going);
     })
-
-pub takes_stopped : {L : Type 0} (seen : L → LiveState) (old new : Keeping L) (us vs : List Top) (stop : Stop) → phase_of new.scribe ≡ phases.Stopped stop → AddsFlatRecords seen old new us → AddsFlatRecords seen old new (us ++ vs)
-takes_stopped seen old new us vs stop stopped first records zip =
-    let (rs, ss, is, one, two) = zip_parts IsRec us vs records zip in
-    subst (λ (l : List Rec). AddsRecords seen old new [] l) (sym is) (λ options extras opened history keeps.
-    subst (λ (l : List Rec). KeepingStandsFor seen options (extras ++ []) opened l new) (sym (fold_more history rs ss))
-    (stopped_more seen options (extras ++ []) opened (fold kept_with history rs) ss new stop stopped (first rs one options extras opened history keeps)))
 
 -- ---- the counts with a record more
 

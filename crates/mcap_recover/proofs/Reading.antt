@@ -1,10 +1,9 @@
 -- What is kept with a record of a source more.
-use Rattle.std.proofs.Common.{◌≡◌, ◌⊎◌, ℕ, zero, suc, ◌+◌, ◌-◌, ◌≤◌, Bool, true, false, ◌||◌, List, [], ◌∷◌, ◌++◌, length, map, Option, Some, None, Result, Ok, Err, refl, sym, ap, subst, inl, inr, ◌∙◌, append_assoc, append-nil, arith}
+use Rattle.std.proofs.Common.{◌≡◌, ℕ, zero, suc, ◌+◌, ◌-◌, ◌≤◌, Bool, true, false, ◌||◌, List, [], ◌∷◌, ◌++◌, length, Option, Some, None, Result, Ok, Err, refl, sym, ap, subst, inl, inr, ◌∙◌, append_assoc, append-nil, arith}
 use Rattle.std.specs.Prelude.{filter, fold, nat_lt, if◌then◌else◌}
-use Rattle.std.specs.List.{AllZip, flat_map}
+use Rattle.std.specs.List.{AllZip}
 use Rattle.std.proofs.lemmas.Bool.{both_ways, ltb-false}
-use Rattle.std.proofs.lemmas.List.{length-append, map-append}
-use Rattle.std.proofs.lemmas.List.Elements.{filter-append}
+use Rattle.std.proofs.lemmas.List.{length-append}
 use Rattle.std.proofs.lemmas.Grind.{flat_map-append}
 use Rattle.mcap_wire.proofs.Framing.{length-framed, length-string}
 use Rattle.mcap_wire.specs.Layout.{string, framed, magic, part}
@@ -14,34 +13,34 @@ use Rattle.rec_data.specs.Records.{ShowsHeader}
 use Rattle.mcap_io.specs.Outside.{SourceState, LiveState}
 use Rattle.mcap_model.specs.declared.options.FileOptions.{FileOptions}
 use Rattle.mcap_model.specs.declared.ends.Stop.{Stop}
-use Rattle.mcap_model.specs.Places.{At, Each}
+use Rattle.mcap_model.specs.Places.{Each}
 use Rattle.mcap_model.proofs.Places.{each_at}
 use Rattle.mcap_model.proofs.Lists.{at_second}
-use Rattle.mcap_model.specs.Tops.{Top, Placed, Tops, Begins, top_bytes, spelled, offset_behind, flat, is_flat_kind, is_chunk, inner_tops, placed_inside}
+use Rattle.mcap_model.specs.Tops.{Top, Placed, Tops, Begins, top_bytes, spelled, offset_behind, flat, is_flat_kind}
 use Rattle.mcap_model.specs.WalkedRecords.{walked}
 use Rattle.mcap_model.specs.declared.replay.Place.{Place}
-use Rattle.mcap_model.specs.Fields.{SchemaFields, ChannelFields, MessageFields, IsHeader}
-use Rattle.mcap_model.specs.Rules.{V1, V6, V10, HasDataEnd}
-use Rattle.mcap_model.specs.Kept.{Fits, Good, reading_limits, is_beyond, Halt, grammar, compressed, beyond, HaltsAt, no_magic, at_data_end, behind_kept}
-use Rattle.mcap_model.specs.History.{kept_with, without_repeats, schema_of, channel_of, message_of}
+use Rattle.mcap_model.specs.Fields.{IsHeader}
+use Rattle.mcap_model.specs.Rules.{V1, V6, HasDataEnd}
+use Rattle.mcap_model.specs.Kept.{Fits, Good, reading_limits, Halt, grammar, compressed, beyond, HaltsAt, no_magic, at_data_end, behind_kept}
+use Rattle.mcap_model.specs.History.{kept_with}
 use Rattle.mcap_model.specs.Made.{top}
-use Rattle.mcap_model.specs.Written.{IsRec, AreFlatRecords}
-use Rattle.mcap_model.specs.Repaired.{is_extra, ProfileIs, Repairs}
+use Rattle.mcap_model.specs.Written.{IsRec}
+use Rattle.mcap_model.specs.Repaired.{is_extra, Repairs}
 use Rattle.mcap_model.proofs.Repairs.{fold_more, zip_join}
 use Rattle.mcap_scan.specs.declared.reader.Reader.{Reader}
 use Rattle.mcap_scan.specs.declared.reader.Stage.TheVariants as stages
 use Rattle.mcap_scan.specs.declared.reader.Stage.{Stage}
 use Rattle.mcap_model.specs.declared.refusals.ReadingRefused.{ReadingRefused}
 use Rattle.mcap_model.specs.declared.refusals.ReadingRefused.TheVariants as scans
-use Rattle.mcap_scan.specs.Scanning.{content_of, Stands, StageStands, IsOver, IsGoing, Refuses}
+use Rattle.mcap_scan.specs.Scanning.{content_of, Stands, StageStands, IsOver, IsGoing}
 use Rattle.mcap_scan.specs.RefusedReadings.{RefusalStands}
 use Rattle.mcap_scan.proofs.Scanning.{good_stand, lacks_behind}
 use Rattle.chunk_writer.specs.Scribes.{phase_of}
 use Rattle.chunk_writer.specs.declared.phase.Phase.TheVariants as phases
 use Rattle.mcap_recover.specs.declared.keeping.Keeping.{Keeping}
-use Rattle.mcap_recover.specs.Keeping.{KeepingStandsFor, extras_of, AddsOneRecord, IsFrame, tops_at}
+use Rattle.mcap_recover.specs.Keeping.{extras_of, AddsOneRecord, IsFrame, tops_at}
 use Rattle.mcap_recover.specs.declared.recovering.Over.TheVariants as overs
-use Rattle.mcap_recover.specs.Readings.{FirstShows, RepairsGiven, Repairing, KeptOf, origin, ReadingCameToEnd as ReadingIsOver, IsStopped, OverSo, BeginsFile, UnbegunSo, BeginsReading, StartsSo, StartsUntold, HaltsStart, KeepsNone}
+use Rattle.mcap_recover.specs.Readings.{RepairsGiven, Repairing, origin, ReadingCameToEnd as ReadingIsOver, IsStopped, UnbegunSo, BeginsReading, StartsSo, StartsUntold, HaltsStart, KeepsNone}
 use Rattle.mcap_recover.specs.Recovering.{lacks, HasMagic}
 use Rattle.mcap_recover.proofs.Given.{flat_given, repairs_whole, profile_given, given_none, tops_some, recs_ahead, recs_one, repairs_more, not_none}
 use Rattle.mcap_recover.proofs.Keepings.{stopped_more}

@@ -62,13 +62,13 @@ abbrev pub AddsFlatRecords : {L : Type 0} → (L → LiveState) → Keeping L �
 AddsFlatRecords seen before after flat =
     (records : List Rec) → AllZip IsRec flat records → AddsRecords seen before after [] records
 
--- The frame that is at hand tells where a record stands: inside a chunk there is one, and at top level none. So this is the
--- record where it is an extra that is kept, which one inside a chunk isn't, whatever its opcode.
+-- The extra that a record is. Its frame tells where it stands: inside a chunk it is at hand, at top level it isn't; and whatever
+-- its opcode, what stands inside a chunk is no extra.
 abbrev pub extras_of : Option (Bor (List ℕ)) → Top → List Top
 extras_of None t = filter is_extra (t ∷ [])
 extras_of (Some bytes) t = []
 
--- the same of what one record shows, and of what it is where it stands at top level
+-- the same of what one record shows, and of the extra that it is
 abbrev pub AddsOneRecord : {L : Type 0} → (L → LiveState) → Keeping L → Keeping L → Option (Bor (List ℕ)) → Top
     → Type 0
 AddsOneRecord seen before after frame t = (records : List Rec) → AllZip IsRec (filter is_flat_kind (t ∷ [])) records
@@ -80,7 +80,7 @@ AddsOneRecord seen before after frame t = (records : List Rec) → AllZip IsRec 
 abbrev pub tops_at : List Placed → List Top
 tops_at given = map (λ (p : Placed). p.top) given
 
--- the bytes are the record with its head, where it stands inside a chunk
+-- the bytes are the record with its head, where they are at hand
 abbrev pub IsFrame : ℕ → List ℕ → Option (Bor (List ℕ)) → Type 0
 IsFrame op content None = Unit {0}
 IsFrame op content (Some bytes) = bytes.now ≡ framed op content

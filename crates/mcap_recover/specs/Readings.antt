@@ -1,5 +1,5 @@
 -- What is kept of a source that is read, and how its reading ended.
-use Rattle.std.specs.Prelude.{◌≡◌, ◌⊎◌, ℕ, ◌≤◌, List, [], length, filter, Option, Some, Result, Ok, Err}
+use Rattle.std.specs.Prelude.{◌≡◌, ◌⊎◌, ℕ, ◌≤◌, List, [], length, filter, Some, Result, Ok, Err}
 use Rattle.std.specs.List.{AllZip}
 use Rattle.mcap_wire.specs.Layout.{content_limit}
 use Rattle.rec_data.specs.declared.owned.Rec.{Rec}
@@ -7,7 +7,6 @@ use Rattle.mcap_io.specs.Outside.{SourceState, LiveState}
 use Rattle.mcap_model.specs.declared.options.FileOptions.{FileOptions}
 use Rattle.mcap_model.specs.declared.ends.Stop.{Stop}
 use Rattle.mcap_model.specs.Tops.{Top, Placed, Tops, Begins, is_flat_kind}
-use Rattle.mcap_model.specs.WalkedRecords.{walked}
 use Rattle.mcap_model.specs.Kept.{Good, Kept, reading_limits, at_end, grammar}
 use Rattle.mcap_model.specs.History.{without_repeats}
 use Rattle.mcap_model.specs.Written.{IsRec}
@@ -19,7 +18,6 @@ use Rattle.mcap_model.specs.declared.rules.Rule.TheVariants as rules
 use Rattle.mcap_scan.specs.declared.reader.Reader.{Reader}
 use Rattle.mcap_scan.specs.declared.reader.Stage.TheVariants as stages
 use Rattle.mcap_scan.specs.RefusedReadings.{HaltsSo, RefusalStands, FaultStands}
-use Rattle.mcap_scan.specs.Scanning.{IsGoing}
 use Rattle.record_walk.specs.declared.flat_reader.FlatReader.{FlatReader}
 use Rattle.record_walk.specs.Walking.{FlatStands, IsFlatDone}
 use Rattle.chunk_writer.specs.declared.phase.Phase.TheVariants as phases
@@ -64,8 +62,9 @@ OverSo reader before now tops overs.Refused =
 abbrev pub KeepsNone : SourceState → Type 0
 KeepsNone before = (bytes : List ℕ) → before.left ≡ Some bytes → Kept reading_limits bytes []
 
--- What repairing makes of records at top level of which these were given in their places, those inside chunks too: the same as
--- of the records at top level, where all were given. Each one at top level was, so the extras are those of these alone.
+-- What repairing makes of records of which these were given so far in their places, those inside chunks too; where all were
+-- given, it is what repairing makes of the records. Each record at top level that was read was given, and nothing inside a chunk
+-- is an extra, so the extras are those at top level.
 pub record RepairsGiven (tops : List Top) (given : List Placed) (profile : List ℕ) (extras : List Top)
     (history : List Rec) : Type 0 where
   pub profile_is : ProfileIs (tops_at given) profile

@@ -1,5 +1,5 @@
 -- What a recovery leaves, and what it answers.
-use Rattle.std.specs.Prelude.{◌≡◌, ℕ, List, Some, ◌⊎◌, ◌+◌, [], ◌++◌, length, filter, Option, None, Result, Ok, Err}
+use Rattle.std.specs.Prelude.{◌≡◌, ℕ, List, Some, ◌⊎◌, ◌++◌, length, filter, None, Result, Ok, Err}
 use Rattle.mcap_io.specs.Outside.{SourceState, LiveState, RisesOnce, Adds}
 use Rattle.mcap_model.specs.Rules.{V1}
 use Rattle.mcap_model.specs.declared.refusals.ReadingRefused.TheVariants as scans

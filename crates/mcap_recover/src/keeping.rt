@@ -10,7 +10,7 @@ ghost use Rattle.mcap_model.specs.History.{is_message};
 ghost use Rattle.mcap_model.specs.ReadBack.{IsExtra};
 ghost use Rattle.mcap_model.specs.Repaired.{is_extra};
 ghost use Rattle.mcap_model.specs.Rules.{V6, V10};
-ghost use Rattle.chunk_build.specs.Chunker.{AreFramed};
+ghost use Rattle.chunk_build.specs.Chunker.{AreFramed, AreInner};
 ghost use Rattle.chunk_writer.specs.declared.phase.Phase.TheVariants as phases;
 ghost use Rattle.chunk_writer.specs.Stops.{Cause};
 ghost use Rattle.chunk_writer.specs.Scribes.{ScribeGrows, GathersExtra, store_of, phase_of};
@@ -39,10 +39,10 @@ pub(crate) struct Keeping<L> {
     pub(crate) extras: u64,
 }
 
-// Puts a framed record behind the others, and counts it.
+// Puts a framed record that is no extra behind the others, and counts it.
 fn put<L: LiveStore>(k: &mut Keeping<L>, framed: &[u8]) -> Result<(), Stop>
     requires going { phase_of k.old.scribe ≡ phases.Going }
-    requires framed { (r : Rec) × AreFramed framed.now r }
+    requires framed { (r : Rec) × AreInner framed.now r }
     ensures grows { (r : Rec) → AreFramed framed.now r → ScribeGrows L.state k.old.scribe k.new.scribe (r ∷ []) }
     ensures counts { phase_of k.new.scribe ≡ phases.Going → k.new.records ≡ counted (k.old.records + 1) }
     ensures same { (k.new.schemas ≡ k.old.schemas) × (k.new.channels ≡ k.old.channels)

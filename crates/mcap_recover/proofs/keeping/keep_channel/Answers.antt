@@ -1,4 +1,4 @@
-use Rattle.std.proofs.Common.{sym, ap, refl, ◌∙◌, ◌++◌, List, [], ℕ}
+use Rattle.std.proofs.Common.{sym, ap, refl, ◌∙◌}
 use Rattle.rec_data.specs.Parsed.{channel_fields}
 use Rattle.mcap_model.specs.declared.ends.Stop.TheVariants as stops
 use Rattle.mcap_model.specs.History.{channel_of}
@@ -33,7 +33,8 @@ returns-in-Err-frame-clause-takes g c =
 pub put-requires-clause-framed : goal.put-requires-clause-framed
 put-requires-clause-framed g c =
     let r = c.in-Ok.channel in
-    (channel_of r.id (channel_fields r), channel_framed c.as_slice.result.now c.args.content.now r.id (channel_fields r) (c.as_slice.ensures.value ∙ from_none c.new-bytes.ensures.items c.in-Ok-frame.ensures.ok) c.in-Ok.ensures.shown)
+    let framed = channel_framed c.as_slice.result.now c.args.content.now r.id (channel_fields r) (c.as_slice.ensures.value ∙ from_none c.new-bytes.ensures.items c.in-Ok-frame.ensures.ok) c.in-Ok.ensures.shown in
+    (channel_of r.id (channel_fields r), record { framed = framed; inner = refl })
 
 pub returns-clause-takes : goal.returns-clause-takes
 returns-clause-takes g c =

@@ -1,4 +1,4 @@
-use Rattle.std.proofs.Common.{ℕ, ◌+◌, sym, ap, refl, ◌∙◌}
+use Rattle.std.proofs.Common.{ℕ, ◌+◌, refl, ap, ◌∙◌}
 use Rattle.rec_data.specs.Parsed.{message_fields}
 use Rattle.mcap_model.specs.History.{message_of}
 use Rattle.mcap_model.specs.Made.{top}
@@ -13,7 +13,7 @@ returns-in-Err-clause-takes g c = takes_absurd g.L.LiveStore.state c.args.k.now 
 pub put-requires-clause-framed : goal.put-requires-clause-framed
 put-requires-clause-framed g c =
     let m = c.in-Ok.field-0 in
-    (message_of m.channel_id (message_fields m), message_framed c.args.bytes.now c.args.content.now m.channel_id (message_fields m) c.requires.is c.in-Ok.ensures.shown)
+    (message_of m.channel_id (message_fields m), record { framed = message_framed c.args.bytes.now c.args.content.now m.channel_id (message_fields m) c.requires.is c.in-Ok.ensures.shown; inner = refl })
 
 pub returns-in-Err-put-clause-takes : goal.returns-in-Err-put-clause-takes
 returns-in-Err-put-clause-takes g c =

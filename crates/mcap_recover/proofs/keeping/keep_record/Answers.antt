@@ -3,10 +3,10 @@ use Rattle.std.proofs.Common.{◌≡◌, ◌∙◌, ◌∷◌, [], ℕ, List, tr
 use Rattle.std.specs.Prelude.{filter}
 use Rattle.mcap_wire.specs.Layout.{framed}
 use Rattle.mcap_model.specs.Made.{top}
-use Rattle.mcap_recover.proofs.Keepings.{extra_adds, adds_none}
+use Rattle.mcap_recover.proofs.Keepings.{extra_adds}
 use Rattle.mcap_model.specs.Repaired.{is_extra}
 use Rattle.mcap_recover.specs.Keeping.{extras_of, IsFrame}
-use Rattle.mcap_recover.proofs.Inners.{one_taken, other_taken, extra_taken}
+use Rattle.mcap_recover.proofs.Inners.{one_taken, extra_taken}
 use Rattle.mcap_recover.proofs.keeping.keep_record.Goals as goal
 use denote.Ref.{Bor}
 

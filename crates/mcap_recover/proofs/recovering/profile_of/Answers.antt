@@ -3,7 +3,7 @@ use Rattle.std.proofs.Common.{List, ℕ, [], sym, subst}
 use Rattle.rec_data.specs.Records.{ShowsHeader}
 use Rattle.record_walk.specs.declared.flat_reader.FlatStep.{FlatStep}
 use Rattle.record_walk.specs.Walking.{FlatAdvanced}
-use Rattle.mcap_recover.proofs.Reading.{begun_header, begun_lacks, refused_begun}
+use Rattle.mcap_recover.proofs.Reading.{begun_header, refused_begun}
 use Rattle.mcap_recover.proofs.recovering.profile_of.Goals as goal
 
 pub returns-in-Ok : goal.returns-in-Ok

@@ -1,5 +1,5 @@
 -- The new file was ended, or it is said why not.
-use Rattle.std.proofs.Common.{◌≡◌, Err, List, ℕ, [], ◌++◌, refl, sym, ap, subst, ◌∙◌}
+use Rattle.std.proofs.Common.{Err, ℕ, [], refl, sym, ap, subst, ◌∙◌}
 use Rattle.chunk_writer.specs.Scribes.{WritesHistory}
 use Rattle.chunk_writer.specs.Stops.{StopCause}
 use Rattle.mcap_recover.specs.Recovering.{recovered_options, Recovers}
