@@ -47,12 +47,25 @@ fn metadata() -> &'static [u8] {
     b"\x0c\x08\0\0\0\0\0\0\0\0\0\0\0\0\0\0\0"
 }
 
+// A record of an application; one of an opcode that is nobody's; and a Chunk that holds both.
+fn application() -> &'static [u8] {
+    b"\x80\x03\0\0\0\0\0\0\0abc"
+}
+
+fn unknown() -> &'static [u8] {
+    b"\x7f\0\0\0\0\0\0\0\0"
+}
+
+fn chunk_of_both() -> &'static [u8] {
+    b"\x06=\0\0\0\0\0\0\0\0\0\0\0\0\0\0\0\0\0\0\0\0\0\0\0\x15\0\0\0\0\0\0\0\x0b\xa9\x9br\0\0\0\0\x15\0\0\0\0\0\0\0\x80\x03\0\0\0\0\0\0\0abc\x7f\0\0\0\0\0\0\0\0"
+}
+
 fn data_end() -> &'static [u8] {
     b"\x0f\x04\0\0\0\0\0\0\0\0\0\0\0"
 }
 
-// What stands behind the Data End of the file with the Attachment behind its block; with the Metadata; and with the Metadata and
-// the Attachment behind it.
+// What stands behind the Data End of the file with the Attachment behind its block; with the Metadata; and with the application's
+// record, the Metadata and the Attachment.
 fn attachment_summary() -> &'static [u8] {
     b"\x04\x12\0\0\0\0\0\0\0\x01\0\0\0\x02\0\0\0/a\0\0\0\0\0\0\0\0\
     \x0b8\0\0\0\0\0\0\0\x01\0\0\0\0\0\0\0\0\0\x01\0\0\0\x01\0\0\0\0\0\0\0\x01\0\0\0\n\0\0\0\0\0\0\0\n\0\0\0\0\0\0\0\n\0\0\0\x01\0\x01\0\0\0\0\0\0\0\
@@ -79,18 +92,18 @@ fn metadata_summary() -> &'static [u8] {
     \x89MCAP0\r\n"
 }
 
-fn both_summary() -> &'static [u8] {
+fn three_summary() -> &'static [u8] {
     b"\x04\x12\0\0\0\0\0\0\0\x01\0\0\0\x02\0\0\0/a\0\0\0\0\0\0\0\0\
     \x0b8\0\0\0\0\0\0\0\x01\0\0\0\0\0\0\0\0\0\x01\0\0\0\x01\0\0\0\x01\0\0\0\x01\0\0\0\n\0\0\0\0\0\0\0\n\0\0\0\0\0\0\0\n\0\0\0\x01\0\x01\0\0\0\0\0\0\0\
     \x08J\0\0\0\0\0\0\0\n\0\0\0\0\0\0\0\n\0\0\0\0\0\0\0\x22\0\0\0\0\0\0\0l\0\0\0\0\0\0\0\n\0\0\0\x01\0\x8e\0\0\0\0\0\0\0\x1f\0\0\0\0\0\0\0\0\0\0\0;\0\0\0\0\0\0\0;\0\0\0\0\0\0\0\
-    \n0\0\0\0\0\0\0\0\xbe\0\0\0\0\0\0\0-\0\0\0\0\0\0\0\0\0\0\0\0\0\0\0\0\0\0\0\0\0\0\0\0\0\0\0\0\0\0\0\0\0\0\0\0\0\0\0\
-    \r\x14\0\0\0\0\0\0\0\xad\0\0\0\0\0\0\0\x11\0\0\0\0\0\0\0\0\0\0\0\
-    \x0e\x11\0\0\0\0\0\0\0\x04\xf8\0\0\0\0\0\0\0\x1b\0\0\0\0\0\0\0\
-    \x0e\x11\0\0\0\0\0\0\0\x0b\x13\x01\0\0\0\0\0\0A\0\0\0\0\0\0\0\
-    \x0e\x11\0\0\0\0\0\0\0\x08T\x01\0\0\0\0\0\0S\0\0\0\0\0\0\0\
-    \x0e\x11\0\0\0\0\0\0\0\n\xa7\x01\0\0\0\0\0\09\0\0\0\0\0\0\0\
-    \x0e\x11\0\0\0\0\0\0\0\r\xe0\x01\0\0\0\0\0\0\x1d\0\0\0\0\0\0\0\
-    \x02\x14\0\0\0\0\0\0\0\xf8\0\0\0\0\0\0\0\xfd\x01\0\0\0\0\0\0\xa8\xea%\x14\
+    \n0\0\0\0\0\0\0\0\xca\0\0\0\0\0\0\0-\0\0\0\0\0\0\0\0\0\0\0\0\0\0\0\0\0\0\0\0\0\0\0\0\0\0\0\0\0\0\0\0\0\0\0\0\0\0\0\
+    \r\x14\0\0\0\0\0\0\0\xb9\0\0\0\0\0\0\0\x11\0\0\0\0\0\0\0\0\0\0\0\
+    \x0e\x11\0\0\0\0\0\0\0\x04\x04\x01\0\0\0\0\0\0\x1b\0\0\0\0\0\0\0\
+    \x0e\x11\0\0\0\0\0\0\0\x0b\x1f\x01\0\0\0\0\0\0A\0\0\0\0\0\0\0\
+    \x0e\x11\0\0\0\0\0\0\0\x08`\x01\0\0\0\0\0\0S\0\0\0\0\0\0\0\
+    \x0e\x11\0\0\0\0\0\0\0\n\xb3\x01\0\0\0\0\0\09\0\0\0\0\0\0\0\
+    \x0e\x11\0\0\0\0\0\0\0\r\xec\x01\0\0\0\0\0\0\x1d\0\0\0\0\0\0\0\
+    \x02\x14\0\0\0\0\0\0\0\x04\x01\0\0\0\0\0\0\x09\x02\0\0\0\0\0\0[$\xe7=\
     \x89MCAP0\r\n"
 }
 
@@ -175,16 +188,20 @@ fn front(len: usize) -> &'static [u8] {
     }
 }
 
-// An answer without extras, of no record or of the file's two.
-fn kept(messages: u64, at: u64, why: Why) -> Result<Recovered, RecoverRefused> {
+// An answer of no record or of the file's two, and of so many extras.
+fn counted(messages: u64, extras: u64, at: u64, why: Why) -> Result<Recovered, RecoverRefused> {
     let records = if messages == 0 { 0 } else { 2 };
     Ok(Recovered {
         messages,
         records,
-        extras: 0,
+        extras,
         at,
         why,
     })
+}
+
+fn kept(messages: u64, at: u64, why: Why) -> Result<Recovered, RecoverRefused> {
+    counted(messages, 0, at, why)
 }
 
 // Whether these records were recovered, or none since the magic is missing.
@@ -240,13 +257,7 @@ fn each_cut_keeps_what_is_whole(rt: HostRuntime) -> Result<(), Fail> {
 
 // An answer with all of the file's records and so many extras, up to its Data End.
 fn whole(extras: u64, at: u64) -> Result<Recovered, RecoverRefused> {
-    Ok(Recovered {
-        messages: 1,
-        records: 2,
-        extras,
-        at,
-        why: Why::Complete,
-    })
+    counted(1, extras, at, Why::Complete)
 }
 
 #[test]
@@ -273,32 +284,103 @@ fn extras_are_kept_and_indexed(rt: HostRuntime) -> Result<(), Fail> {
     Ok(())
 }
 
-// Extras in front of a block and behind it stand behind it in the new file, in their order.
-#[test]
-fn extras_of_two_kinds_stay_in_order(rt: HostRuntime) -> Result<(), Fail> {
-    let alloc = rt.alloc();
-    let block = match front(173).get(34..) {
+// The file's Chunk and its Message Index.
+fn block() -> &'static [u8] {
+    match front(173).get(34..) {
         Some(block) => block,
         None => front(0),
-    };
+    }
+}
+
+// Whether the bytes begin with these.
+fn begins_with(bytes: &[u8], start: &[u8]) -> bool {
+    match bytes.get(..start.len()) {
+        Some(found) => found == start,
+        None => false,
+    }
+}
+
+// What is recovered of the first bytes of a file, which ends its Header at 34, an application's record at 46, its Chunk at 154, the
+// Message Index at 185, a Metadata at 202, an Attachment at 247 and its Data End at 260; and how far the pieces reach that are whole,
+// in their order in the new file.
+fn cut_among_extras(len: usize) -> (Result<Recovered, RecoverRefused>, bool, usize) {
+    match len {
+        0..=7 => (Err(RecoverRefused::NoMagic), false, 0),
+        8..=33 => (counted(0, 0, 8, Why::Short), false, 0),
+        34..=45 => (counted(0, 0, 34, Why::Short), false, 0),
+        46..=153 => (counted(0, 1, 46, Why::Short), false, 1),
+        154..=184 => (counted(1, 1, 154, Why::Short), true, 1),
+        185..=201 => (counted(1, 1, 185, Why::Short), true, 1),
+        202..=246 => (counted(1, 2, 202, Why::Short), true, 2),
+        247..=259 => (counted(1, 3, 247, Why::Short), true, 3),
+        _ => (counted(1, 3, 260, Why::Complete), true, 3),
+    }
+}
+
+// The new file up to its Data End: with the block or without, and with so many extras.
+fn pieces(alloc: Global, with_block: bool, extras: usize) -> Result<Vec<u8>, Fail> {
+    let block = if with_block { block() } else { front(0) };
+    let first = if extras > 0 { application() } else { front(0) };
+    let second = if extras > 1 { metadata() } else { front(0) };
+    let third = if extras > 2 { attachment() } else { front(0) };
+    joined(alloc, &[front(34), block, first, second, third, data_end()])
+}
+
+// Extras in front of a block and behind it stand behind it in the new file, in their order.
+#[test]
+fn each_cut_keeps_extras_that_are_whole(rt: HostRuntime) -> Result<(), Fail> {
+    let alloc = rt.alloc();
     let cut = joined(
         alloc,
-        &[front(34), metadata(), block, attachment(), data_end()],
-    )?;
-    let text = joined(
-        alloc,
         &[
-            front(173),
+            front(34),
+            application(),
+            block(),
             metadata(),
             attachment(),
             data_end(),
-            both_summary(),
+        ],
+    )?;
+    for len in 0..261 {
+        let found = recovered(alloc, cut.as_slice().get(..len).unwrap_or(front(0)))?;
+        let (answer, with_block, extras) = cut_among_extras(len);
+        holds_at(&rt, is_answer(&found.answer, &answer), &len);
+        let text = pieces(alloc, with_block, extras)?;
+        let begins = len < 8 || begins_with(found.file.as_slice(), text.as_slice());
+        holds_at(&rt, begins, &len);
+    }
+    let found = recovered(alloc, cut.as_slice())?;
+    let text = joined(
+        alloc,
+        &[pieces(alloc, true, 3)?.as_slice(), three_summary()],
+    )?;
+    holds_at(&rt, text.len() == 688, &text.len());
+    holds_at(&rt, found.file.as_slice() == text.as_slice(), &text.len());
+    Ok(())
+}
+
+// An application's record between two Chunks is an extra, one inside the second isn't, and no unknown record is.
+#[test]
+fn application_record_inside_a_chunk_is_dropped(rt: HostRuntime) -> Result<(), Fail> {
+    let alloc = rt.alloc();
+    let cut = joined(
+        alloc,
+        &[
+            front(173),
+            application(),
+            chunk_of_both(),
+            unknown(),
+            data_end(),
         ],
     )?;
     let found = recovered(alloc, cut.as_slice())?;
-    holds_at(&rt, is_answer(&found.answer, &whole(2, 248)), &found.answer);
-    holds_at(&rt, text.len() == 676, &text.len());
-    holds_at(&rt, found.file.as_slice() == text.as_slice(), &text.len());
+    holds_at(&rt, is_answer(&found.answer, &whole(1, 277)), &found.answer);
+    let text = pieces(alloc, true, 1)?;
+    holds_at(
+        &rt,
+        begins_with(found.file.as_slice(), text.as_slice()),
+        &found.file.len(),
+    );
     Ok(())
 }
 
