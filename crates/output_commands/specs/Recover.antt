@@ -54,7 +54,7 @@ pub record HoldsRecovered (chunk : ℕ) (bytes : List ℕ) (r : Recovered) (well
   pub records : r.records ≡ length history
   pub extras_are : r.extras ≡ length extras
   -- that file is within the limits of writing
-  pub within : Holds (length (blocks_in (pieces_of (Some chunk) history))) (length
+  pub within : Holds (length (blocks_in (pieces_of (Some chunk) None history))) (length
       (file_of (recovered_options profile chunk) extras history))
   pub placed : IsPlaced (file_of (recovered_options profile chunk) extras history) well before now
 
