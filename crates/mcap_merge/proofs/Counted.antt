@@ -1,11 +1,13 @@
 -- How many messages and records a history has.
-use Rattle.std.proofs.Common.{◌≡◌, ℕ, ◌+◌, List, [], ◌∷◌, ◌++◌, length, map, fold, refl, ap, ◌∙◌, arith}
+use Rattle.std.proofs.Common.{◌≡◌, ℕ, suc, ◌+◌, true, false, List, [], ◌∷◌, ◌++◌, length, map, fold, refl, ap, ◌∙◌, arith}
 use Rattle.std.specs.Prelude.{filter, min, ◌-◌, ◌^◌}
+use Rattle.std.proofs.lemmas.Bool.{both_ways}
 use Rattle.std.proofs.lemmas.List.{length-map, length-append}
 use Rattle.std.proofs.lemmas.List.Elements.{filter-append}
 use Rattle.rec_data.specs.declared.owned.Rec.{Rec}
-use Rattle.rec_data.specs.declared.owned.Rec.TheVariants.{Schema, Channel, Message}
-use Rattle.mcap_model.specs.History.{message_of, is_message}
+use Rattle.rec_data.specs.declared.owned.Rec.TheVariants.{Schema, Channel, Message, Extra}
+use Rattle.mcap_model.specs.Places.{Each}
+use Rattle.mcap_model.specs.History.{message_of, is_message, is_inner}
 use Rattle.record_core.specs.Ids.{Ids, ids_of, schemas_in, channels_in, channel_place, channel_id, new_records}
 use Rattle.record_core.specs.DeclarationFields.{fields_of_schema}
 use Rattle.record_core.specs.Tables.{content_in, ids_in}
@@ -13,14 +15,18 @@ use Rattle.mcap_merge.specs.declared.answers.Merged.{Merged}
 use Rattle.mcap_merge.specs.declared.joining.Joiner.{Joiner}
 use Rattle.mcap_merge.specs.Uses.{Use, added_by, with_use, history_of}
 use Rattle.mcap_merge.specs.Putting.{CountsMerged}
-use Rattle.mcap_merge.proofs.Merging.{no_message}
+use Rattle.mcap_merge.proofs.Merging.{no_message, inner_all}
 
--- a history is its Schemas, its Channels and its Messages
-kinds_counted : (history : List Rec) → length history ≡ length (filter is_message history) + (length (schemas_in history) + length (channels_in history))
-kinds_counted [] = refl
-kinds_counted (Schema id schema ∷ rs) = omega (arith, kinds_counted rs)
-kinds_counted (Channel id schema topic encoding metadata ∷ rs) = omega (arith, kinds_counted rs)
-kinds_counted (Message channel sequence log_time publish_time payload ∷ rs) = omega (arith, kinds_counted rs)
+rest_inner : (r : Rec) (rs : List Rec) → Each (λ x. is_inner x ≡ true) (r ∷ rs) → Each (λ x. is_inner x ≡ true) rs
+rest_inner r rs inner n x at = inner (suc n) x at
+
+-- a history without extras is its Schemas, its Channels and its Messages
+kinds_counted : (history : List Rec) → Each (λ r. is_inner r ≡ true) history → length history ≡ length (filter is_message history) + (length (schemas_in history) + length (channels_in history))
+kinds_counted [] inner = refl
+kinds_counted (Schema id schema ∷ rs) inner = omega (arith, kinds_counted rs (rest_inner (Schema id schema) rs inner))
+kinds_counted (Channel id schema topic encoding metadata ∷ rs) inner = omega (arith, kinds_counted rs (rest_inner (Channel id schema topic encoding metadata) rs inner))
+kinds_counted (Message channel sequence log_time publish_time payload ∷ rs) inner = omega (arith, kinds_counted rs (rest_inner (Message channel sequence log_time publish_time payload) rs inner))
+kinds_counted (Extra op content ∷ rs) inner = absurd (both_ways false refl (inner 0 (Extra op content) refl))
 
 -- the table has as many contents as the history
 declared_are : (j : Joiner) (history : List Rec) → ids_in j.table ≡ ids_of history → length j.table.schemas + length j.table.channels ≡ length (schemas_in history) + length (channels_in history)
@@ -51,5 +57,5 @@ counts j uses m declared same is messages records =
     let history = history_of uses in
     let from : length (filter is_message history) ≡ 0 + length uses = messages_from [] uses in
     let put : length (filter is_message history) ≡ length uses = omega (arith, from) in
-    let all : m.messages + declared ≡ length history = omega (arith, put, messages, is, declared_are j history same, kinds_counted history) in
+    let all : m.messages + declared ≡ length history = omega (arith, put, messages, is, declared_are j history same, kinds_counted history (inner_all uses)) in
     record { messages = omega (arith, put, messages); records = records ∙ ap (λ (n : ℕ). min n (2 ^ 64 - 1)) all }

@@ -1,13 +1,18 @@
 -- What one call of a scribe adds, and what its file comes to.
-use Rattle.std.proofs.Common.{◌≡◌, ◌⊎◌, ◌∙◌, ℕ, List, [], ◌∷◌, ◌++◌, length, refl, sym, subst, inl, inr, append-nil}
+use Rattle.std.proofs.Common.{◌≡◌, ◌⊎◌, ◌∙◌, ℕ, true, false, List, [], ◌∷◌, ◌++◌, length, refl, sym, subst, inl, inr, append-nil}
 use Rattle.std.specs.Prelude.{Result, Ok, Err}
+use Rattle.std.proofs.lemmas.Bool.{both_ways}
 use Rattle.rec_data.specs.declared.owned.Rec.{Rec}
+use Rattle.rec_data.specs.Owned.{rec_opcode, rec_text}
+use Rattle.rec_data.proofs.OwnedReading.{framed_decided}
 use Rattle.mcap_io.specs.Outside.{LiveState}
 use Rattle.mcap_model.specs.declared.options.FileOptions.{FileOptions}
 use Rattle.mcap_model.specs.declared.ends.Stop.{Stop}
 use Rattle.mcap_model.specs.Tops.{Top}
+use Rattle.mcap_model.specs.History.{is_inner}
 use Rattle.mcap_model.specs.Blocks.{pieces_of, blocks_in}
 use Rattle.mcap_model.specs.File.{file_of}
+use Rattle.chunk_build.specs.Chunker.{AreFramed, AreInner}
 use Rattle.chunk_writer.specs.declared.scribe.Scribe.{Scribe}
 use Rattle.chunk_writer.specs.declared.phase.Phase.TheVariants as phases
 use Rattle.chunk_writer.specs.Stops.{numbers, StopsAt}
@@ -35,6 +40,13 @@ pub grows_adds : {L : Type 0} (seen : L → LiveState) (s t : Scribe L) (r : Rec
 grows_adds seen s t r grows = λ options others opened history writes.
     subst (λ (e : List Top). WritesHistory seen options e opened (history ++ r ∷ []) t) (sym (append-nil others)) (grows options others opened history writes)
 
+-- framed bytes are one record
+pub inner_framed : (framed : List ℕ) (one r : Rec) → AreInner framed one → AreFramed framed r → is_inner r ≡ false → ⊥
+inner_framed framed one r inner is none =
+    let was = inner.framed in
+    let same : one ≡ r = framed_decided framed one r (rec_opcode one, rec_text one, was.spelled, was.shown) (rec_opcode r, rec_text r, is.spelled, is.shown) in
+    both_ways (is_inner r) none (subst (λ (x : Rec). is_inner x ≡ true) same inner.inner)
+
 pub lacks_adds : {L : Type 0} (seen : L → LiveState) (s t : Scribe L) (stop : Stop) (extras : List Top) (records : List Rec) → ((x : Top) → GathersExtra seen s t x) → phase_of t ≡ phases.Stopped stop → AddsTo seen s t extras records
 lacks_adds seen s t stop extras records gathers is = λ options others opened history writes.
     let one : GathersExtra seen s t (record { op = 0; content = [] }) = gathers (record { op = 0; content = [] }) in
@@ -60,7 +72,7 @@ module _ {L : Type 0} (seen : L → LiveState) (options : FileOptions) (opened :
   ended_there all extras history (Ok it) adds (written, ends, within) =
       let whole = ends options extras opened history (adds options [] opened [] begun) in
       let ended = whole.0 in
-      (ended.0, holds_same written.blocks written.bytes (length (blocks_in (pieces_of options.chunk history))) (length (file_of options extras history)) ended.1 ended.2 within, whole.2)
+      (ended.0, holds_same written.blocks written.bytes (length (blocks_in (pieces_of options.chunk options.span history))) (length (file_of options extras history)) ended.1 ended.2 within, whole.2)
   ended_there all extras history (Err stop) adds (written, ends, within) = (written.blocks, written.bytes, (ends options extras opened history (adds options [] opened [] begun)).0)
 
   pub whole_filed : (start : MergeStart) (m : Merged) (end : Result Unit Stop) → EndsWhole (λ s t e r. AddsTo seen s t e r) (λ s t r. EndsWithin seen s t r) start old new m end → WholeStands (FilesAs options end) start opened (seen new.store) m

@@ -13,7 +13,7 @@ use Rattle.rec_data.specs.Records.{ShowsMessage}
 use Rattle.mcap_model.specs.Places.{At, Has}
 use Rattle.mcap_model.specs.Fields.{MessageFields}
 use Rattle.mcap_model.specs.Made.{top}
-use Rattle.mcap_model.specs.Tops.{Top, Placed, top_bytes, unchunked, records_in, is_flat_kind, flattened, flat, placed}
+use Rattle.mcap_model.specs.Tops.{Top, Placed, top_bytes, unchunked, is_flat_kind, flattened, flat, placed}
 use Rattle.mcap_model.specs.Scan.{Seen, IsSeen, Scan, is_message_top, tops_of}
 use Rattle.mcap_model.proofs.Places.{at_none, at_one, at_set, at_set_same}
 use Rattle.mcap_model.proofs.NamedTopics.{unmapped, zip_back}

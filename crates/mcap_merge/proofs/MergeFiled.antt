@@ -40,6 +40,7 @@ use Rattle.mcap_merge.specs.Putting.{MergeStart, WholeStands}
 use Rattle.mcap_merge.specs.Filed.{merged_options, AllTell, TellsNot, MergeIs, FileStands, MergesInto, IsCutBy, MergeIsCut, MergeFails, AsksTwice}
 use Rattle.mcap_merge.specs.Filing.{IsReadyToWrite, FilesAs, FileStops}
 use Rattle.mcap_merge.proofs.Lengths.{history_few}
+use Rattle.mcap_merge.proofs.Merging.{inner_all}
 use Rattle.mcap_merge.proofs.Profiles.{zip_length, held_length}
 use Rattle.mcap_merge.proofs.Sound.{is_sound, merge_sound}
 use Rattle.mcap_merge.proofs.Fitting.{stores_fit_in, asked_sum, peak_is}
@@ -169,7 +170,7 @@ module _ (olds mids : List StoreState) (chunk : ℕ) (r : Ready) (ready : IsRead
         history = history;
         is = whole_is whole.walk whole.texts whole.given us whole.pieces whole.all_given zip;
         messages = counted.messages;
-        records = counted.records ∙ all_counted (length history) (omega (arith, history_few options extras history, file.1.small));
+        records = counted.records ∙ all_counted (length history) (omega (arith, history_few options extras history (inner_all us), file.1.small));
         peak = subst (IsPeak (read_tops reads)) (sym whole.peak) (peak_is reads inputs whole.walk ready.gathered.hold same whole.loaded whole.stands.peak);
         file = file.0;
         within = file.1;

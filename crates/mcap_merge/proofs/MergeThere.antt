@@ -9,13 +9,13 @@ use Rattle.mcap_model.specs.Merged.{Sent, IsFrom, CommonProfile}
 use Rattle.mcap_merge.specs.declared.input.Input.{Input}
 use Rattle.mcap_merge.specs.Inputs.{HoldInputs}
 use Rattle.mcap_merge.specs.ReadInputs.{Read, read_tops}
-use Rattle.mcap_merge.specs.Uses.{Use, history_of, IsUse, AreUses}
+use Rattle.mcap_merge.specs.Uses.{Use, IsUse, AreUses}
 use Rattle.mcap_merge.specs.Contents.{IdsSuffice}
 use Rattle.mcap_merge.specs.GatheringSteps.{IsPrepared}
 use Rattle.mcap_merge.specs.Writing.{extras_of}
 use Rattle.mcap_model.proofs.NamedTopics.{zip_back}
 use Rattle.mcap_merge.proofs.ReadBack.{scan_back}
-use Rattle.mcap_merge.proofs.Merging.{merges_all, flat_kinds, zip_weaker}
+use Rattle.mcap_merge.proofs.Merging.{merges_all, inner_all, zip_weaker}
 use Rattle.mcap_merge.proofs.Sources.{AreScanned, are_scanned}
 use Rattle.mcap_merge.proofs.InTurn.{messages_there, extras_are}
 use Rattle.mcap_merge.proofs.FewIds.{IsWholeUse, history_back}
@@ -65,7 +65,7 @@ merge_there reads profile scanned suffice common =
       merge = record {
         profile_is = common;
         extras_are = refl;
-        flat_kinds = flat_kinds (history_of uses);
+        inner = inner_all uses;
         numbered = merges.numbered;
         messages = messages;
         in_turn = turn;

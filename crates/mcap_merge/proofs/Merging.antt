@@ -4,18 +4,17 @@ use Rattle.std.specs.Prelude.{filter}
 use Rattle.std.specs.List.{AllZip}
 use Rattle.std.proofs.lemmas.List.Elements.{filter-append}
 use Rattle.rec_data.specs.declared.owned.Rec.{Rec}
-use Rattle.rec_data.specs.declared.owned.Rec.TheVariants.{Schema, Channel, Message}
 use Rattle.rec_data.specs.declared.schema.SchemaDef.{SchemaDef}
 use Rattle.rec_data.specs.declared.channel.ChannelDef.{ChannelDef}
 use Rattle.rec_data.specs.Owned.{def_fields}
 use Rattle.mcap_model.specs.Places.{At, Each}
-use Rattle.mcap_model.specs.Tops.{Top, is_flat_kind, flat}
+use Rattle.mcap_model.specs.Tops.{Top, flat}
 use Rattle.mcap_model.specs.Fields.{SchemaFields, ChannelFields, MessageFields}
-use Rattle.mcap_model.specs.History.{schema_of, channel_of, message_of, is_message, rec_top, ChannelFollows, MessageFollows, Follows, Numbered}
+use Rattle.mcap_model.specs.History.{schema_of, channel_of, message_of, is_message, is_inner, ChannelFollows, MessageFollows, Follows, Numbered}
 use Rattle.mcap_model.specs.Written.{SchemaIs}
 use Rattle.mcap_model.proofs.Places.{at_none, at_one, at_kept, at_last, each_more}
-use Rattle.mcap_model.proofs.Lists.{at_either, at_second, has_taken}
-use Rattle.mcap_model.proofs.OneMore.{zip_push}
+use Rattle.mcap_model.proofs.Lists.{at_either, at_second, each_joined, has_taken}
+use Rattle.mcap_model.proofs.OneMore.{zip_push, each_last}
 use Rattle.mcap_model.proofs.ReadBack.{schema_id_below}
 use Rattle.record_core.specs.Ids.{Ids, ids_of, schemas_in, channels_in, same_schema, same_channel, fields_of_channel, schema_place, id_at, schema_id, channel_place, channel_id, new_schema_at, new_schema, new_at, new_records}
 use Rattle.record_core.specs.DeclarationFields.{fields_of_schema}
@@ -261,8 +260,34 @@ merges_all inputs messages uses used = merges_from inputs [] messages [] uses (r
   placed = λ n r at. absurd (at_none n r at);
 }) used
 
+-- ---- no extra is put
+
+abbrev Inner : Rec → Type 0
+Inner r = is_inner r ≡ true
+
+none_inner : Each Inner []
+none_inner n r at = absurd (at_none n r at)
+
+new_inner : (ids : Ids) (d : ChannelDef) (place : Option ℕ) → Each Inner (new_at place ids d)
+new_inner ids d (Some k) = none_inner
+new_inner ids d None = each_last Inner (new_schema ids d.schema) _ (schema_inner d.schema) refl
+  where
+    spot_inner : (spot : Option ℕ) (count : ℕ) (s : SchemaDef) → Each Inner (new_schema_at spot count s)
+    spot_inner (Some k) count s = none_inner
+    spot_inner None count s = each_last Inner [] (schema_of (count + 1) (fields_of_schema s)) none_inner refl
+
+    schema_inner : (o : Option SchemaDef) → Each Inner (new_schema ids o)
+    schema_inner None = none_inner
+    schema_inner (Some s) = spot_inner (schema_place ids s) (length ids.schemas) s
+
+inner_from : (h : List Rec) (uses : List Use) → Each Inner h → Each Inner (fold with_use h uses)
+inner_from h [] inner = inner
+inner_from h (u ∷ us) inner =
+    let ids = ids_of h in
+    let place = channel_place ids u.content in
+    let added = each_last Inner (new_records ids u.content) (message_of (channel_id ids u.content) u.message) (new_inner ids u.content place) refl in
+    inner_from (with_use h u) us (each_joined Inner h (added_by h u) inner added)
+
 -- all are Schemas, Channels and Messages
-pub flat_kinds : (h : List Rec) → Each (λ r. is_flat_kind (rec_top r) ≡ true) h
-flat_kinds h n (Schema id schema) at = refl
-flat_kinds h n (Channel id schema topic encoding metadata) at = refl
-flat_kinds h n (Message channel sequence log_time publish_time payload) at = refl
+pub inner_all : (uses : List Use) → Each (λ r. is_inner r ≡ true) (history_of uses)
+inner_all uses = inner_from [] uses none_inner

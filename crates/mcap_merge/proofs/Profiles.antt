@@ -1,15 +1,15 @@
 -- Profiles and extras of inputs.
-use Rattle.std.proofs.Common.{◌≡◌, ◌⊎◌, ℕ, suc, ◌+◌, Bool, true, false, inl, inr, List, [], ◌∷◌, ◌++◌, length, take, refl, sym, ap, subst, ◌∙◌, append_assoc, append-nil}
-use Rattle.std.specs.Prelude.{filter, ◌||◌, ◌==◌}
+use Rattle.std.proofs.Common.{◌≡◌, ℕ, suc, ◌+◌, Bool, true, false, inl, inr, List, [], ◌∷◌, ◌++◌, length, take, refl, sym, ap, subst, ◌∙◌, append_assoc, append-nil}
+use Rattle.std.specs.Prelude.{filter, ◌||◌, ◌==◌, nat_le}
 use Rattle.std.specs.List.{AllZip}
-use Rattle.std.proofs.lemmas.Bool.{eqb-true, both_ways}
+use Rattle.std.proofs.lemmas.Bool.{eqb-true, leb-true, both_ways}
 use Rattle.std.proofs.lemmas.Grind.{flat_map-append}
 use Rattle.mcap_wire.proofs.Contents.{shows_decided}
 use Rattle.rec_data.specs.Records.{header_kinds, header_values}
 use Rattle.mcap_model.specs.Places.{At, Each}
 use Rattle.mcap_model.specs.Tops.{Top}
 use Rattle.mcap_model.specs.Kept.{reading_limits, Good}
-use Rattle.mcap_model.specs.ReadBack.{IsExtra}
+use Rattle.mcap_model.specs.ReadBack.{IsExtraKind, IsExtra}
 use Rattle.mcap_model.specs.Repaired.{is_extra, ProfileIs}
 use Rattle.mcap_model.proofs.Lists.{cut_at, filter_passed}
 use Rattle.mcap_model.proofs.NamedTopics.{zip_front, zip_back, unmapped}
@@ -85,16 +85,17 @@ inputs_rest xs k x at =
 
 -- ---- what is held of extras keeps their rules
 
-kind_by : (t : Top) (one other : Bool) → (t.op == 9) ≡ one → (t.op == 12) ≡ other → (one || other) ≡ true → (t.op ≡ 9) ⊎ (t.op ≡ 12)
-kind_by t true other first second is = inl (eqb-true t.op 9 first)
-kind_by t false true first second is = inr (eqb-true t.op 12 second)
-kind_by t false false first second is = absurd (both_ways false refl is)
+kind_by : (op : ℕ) (a b c : Bool) → (op == 9) ≡ a → (op == 12) ≡ b → nat_le 128 op ≡ c → (a || (b || c)) ≡ true → IsExtraKind op
+kind_by op true b c nine twelve high is = inl (eqb-true op 9 nine)
+kind_by op false true c nine twelve high is = inr (inl (eqb-true op 12 twelve))
+kind_by op false false true nine twelve high is = inr (inr (leb-true 128 op high))
+kind_by op false false false nine twelve high is = absurd (both_ways false refl is)
 
 extra_meets : (tops : List Top) (n : ℕ) (t : Top) → Good reading_limits tops → At (filter is_extra tops) n t → IsExtra t
 extra_meets tops n t good at =
     let passed = filter_passed is_extra tops n t at in
     let fits = good passed.0.0 t passed.0.1 in
-    record { kind = kind_by t (t.op == 9) (t.op == 12) refl refl passed.1; v6 = fits.v6; v10 = fits.v10 }
+    record { kind = kind_by t.op (t.op == 9) (t.op == 12) (nat_le 128 t.op) refl refl refl passed.1; v6 = fits.v6; v10 = fits.v10 }
 
 pub meet_all : (reads : List Read) (inputs : List Input) → HoldInputs reads inputs → ExtrasMeet inputs
 meet_all reads inputs hold k i at n e there =

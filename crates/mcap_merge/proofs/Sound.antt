@@ -23,7 +23,7 @@ use Rattle.mcap_merge.specs.Uses.{Use, history_of, IsUse, AreUses}
 use Rattle.mcap_merge.specs.Contents.{IdsSuffice}
 use Rattle.mcap_merge.specs.Turns.{IsUseOfTurn}
 use Rattle.mcap_merge.specs.Sound.{LoggedInTurn, IsSoundHistory}
-use Rattle.mcap_merge.proofs.Merging.{merges_all, flat_kinds}
+use Rattle.mcap_merge.proofs.Merging.{merges_all, inner_all}
 use Rattle.mcap_merge.proofs.ReadBack.{message_back}
 use Rattle.mcap_merge.proofs.FewIds.{IsWholeUse, history_back}
 
@@ -83,7 +83,7 @@ is_sound all texts given uses extras suffice zip rise meet =
     let put = sents_for all texts given uses zip in
     let merges = merges_all all put.sents uses put.used in
     record {
-      flat_kinds = flat_kinds history;
+      inner = inner_all uses;
       numbered = merges.numbered;
       placed = merges.placed;
       back = history_back all uses suffice (λ n u at. let found = zip_back (IsUseOfTurn all texts) given uses n u zip at in whole all texts found.0 u found.2);
@@ -107,7 +107,7 @@ not_later m n (inr same) = omega (arith, same.0)
 -- the records of a merge are sound where they are read back
 pub merge_sound : (inputs : List (List Top)) (profile : List ℕ) (extras : List Top) (history : List Rec) → MergeOf inputs profile extras history → Each IsReadBack history → Each IsExtra extras → IsSoundHistory extras history
 merge_sound inputs profile extras history merge back meet = record {
-  flat_kinds = merge.flat_kinds;
+  inner = merge.inner;
   numbered = merge.numbered;
   placed = merge.placed;
   back = back;

@@ -32,7 +32,7 @@ use Rattle.mcap_merge.specs.Uses.{Use, added_by, with_use, history_of, IsUse, Ar
 use Rattle.mcap_merge.specs.Turns.{IsUseOfTurn}
 use Rattle.mcap_merge.specs.Writing.{extras_of}
 use Rattle.mcap_merge.proofs.Contents.{content_once}
-use Rattle.mcap_merge.proofs.Merging.{merges_all, flat_kinds}
+use Rattle.mcap_merge.proofs.Merging.{merges_all, inner_all}
 use Rattle.mcap_merge.proofs.Sources.{are_scanned}
 use Rattle.mcap_merge.proofs.InTurn.{one_message, extras_are}
 use Rattle.mcap_merge.proofs.Dropped.{dropped}
@@ -143,7 +143,7 @@ merged_told stores reads inputs pieces texts given uses profile told all are com
     record {
       profile_is = common;
       extras_are = extras_are reads inputs told.listed.hold;
-      flat_kinds = flat_kinds (history_of uses);
+      inner = inner_all uses;
       numbered = merges.numbered;
       messages = them.messages;
       in_turn = them.in_turn;

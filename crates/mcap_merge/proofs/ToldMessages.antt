@@ -1,17 +1,17 @@
 -- The messages of a file, as the bytes of its spans have them.
-use Rattle.std.proofs.Common.{◌≡◌, ℕ, ◌+◌, ◌≤◌, Bool, true, false, eqb, List, [], ◌∷◌, ◌++◌, length, take, cond, refl, sym, ap, subst, ◌∙◌, arith}
+use Rattle.std.proofs.Common.{◌≡◌, ℕ, ◌+◌, Bool, true, false, eqb, List, [], ◌∷◌, ◌++◌, length, cond, refl, sym, ap, subst, ◌∙◌, arith}
 use Rattle.std.specs.Prelude.{filter, slice_get, if◌then◌else◌}
 use Rattle.std.specs.List.{list_any}
 use Rattle.std.proofs.lemmas.Bool.{eqb-true}
 use Rattle.mcap_model.specs.declared.replay.Place.{Place}
 use Rattle.mcap_model.specs.Places.{At, Has}
-use Rattle.mcap_model.specs.Tops.{Top, spelled, offset_behind, is_chunk, inner_tops, unchunked, records_in, is_flat_kind, Placed, placed_inside, placed_one, placed_from, placed}
+use Rattle.mcap_model.specs.Tops.{Top, spelled, offset_behind, is_chunk, inner_tops, unchunked, is_flat_kind, Placed, placed_inside, placed_one, placed_from, placed}
 use Rattle.mcap_model.specs.Fields.{IsMessage}
 use Rattle.mcap_model.specs.Scan.{Seen, IsSeen, Scan, is_message_top, tops_of}
 use Rattle.mcap_model.proofs.Places.{at_none, at_last}
-use Rattle.mcap_model.proofs.Lists.{cut_at, filter_passed, filter_has}
+use Rattle.mcap_model.proofs.Lists.{filter_passed, filter_has}
 use Rattle.mcap_model.proofs.Members.{has_one}
-use Rattle.mcap_model.proofs.NamedTopics.{zip_front, zip_back, unmapped}
+use Rattle.mcap_model.proofs.NamedTopics.{zip_front, zip_back}
 use Rattle.mcap_model.proofs.Flat.{at_mapped}
 use Rattle.mcap_model.proofs.OpenedChunks.{placed_at}
 use Rattle.chunk_survey.specs.declared.spans.Span.{Span}

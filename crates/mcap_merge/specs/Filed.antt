@@ -1,5 +1,5 @@
 -- What a merge comes to.
-use Rattle.std.specs.Prelude.{◌≡◌, ◌⊎◌, ℕ, ◌*◌, ◌+◌, ◌<◌, ◌≤◌, List, length, filter, Some, Result, Ok, Err}
+use Rattle.std.specs.Prelude.{◌≡◌, ◌⊎◌, ℕ, ◌*◌, ◌+◌, ◌<◌, ◌≤◌, List, length, filter, Some, None, Result, Ok, Err}
 use Rattle.std.specs.List.{AllZip, flat_map}
 use Rattle.rec_data.specs.declared.owned.Rec.{Rec}
 use Rattle.mcap_io.specs.Outside.{LiveState, Adds}
@@ -29,7 +29,7 @@ use Rattle.mcap_merge.specs.Sound.{IsSoundHistory}
 use Rattle.mcap_merge.specs.Overlap.{IsPeak}
 
 abbrev pub merged_options : List ℕ → ℕ → FileOptions
-merged_options profile chunk = record { profile = profile; chunk = Some chunk }
+merged_options profile chunk = record { profile = profile; chunk = Some chunk; span = None }
 
 -- each store tells its bytes
 abbrev pub AllTell : List StoreState → Type 0
@@ -57,7 +57,7 @@ pub record MergesInto (stores news : List StoreState) (opened now : LiveState) (
   pub records : m.records ≡ length history
   pub peak : IsPeak (read_tops is.reads) m.peak
   pub file : Adds opened.held now.held (file_of (merged_options profile chunk) extras history)
-  pub within : Holds (length (blocks_in (pieces_of (Some chunk) history))) (length
+  pub within : Holds (length (blocks_in (pieces_of (Some chunk) None history))) (length
       (file_of (merged_options profile chunk) extras history))
   pub inputs_still : AllZip FaultsStand stores news
   pub still : now.faults ≡ opened.faults
@@ -67,7 +67,8 @@ pub record MergesInto (stores news : List StoreState) (opened now : LiveState) (
 -- piece of it.
 abbrev pub FileStands : FileOptions → List Top → List Rec → LiveState → LiveState → Result Unit Stop → Type 0
 FileStands options extras history opened now (Ok it) = Adds opened.held now.held (file_of options extras history)
-    × Holds (length (blocks_in (pieces_of options.chunk history))) (length (file_of options extras history))
+    × Holds (length (blocks_in (pieces_of options.chunk options.span history)))
+    (length (file_of options extras history))
     × (now.waiting ≡ 0)
 FileStands options extras history opened now (Err stop) =
     (blocks : ℕ) × (bytes : ℕ) × StopsAt options extras history opened.held now.held stop (numbers blocks bytes)

@@ -26,7 +26,7 @@ extra_top e = record { op = e.op; content = e.content }
 abbrev pub extra_tops : List Extra → List Top
 extra_tops extras = map extra_top extras
 
--- an Attachment or a Metadata is kept, and no other record
+-- an Attachment, a Metadata or a record of an application is kept, and no other record
 abbrev pub KeepsExtra : Top → List Extra → List Extra → Type 0
 KeepsExtra t old new = extra_tops new ≡ extra_tops old ++ filter is_extra (t ∷ [])
 

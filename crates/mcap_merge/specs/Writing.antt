@@ -9,7 +9,6 @@ use Rattle.mcap_model.specs.Fields.{MessageFields}
 use Rattle.mcap_model.specs.Declarations.{TablesOf}
 use Rattle.mcap_model.specs.Merged.{IsContent}
 use Rattle.mcap_model.specs.ReadBack.{IsExtra}
-use Rattle.chunk_writer.specs.declared.phase.Phase.TheVariants as phases
 use Rattle.mcap_merge.specs.declared.input.Input.{Input}
 use Rattle.mcap_merge.specs.declared.joining.Joiner.{Joiner}
 use Rattle.mcap_merge.specs.Uses.{Use}

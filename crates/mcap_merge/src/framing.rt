@@ -3,7 +3,7 @@ ghost use Rattle.std.specs.Prelude.{◌≡◌, Some, OnOk};
 ghost use Rattle.mcap_model.specs.History.{schema_of, channel_of, message_of};
 ghost use Rattle.rec_data.specs.Owned.{RecFits};
 ghost use Rattle.rec_data.specs.Parsed.{message_fields};
-ghost use Rattle.chunk_build.specs.Chunker.{AreFramed};
+ghost use Rattle.chunk_build.specs.Chunker.{AreInner};
 ghost use Rattle.record_core.specs.DeclarationFields.{fields_of_schema, fields_with};
 ghost use Rattle.record_core.specs.Sights.{SchemaFits, DefFits};
 
@@ -13,7 +13,7 @@ use rec_data::{Channel, ChannelDef, Message, Schema, SchemaDef};
 /// The Schema of that content, in place of what the vector held.
 pub(crate) fn frame_schema(framed: &mut Vec<u8>, schema: &SchemaDef, id: u16) -> Result<(), Memory>
     requires { SchemaFits (Some schema.now) }
-    ensures { OnOk result (AreFramed framed.new.items (schema_of id (fields_of_schema schema.now))) }
+    ensures { OnOk result (AreInner framed.new.items (schema_of id (fields_of_schema schema.now))) }
 {
     framed.clear();
     Schema {
@@ -33,7 +33,7 @@ pub(crate) fn frame_channel(
     schema_id: u16,
 ) -> Result<(), Memory>
     requires { DefFits channel.now }
-    ensures { OnOk result (AreFramed framed.new.items (channel_of id (fields_with channel.now schema_id))) }
+    ensures { OnOk result (AreInner framed.new.items (channel_of id (fields_with channel.now schema_id))) }
 {
     framed.clear();
     Channel {
@@ -53,7 +53,7 @@ pub(crate) fn frame_message(
     channel: u16,
     message: &Message<'_>,
 ) -> Result<(), Memory>
-    ensures { OnOk result (AreFramed framed.new.items (message_of channel (message_fields message.now))) }
+    ensures { OnOk result (AreInner framed.new.items (message_of channel (message_fields message.now))) }
 {
     framed.clear();
     Message {

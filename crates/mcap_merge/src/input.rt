@@ -1,5 +1,5 @@
-//! What is held of an input: its profile, its declarations, its Attachments and Metadata, where its messages stand, and which
-//! channels have some.
+//! What is held of an input: its profile, its declarations, its extras (Attachments, Metadata and records of applications),
+//! where its messages stand, and which channels have some.
 ghost use Rattle.std.specs.Prelude.{◌≡◌, length, OnOk, IfOk};
 ghost use Rattle.mcap_model.specs.Made.{top};
 ghost use Rattle.mcap_model.specs.declared.refusals.ReadingRefused.{ReadingRefused as Refusal};
@@ -13,11 +13,11 @@ use mcap_io::Source;
 use mcap_model::{ReadingRefused, Tables};
 use mcap_scan::{Reader, Step};
 use mcap_wire::{Bytes, Memory, Text};
-use rec_data::{ATTACHMENT, Header, METADATA};
+use rec_data::{APPLICATION, ATTACHMENT, Header, METADATA};
 use record_walk::MessageHead;
 use std::alloc::Global;
 
-/// An Attachment or a Metadata, as it stands in a file.
+/// An Attachment, a Metadata or a record of an application, as it stands at top level of a file.
 #[derive(Drop)]
 pub(crate) struct Extra {
     pub op: u8,
@@ -35,17 +35,14 @@ pub(crate) struct Input {
     pub used: Vec<bool>,
 }
 
-// Keeps the record, if it is an Attachment or a Metadata.
+// Keeps the record, if it is an Attachment, a Metadata or one of an application.
 fn keep_extra(alloc: Global, extras: &mut Vec<Extra>, op: u8, content: &[u8]) -> Result<(), Memory>
     ensures { OnOk result (KeepsExtra (top op content.now) extras.old.items extras.new.items) }
 {
-    if op != ATTACHMENT && op != METADATA {
+    if op != ATTACHMENT && op != METADATA && op < APPLICATION {
         return Ok(());
     }
-    let content = match Bytes::copied(alloc, content) {
-        Ok(content) => content,
-        Err(memory) => return Err(memory),
-    };
+    let content = Bytes::copied(alloc, content)?;
     match extras.push(Extra { op, content }) {
         Ok(()) => return Ok(()),
         Err(_) => return Err(Memory),

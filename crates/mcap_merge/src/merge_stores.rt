@@ -44,13 +44,12 @@ fn options_of(alloc: Global, profile: &Text, chunk: u64) -> Result<FileOptions, 
     if text.len() as u64 > CONTENT_LIMIT {
         return Err(Memory);
     }
-    match Text::copied(alloc, text) {
-        Ok(profile) => return Ok(FileOptions {
-            profile,
-            chunk: Some(chunk),
-        }),
-        Err(memory) => return Err(memory),
-    }
+    let profile = Text::copied(alloc, text)?;
+    return Ok(FileOptions {
+        profile,
+        chunk: Some(chunk),
+        span: None,
+    });
 }
 
 // Reads all stores, and gets ready what the writing needs.
@@ -128,11 +127,12 @@ fn write_file<T: Store, L: LiveStore>(
     }
 }
 
-/// Merges the stores, which hold whole files, into the live store, behind what it holds, which is nothing where the file is to be
-/// read back. Each is read whole before anything is appended; then its chunks and messages are loaded again, each when its
-/// first message may be next. The counts of what was merged are given, with the most bytes that were held of these at one time.
-/// A refusal for what an input is leaves the live store as it was; one for a fault, the limits on files, a want of memory, or an
-/// input that changed may leave a first part of the file.
+/// Merges the stores, which hold whole files, into the live store, after what it holds, which is nothing where the file is to
+/// be read back. Each is read whole before anything is appended; then its chunks and messages are loaded again, each when its
+/// first message may be next. After the messages come the Attachments, the Metadata and the records of applications (opcodes
+/// from 0x80 on) that stand at top level of the stores, by store and place. The counts of what was merged are given, with the
+/// most bytes that were held of chunks and messages at one time. A refusal for what an input is leaves the live store as it
+/// was; one for a fault, the limits on files, a want of memory, or an input that changed may leave a first part of the file.
 pub fn merge<T: Store, L: LiveStore>(
     alloc: Global,
     stores: &mut Vec<T>,

@@ -6,7 +6,7 @@ ghost use Rattle.mcap_model.specs.declared.ends.Stop.TheVariants as stops;
 ghost use Rattle.mcap_model.specs.Tops.{Top};
 ghost use Rattle.mcap_model.specs.Made.{top};
 ghost use Rattle.mcap_model.specs.ReadBack.{IsExtra};
-ghost use Rattle.chunk_build.specs.Chunker.{AreFramed};
+ghost use Rattle.chunk_build.specs.Chunker.{AreInner};
 ghost use Rattle.chunk_writer.specs.declared.phase.Phase.{Phase as PenPhase};
 ghost use Rattle.chunk_writer.specs.declared.phase.Phase.TheVariants as phases;
 ghost use Rattle.chunk_writer.specs.Stops.{Cause};
@@ -35,16 +35,17 @@ pub(crate) trait Pen {
     ghost adds_all: { (p : Self) (stop : Why) (extras : List Top) (records : List Rec) → phase p ≡ phases.Stopped stop
         → adds p p extras records };
 
-    /// Puts a framed record behind the history.
+    /// Puts a framed record that is no extra behind the history.
     fn put(&mut self, framed: &[u8]) -> Result<(), Stop>
-        requires framed { (r : Rec) × AreFramed framed.now r }
+        requires framed { (r : Rec) × AreInner framed.now r }
         requires going { phase self.old ≡ phases.Going }
-        ensures adds { (r : Rec) → AreFramed framed.now r → adds self.old self.new [] (r ∷ []) }
+        ensures adds { (r : Rec) → AreInner framed.now r → adds self.old self.new [] (r ∷ []) }
         ensures goes_on { OnOk result (phase self.new ≡ phases.Going) }
         ensures stopped { IfErr result (λ stop. phase self.new ≡ phases.Stopped stop) }
         ensures cause { Cause (failures self.old) (failures self.new) result };
 
-    /// Adds an Attachment or a Metadata, which waits for the end of the file. Only memory may lack for it.
+    /// Adds an Attachment, a Metadata or a record of an application, which waits for the end of the file. Only memory may lack
+    /// for it.
     fn add_extra(&mut self, op: u8, content: &[u8]) -> Result<(), Stop>
         requires extra { IsExtra (top op content.now) }
         requires going { phase self.old ≡ phases.Going }
