@@ -33,6 +33,23 @@ const MESSAGE_C: &[u8] =
 const CHANNEL_D: &[u8] =
     b"\x04\x1c\0\0\0\0\0\0\0\x01\0\0\0\x02\0\0\0/a\0\0\0\0\x0a\0\0\0\x01\0\0\0k\x01\0\0\0v";
 
+// Records of applications, with no content and with some.
+const APPLICATION_A: &[u8] = b"\x80\0\0\0\0\0\0\0\0";
+
+const APPLICATION_B: &[u8] = b"\xff\x03\0\0\0\0\0\0\0xyz";
+
+// Attachments without name and data, logged at 1 and at 2.
+const ATTACHMENT_A: &[u8] =
+    b"\x09\x24\0\0\0\0\0\0\0\x01\0\0\0\0\0\0\0\0\0\0\0\0\0\0\0\0\0\0\0\0\0\0\0\0\0\0\0\0\0\0\0\0\0\0\0";
+
+const ATTACHMENT_B: &[u8] =
+    b"\x09\x24\0\0\0\0\0\0\0\x02\0\0\0\0\0\0\0\0\0\0\0\0\0\0\0\0\0\0\0\0\0\0\0\0\0\0\0\0\0\0\0\0\0\0\0";
+
+// Metadata m and n, with no pairs.
+const METADATA_A: &[u8] = b"\x0c\x09\0\0\0\0\0\0\0\x01\0\0\0m\0\0\0\0";
+
+const METADATA_B: &[u8] = b"\x0c\x09\0\0\0\0\0\0\0\x01\0\0\0n\0\0\0\0";
+
 /// What stands in a merged file in front of its first record: the magic, a Header without profile, and the head of the Chunk.
 pub(crate) const FIRST: usize = 83;
 
@@ -205,6 +222,58 @@ fn an_attachment_stands_behind_the_blocks(rt: HostRuntime) -> Result<(), Fail> {
     holds(&rt, counts(&result, 1, 2));
     holds_at(&rt, bytes.len() == 604, &bytes.len());
     holds(&rt, stand(bytes.as_slice(), 173, &[attachment]));
+    Ok(())
+}
+
+// Two files that have a record of an application, an Attachment and a Metadata each, beside records of unknown opcodes below
+// 0x80. The second one's channel and message stand in a chunk, with another record of an application.
+fn with_extras(alloc: Global) -> Result<Vec<QuietStore>, Fail> {
+    let chunk: &[u8] =
+        b"\x06\x6d\0\0\0\0\0\0\0\x0a\0\0\0\0\0\0\0\x0a\0\0\0\0\0\0\0\x45\0\0\0\0\0\0\0\0\0\0\0\0\0\0\0\x45\0\0\0\0\0\0\0";
+    let inside: &[u8] = b"\x80\x01\0\0\0\0\0\0\0i";
+    let low: &[u8] = b"\x7f\x01\0\0\0\0\0\0\0q";
+    let lowest: &[u8] = b"\x10\0\0\0\0\0\0\0\0";
+    let first: [&[u8]; 6] = [
+        APPLICATION_A,
+        CHANNEL_A,
+        ATTACHMENT_A,
+        MESSAGE_A,
+        low,
+        METADATA_A,
+    ];
+    let second: [&[u8]; 8] = [
+        METADATA_B,
+        chunk,
+        CHANNEL_B,
+        MESSAGE_B,
+        inside,
+        lowest,
+        APPLICATION_B,
+        ATTACHMENT_B,
+    ];
+    two(
+        alloc,
+        source(alloc, "", &first)?,
+        source(alloc, "", &second)?,
+    )
+}
+
+// The records of the chunk end at 201, its two Message Indexes at 263.
+#[test]
+fn extras_stand_in_the_order_of_the_inputs(rt: HostRuntime) -> Result<(), Fail> {
+    let alloc = rt.alloc();
+    let (result, bytes) = merged(alloc, with_extras(alloc)?)?;
+    let wanted: [&[u8]; 7] = [
+        APPLICATION_A,
+        ATTACHMENT_A,
+        METADATA_A,
+        METADATA_B,
+        APPLICATION_B,
+        ATTACHMENT_B,
+        b"\x0f\x04\0\0\0\0\0\0\0\0\0\0\0",
+    ];
+    holds(&rt, counts(&result, 2, 4));
+    holds(&rt, stand(bytes.as_slice(), 263, &wanted));
     Ok(())
 }
 
