@@ -55,7 +55,7 @@ pub record HoldsMerged (chunk : ℕ) (files : List (List ℕ)) (m : Merged) (wel
   pub messages : m.messages ≡ length (filter is_message history)
   pub records : m.records ≡ length history
   -- that file is within the limits of writing
-  pub within : Holds (length (blocks_in (pieces_of (Some chunk) history))) (length
+  pub within : Holds (length (blocks_in (pieces_of (Some chunk) None history))) (length
       (file_of (merged_options profile chunk) extras history))
   pub placed : IsPlaced (file_of (merged_options profile chunk) extras history) well before now
 
