@@ -1,5 +1,9 @@
 //! Sources, sinks and stores, and how each goes on behind a call that failed.
 use crate::same::holds_at;
+use io_files::WriterSink;
+use io_memory::{
+    FailingWrite, MemoryLive, MemorySink, MemorySource, Piece, QuietLive, QuietSource,
+};
 use mcap_io::*;
 use std::alloc::Global;
 

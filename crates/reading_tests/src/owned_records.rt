@@ -1,5 +1,7 @@
 //! Texts, bytes and records that own what they hold.
-use crate::data_records::{CHANNEL_RECORD, MESSAGE_RECORD, SCHEMA_RECORD};
+use crate::data_records::{
+    ATTACHMENT_RECORD, CHANNEL_RECORD, MESSAGE_RECORD, METADATA_RECORD, SCHEMA_RECORD,
+};
 use crate::same::holds_at;
 use mcap_wire::{Memory, Text};
 use rec_data::Rec;
@@ -25,12 +27,16 @@ fn read(alloc: Global, bytes: &[u8]) -> Result<Option<bool>, Memory> {
     Ok(Some(is_framed && record.framed_len() == bytes.len() as u64))
 }
 
-// Records; and a head that is cut, an opcode of 0, a Header, a Message with a byte behind it, and a Channel whose topic isn't
-// UTF-8.
-const ROWS: [(&[u8], Option<bool>); 8] = [
+// Records, of which the last two are an application's; and a head that is cut, an opcode of 0, a Header, a Message with a byte
+// after it, a Channel whose topic isn't UTF-8, a Metadata without fields, and an opcode that is no application's.
+const ROWS: [(&[u8], Option<bool>); 14] = [
     (SCHEMA_RECORD, Some(true)),
     (CHANNEL_RECORD, Some(true)),
     (MESSAGE_RECORD, Some(true)),
+    (ATTACHMENT_RECORD, Some(true)),
+    (METADATA_RECORD, Some(true)),
+    (b"\x80\0\0\0\0\0\0\0\0", Some(true)),
+    (b"\xff\x01\0\0\0\0\0\0\0\x55", Some(true)),
     (b"\x05\x17\0\0\0\0\0\0", None),
     (b"\0\0\0\0\0\0\0\0\0", None),
     (b"\x01\x08\0\0\0\0\0\0\0\0\0\0\0\0\0\0\0", None),
@@ -42,6 +48,8 @@ const ROWS: [(&[u8], Option<bool>); 8] = [
         b"\x04\x11\0\0\0\0\0\0\0\x01\0\0\0\x01\0\0\0\xff\0\0\0\0\0\0\0\0",
         None,
     ),
+    (b"\x0c\0\0\0\0\0\0\0\0", None),
+    (b"\x7f\0\0\0\0\0\0\0\0", None),
 ];
 
 #[test]
