@@ -95,7 +95,7 @@ unknown_id ids channel unknown = unknown_by ids channel (nat_lt 0 channel) (nat_
 -- ---- records that are counted
 
 some_options : FileOptions
-some_options = record { profile = []; chunk = None }
+some_options = record { profile = []; chunk = None; span = None }
 
 pub published_state : (d after : DeskView) (s : State) (channel : ℕ) (m : MessageFields) → publish_refusal d channel (length m.payload) ≡ None → DeskSteps d (publish 0 channel m) after → DeskStandsFor d s
     → DeskStandsFor after (accept 0 (message_of channel m ∷ []) s)

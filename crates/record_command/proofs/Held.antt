@@ -32,7 +32,7 @@ long : (text front more : List ℕ) (n : ℕ) → text ≡ front ++ more → n �
 long text front more n split size = omega (arith, ap length split, length-append front more, size)
 
 -- it begins with the front where it is no shorter
-file_begins : (options : FileOptions) (history : List Rec) → file_of options [] history ≡ front options.profile ++ joined (map piece_bytes (pieces_of options.chunk history) ++ back_of options [] history ∷ [])
+file_begins : (options : FileOptions) (history : List Rec) → file_of options [] history ≡ front options.profile ++ joined (map piece_bytes (pieces_of options.chunk options.span history) ++ back_of options [] history ∷ [])
 file_begins options history = sym (pieces_make_files options [] history)
 
 some_held : (options : FileOptions) (before now : Option (List ℕ)) (history : List Rec) (w : WriterReport) (end : End) → w.end ≡ end → Ends options [] before now history (numbers w.blocks w.bytes) (answer_of end) → TookFront options history w.bytes → before ≡ Some [] → Holds options history w now

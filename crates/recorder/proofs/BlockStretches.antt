@@ -1,10 +1,11 @@
 -- The block of some records is a stretch: a Chunk with a Message Index for each of its channels. An entry of the block has
 -- the stretch's numbers.
-use Rattle.std.proofs.Common.{◌≡◌, ℕ, suc, List, [], ◌∷◌, length, map, refl, sym, ap, subst, ◌∙◌}
+use Rattle.std.proofs.Common.{◌≡◌, ℕ, suc, false, List, [], ◌∷◌, length, map, refl, sym, ap, subst, ◌∙◌}
 use Rattle.std.specs.Prelude.{filter, not}
+use Rattle.std.proofs.lemmas.Bool.{both_ways}
 use Rattle.mcap_wire.proofs.Contents.{shows_decided}
 use Rattle.rec_data.specs.declared.owned.Rec.{Rec}
-use Rattle.rec_data.specs.declared.owned.Rec.TheVariants.{Schema, Channel, Message}
+use Rattle.rec_data.specs.declared.owned.Rec.TheVariants.{Schema, Channel, Message, Extra}
 use Rattle.rec_index.specs.Records.{chunk_kinds, chunk_values}
 use Rattle.mcap_model.specs.Places.{At, Each}
 use Rattle.mcap_model.specs.Tops.{Top, is_flat_kind, inner_tops}
@@ -14,10 +15,11 @@ use Rattle.mcap_model.specs.History.{rec_top, message_of}
 use Rattle.mcap_model.specs.Blocks.{block, logged_channels, entries_for, written_fields, chunk_content, block_bytes}
 use Rattle.mcap_model.specs.Built.{declarations}
 use Rattle.mcap_model.specs.Whole.{count_of}
-use Rattle.mcap_model.specs.Laws.{IsNumberedRec, chunk_top, index_top}
+use Rattle.mcap_model.specs.Laws.{IsNumberedRec, IsInner, chunk_top, index_top}
 use Rattle.mcap_model.specs.ReadBack.{IsReadBack}
 use Rattle.mcap_model.proofs.ReadBack.{at_map, message_back}
 use Rattle.mcap_model.proofs.Histories.{message_shown, recs_are_flat}
+use Rattle.mcap_model.proofs.Asides.{body_whole}
 use Rattle.mcap_model.proofs.WrittenChunks.{written_shows}
 use Rattle.mcap_model.proofs.Logged.{logged_is, channel_logs, message_channel}
 use Rattle.mcap_model.proofs.ShownBack.{index_shown, index_shows}
@@ -32,11 +34,12 @@ use Rattle.live_entry.specs.Following.{Stretch, HasMessageOn, HasMessageIndex, I
 abbrev pub stretch_of : List Rec → Stretch
 stretch_of records = record { chunk = chunk_top records; indexes = map (index_top records) (logged_channels records) }
 
-declared_among : (records : List Rec) → length (declarations records) ≡ length (filter (λ t. not (is_message_top t)) (map rec_top records))
-declared_among [] = refl
-declared_among (Schema id s ∷ rs) = ap suc (declared_among rs)
-declared_among (Channel id schema topic encoding metadata ∷ rs) = ap suc (declared_among rs)
-declared_among (Message channel sequence log_time publish_time payload ∷ rs) = declared_among rs
+declared_among : (records : List Rec) → Each IsInner records → length (declarations records) ≡ length (filter (λ t. not (is_message_top t)) (map rec_top records))
+declared_among [] inner = refl
+declared_among (Schema id s ∷ rs) inner = ap suc (declared_among rs (λ n x at. inner (suc n) x at))
+declared_among (Channel id schema topic encoding metadata ∷ rs) inner = ap suc (declared_among rs (λ n x at. inner (suc n) x at))
+declared_among (Message channel sequence log_time publish_time payload ∷ rs) inner = declared_among rs (λ n x at. inner (suc n) x at)
+declared_among (Extra op content ∷ rs) inner = absurd (both_ways false refl (inner 0 (Extra op content) refl))
 
 -- records that can be read back, and of which a block can be made
 pub record MakeBlock (records : List Rec) : Type 0 where
@@ -46,7 +49,7 @@ pub record MakeBlock (records : List Rec) : Type 0 where
 
 module _ (records : List Rec) (can : MakeBlock records) where
   opened_there : inner_tops (chunk_top records) ≡ map rec_top records
-  opened_there = let sound = can.sound in (written_chunk records can.back can.numbered sound.0).0
+  opened_there = let sound = can.sound in (written_chunk records can.back can.numbered sound.2 sound.0).0
 
   own_shown : (k channel : ℕ) → At (logged_channels records) k channel → IsMessageIndex (index_top records channel) channel (entries_for records channel)
   own_shown k channel at = let sound = can.sound in index_shown records channel can.back (k, at) (sound.1 k channel at) sound.0
@@ -98,8 +101,8 @@ module _ (records : List Rec) (can : MakeBlock records) where
         let own = written_shows records can.back sound.0 in
         let same = shows_decided chunk_kinds (chunk_content records) (chunk_values (written_fields records)) (chunk_values f) own.layout shown.layout in
         (is.start ∙ ap (λ v. v.0) same, is.end ∙ ap (λ v. v.1.0) same);
-    messages = is.counted ∙ count_messages 0 records ∙ ap (count_of 5) (sym opened_there);
-    declared = is.declaring ∙ declared_among records
-        ∙ ap (λ (l : List Top). length (filter (λ t. not (is_message_top t)) l)) (sym (recs_are_flat records))
-        ∙ ap (λ (l : List Top). length (filter (λ t. not (is_message_top t)) (filter is_flat_kind l))) (sym opened_there);
+    messages = (let sound = can.sound in is.counted ∙ count_messages 0 records sound.2 ∙ ap (count_of 5) (sym opened_there));
+    declared = (let sound = can.sound in is.declaring ∙ declared_among records sound.2
+        ∙ ap (λ (l : List Top). length (filter (λ t. not (is_message_top t)) l)) (sym (recs_are_flat records can.back ∙ ap (map rec_top) (body_whole records sound.2)))
+        ∙ ap (λ (l : List Top). length (filter (λ t. not (is_message_top t)) (filter is_flat_kind l))) (sym opened_there));
   }

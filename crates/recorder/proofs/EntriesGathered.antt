@@ -24,11 +24,11 @@ all_there seen (b ∷ bs) [] zip = absurd zip
 all_there seen (b ∷ bs) (e ∷ es) zip = (there seen b e zip.0, all_there seen bs es zip.1)
 
 -- the last block stands behind those that are sure
-last_there : (options : FileOptions) (history waiting : List Rec) → pieces_of options.chunk history ≡ (cuts options.chunk history).pieces ++ block waiting ∷ []
-    → blocks_from (length (front options.profile)) (pieces_of options.chunk history) ≡ sure_blocks options history ++ (length (written_of options history), waiting) ∷ []
+last_there : (options : FileOptions) (history waiting : List Rec) → pieces_of options.chunk options.span history ≡ (cuts options.chunk options.span history).pieces ++ block waiting ∷ []
+    → blocks_from (length (front options.profile)) (pieces_of options.chunk options.span history) ≡ sure_blocks options history ++ (length (written_of options history), waiting) ∷ []
 last_there options history waiting is =
     let start = length (front options.profile) in
-    let sure = (cuts options.chunk history).pieces in
+    let sure = (cuts options.chunk options.span history).pieces in
     ap (blocks_from start) is
     ∙ blocks_append start sure (block waiting ∷ [])
     ∙ ap (λ (n : ℕ). sure_blocks options history ++ (n, waiting) ∷ []) (sym (length-append (front options.profile) (pieces_bytes sure)))
@@ -40,8 +40,8 @@ entries_gathered {X} tells size = record {
       subst (λ (blocks : List (ℕ × List Rec)). AllZip (IsEntryThere tells) blocks (entries ++ given)) (sym gives.sure)
       (zip_joined (IsEntryThere tells) (sure_blocks options history) gives.closed entries given before (all_there (seen_at tells size held) gives.closed given gives.each));
   last = λ options history held entries given before gives.
-      let waiting = (cuts options.chunk history).waiting in
+      let waiting = (cuts options.chunk options.span history).waiting in
       let offset = length (written_of options history) in
-      subst (λ (blocks : List (ℕ × List Rec)). AllZip (IsEntryThere tells) blocks (entries ++ given ∷ [])) (sym (last_there options history waiting (ap (λ (l : List Piece). (cuts options.chunk history).pieces ++ l) gives.0)))
+      subst (λ (blocks : List (ℕ × List Rec)). AllZip (IsEntryThere tells) blocks (entries ++ given ∷ [])) (sym (last_there options history waiting (ap (λ (l : List Piece). (cuts options.chunk options.span history).pieces ++ l) gives.0)))
       (zip_push (IsEntryThere tells) (sure_blocks options history) entries (offset, waiting) given before (there (seen_at tells size held) (offset, waiting) given gives.1));
 }

@@ -6,10 +6,12 @@ use Rattle.std.proofs.lemmas.Bool.{or_parts, ltb-false}
 use Rattle.std.proofs.lemmas.List.{length-append}
 use Rattle.mcap_wire.specs.Layout.{magic}
 use Rattle.rec_data.proofs.Contents.{length-header_text}
-use Rattle.mcap_model.specs.Places.{Each}
-use Rattle.mcap_model.specs.Tops.{Top, Tops, top_bytes, spelled, offset_behind, Placed, placed, placed_one, placed_from}
+use Rattle.mcap_model.specs.Places.{At, Each}
+use Rattle.mcap_model.specs.Tops.{Top, Tops, top_bytes, spelled, offset_behind, flattened, Placed, placed, placed_one, placed_from}
 use Rattle.mcap_model.specs.Kept.{reading_limits, Good, short_head, grammar}
-use Rattle.mcap_model.specs.Scan.{ScanOf}
+use Rattle.mcap_model.specs.Scan.{ScanOf, tops_of}
+use Rattle.mcap_model.specs.History.{rec_top}
+use Rattle.mcap_model.specs.Recovery.{piece_records}
 use Rattle.mcap_model.specs.Blocks.{Piece, block, alone, piece_bytes, pieces_bytes}
 use Rattle.mcap_model.specs.File.{library, front, blocks_from}
 use Rattle.mcap_model.specs.Whole.{AreShort}
@@ -17,15 +19,17 @@ use Rattle.mcap_model.proofs.Places.{heads, tails}
 use Rattle.mcap_model.proofs.Readings.{length-top, halts_are_last}
 use Rattle.mcap_model.proofs.Histories.{recs_agree, numbered_ids_agree}
 use Rattle.mcap_model.proofs.Edges.{header_top}
-use Rattle.mcap_model.proofs.Section.{piece_tops, piece_spelled, pieces_spelled, IsBlock, each_parts}
+use Rattle.mcap_model.proofs.Flat.{placed_tops}
+use Rattle.mcap_model.proofs.Section.{piece_tops, piece_spelled, pieces_spelled, extra_flat, IsBlock, each_parts}
 use Rattle.mcap_model.specs.declared.rules.Rule.TheVariants as rules
 use Rattle.mcap_laws.proofs.Leading.{spelled_once}
 use Rattle.mcap_laws.proofs.FirstPieces.{pieces_good, header_starts}
 use Rattle.live_entry.specs.Following.{Stored, Stretch, stretch_tops, all_tops, IsStretch, AreGood, placed_in}
+use Rattle.record_cache.specs.KeptRecords.{IsKept}
 use Rattle.chunk_writer.proofs.Planned.{length-front}
 use Rattle.recorder.specs.Entries.{FrontsAreTold}
 use Rattle.recorder.proofs.ReadBack.{recs_back, pieces_short}
-use Rattle.recorder.proofs.EntriesFollow.{stretches_of, IsBlockStored, all_stored, first_blocks, first_back, first_numbered, first_sound, first_short, first_agree, follow_there}
+use Rattle.recorder.proofs.EntriesFollow.{stretches_of, IsBlockStored, all_stored, first_blocks, first_kept, first_back, first_numbered, first_sound, first_short, first_agree, follow_there}
 
 -- ---- places
 
@@ -37,21 +41,34 @@ placed_append at (t ∷ ts) us =
     ap (λ (l : List Placed). placed_one at t ++ l) (placed_append (at + length (top_bytes t)) ts us ∙ ap (λ (n : ℕ). placed_from (at + length (top_bytes t)) ts ++ placed_from n us) place)
     ∙ sym (append_assoc (placed_one at t) (placed_from (at + length (top_bytes t)) ts) (placed_from (at + length (spelled (t ∷ ts))) us))
 
--- blocks are placed as their pieces are
-placed_same : (start : ℕ) (ps : List Piece) (stored : List Stored) → Each IsBlock ps → AllZip IsBlockStored (blocks_from start ps) stored → placed_in stored (stretches_of (blocks_from start ps)) ≡ placed_from start (flat_map piece_tops ps)
-placed_same start [] [] each zip = refl
-placed_same start [] (q ∷ qs) each zip = absurd zip
-placed_same start (block records ∷ ps) [] each zip = absurd zip
-placed_same start (block records ∷ ps) (q ∷ qs) each zip =
+-- what holds no flat record places none
+none_placed : (at : ℕ) (t : Top) → flattened t ≡ [] → placed_one at t ≡ []
+none_placed at t none = empty (placed_one at t) (ap tops_of (sym (append-nil (placed_one at t))) ∙ placed_tops at (t ∷ []) ∙ append-nil (flattened t) ∙ none)
+  where
+    empty : (ps : List Placed) → tops_of ps ≡ [] → ps ≡ []
+    empty [] is = refl
+    empty (p ∷ ps) is = absurd cc
+
+-- blocks are placed as their pieces are, and extras aren't
+placed_same : (start : ℕ) (ps : List Piece) (stored : List Stored) → Each IsBlock ps → ((n : ℕ) (p : Piece) → At ps n p → Each IsKept (piece_records p)) → AllZip IsBlockStored (blocks_from start ps) stored
+    → placed_in stored (stretches_of (blocks_from start ps)) ≡ placed_from start (flat_map piece_tops ps)
+placed_same start [] [] each kept zip = refl
+placed_same start [] (q ∷ qs) each kept zip = absurd zip
+placed_same start (block records ∷ ps) [] each kept zip = absurd zip
+placed_same start (block records ∷ ps) (q ∷ qs) each kept zip =
     let tops = piece_tops (block records) in
     let next = start + length (piece_bytes (block records)) in
     let first = zip.0 in
     let size = ap length (piece_spelled (block records)) in
     let place : next ≡ start + length (spelled tops) = omega (arith, size) in
     ap (λ (n : ℕ). placed_from n tops ++ placed_in qs (stretches_of (blocks_from next ps))) (sym first.at)
-    ∙ ap (λ (l : List Placed). placed_from start tops ++ l) (placed_same next ps qs (λ n p at. each (suc n) p at) zip.1 ∙ ap (λ (n : ℕ). placed_from n (flat_map piece_tops ps)) place)
+    ∙ ap (λ (l : List Placed). placed_from start tops ++ l) (placed_same next ps qs (λ n p at. each (suc n) p at) (λ n p at. kept (suc n) p at) zip.1 ∙ ap (λ (n : ℕ). placed_from n (flat_map piece_tops ps)) place)
     ∙ sym (placed_append start tops (flat_map piece_tops ps))
-placed_same start (alone r ∷ ps) stored each zip = absurd (each 0 (alone r) refl)
+placed_same start (alone r ∷ ps) stored each kept zip =
+    let next = start + length (piece_bytes (alone r)) in
+    let extra = (kept 0 (alone r) refl 0 r refl).extra (each 0 (alone r) refl) in
+    placed_same next ps stored (λ n p at. each (suc n) p at) (λ n p at. kept (suc n) p at) zip
+    ∙ ap (λ (l : List Placed). l ++ placed_from next (flat_map piece_tops ps)) (sym (none_placed start (rec_top r) (extra_flat (rec_top r) extra)))
 
 -- ---- bytes are one stretch
 
@@ -105,19 +122,20 @@ module _ {X : Type 0} (tells : X → Option (List ℕ)) where
       let text = length-header_text (record { profile = profile; library = library }) in
       let nine : length library ≡ 9 = refl in
       let fits = header_starts profile readable.profile (omega (arith, long)) in
-      let short = pieces_short options.chunk history readable.size kept in
+      let short = pieces_short options.chunk options.span history readable.size kept in
       let bytes = front profile ++ pieces_bytes pieces in
       let within = first.within in
       let own = length-front profile in
       let head : 8 + length (top_bytes header) ≡ start = omega (arith, own, length-top header, text, nine) in
       let near : offset_behind (header ∷ body) ≤ 1099511627776 = omega (arith, within, head, length-append (front profile) (pieces_bytes pieces), ap length (pieces_spelled pieces), length-append (top_bytes header) (spelled body)) in
-      let sound = first_sound options history pieces back ours first short in
-      let good : Good reading_limits (header ∷ body) = pieces_good profile pieces (first_back options history pieces back ours first) (first_numbered options history pieces back ours first) sound fits (first_short options history pieces back ours first short) (first_agree options history pieces back ours first (recs_agree history ids)) near in
-      let blocks = first_blocks options history pieces back ours first size some in
+      let sound = first_sound options history pieces kept ours first short in
+      let agree = first_agree options history pieces kept ours first (recs_agree history back ids) in
+      let good : Good reading_limits (header ∷ body) = pieces_good profile pieces (first_back options history pieces kept ours first) (first_numbered options history pieces kept ours first) sound fits (first_short options history pieces kept ours first short) agree near in
+      let blocks = first_blocks options history pieces kept ours first size some in
       let there = all_stored tells (blocks_from start pieces) entries stored zip told in
       let mine = follow_there tells options size history pieces entries some (readable.size size some) numbered kept first zip stored told in
       let same : stretches ≡ stretches_of (blocks_from start pieces) = one_list stored stretches (stretches_of (blocks_from start pieces)) follow.each mine.each (all_short stretches follow.good) (all_short (stretches_of (blocks_from start pieces)) mine.good) in
-      let places : placed_in stored stretches ≡ placed (header ∷ body) = ap (placed_in stored) same ∙ placed_same start pieces stored blocks there ∙ ap (λ (n : ℕ). placed_from n body) (sym head) in
+      let places : placed_in stored stretches ≡ placed (header ∷ body) = ap (placed_in stored) same ∙ placed_same start pieces stored blocks (first_kept options history pieces kept ours first) there ∙ ap (λ (n : ℕ). placed_from n body) (sym head) in
       record {
         tops = header ∷ body;
         kept = halts_are_last bytes (header ∷ body) [] (grammar (offset_behind (header ∷ body)) rules.V4) (front_stands profile pieces) good (inr (short_head refl));

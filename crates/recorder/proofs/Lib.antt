@@ -3,6 +3,7 @@ mod Gathering
 mod Collecting
 mod Assembling
 mod Filing
+pub mod Inners
 pub mod ReadBack
 mod ShortFiles
 pub mod Validity

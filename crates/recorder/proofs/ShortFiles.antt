@@ -1,33 +1,46 @@
 -- No record of a recording's file is past a limit of reading.
-use Rattle.std.proofs.Common.{◌≡◌, ℕ, suc, ◌+◌, ◌≤◌, false, List, [], ◌∷◌, ◌++◌, length, take, Option, Some, None, sym, ap, subst, inl, inr, ◌∙◌, append_assoc, arith}
+use Rattle.std.proofs.Common.{◌≡◌, ℕ, suc, ◌+◌, ◌≤◌, false, List, [], ◌∷◌, ◌++◌, length, take, Option, Some, None, refl, sym, ap, subst, inl, inr, ◌∙◌, append-nil, append_assoc, arith}
+use Rattle.std.specs.Prelude.{◌==◌}
 use Rattle.std.specs.List.{flat_map}
+use Rattle.std.proofs.lemmas.Bool.{eqb-true}
 use Rattle.std.proofs.lemmas.List.{length-append, length-map, take-append-le}
 use Rattle.mcap_wire.specs.Arrays.{entry_texts}
+use Rattle.mcap_wire.specs.Layout.{le, string, prefixed}
+use Rattle.mcap_wire.specs.Limits.{record_limit}
+use Rattle.mcap_wire.specs.Maps.{text_map}
+use Rattle.mcap_wire.proofs.Framing.{length-framed, length-string}
 use Rattle.mcap_wire.proofs.Numbers.{length-le}
 use Rattle.rec_data.specs.declared.owned.Rec.{Rec}
-use Rattle.rec_data.specs.Owned.{rec_text}
+use Rattle.rec_data.specs.Owned.{rec_opcode, rec_text}
+use Rattle.rec_data.proofs.OwnedReading.{rec_shown}
 use Rattle.rec_data.proofs.Contents.{length-footer_text}
-use Rattle.rec_index.specs.Records.{statistics_text, chunk_index_text, summary_offset_text}
+use Rattle.rec_index.specs.Records.{statistics_text, chunk_index_text, attachment_index_text, metadata_index_text, summary_offset_text}
 use Rattle.mcap_model.specs.declared.options.FileOptions.{FileOptions}
 use Rattle.mcap_model.specs.Places.{At, Each}
 use Rattle.mcap_model.specs.Tops.{Top, top_bytes, spelled, offset_behind}
-use Rattle.mcap_model.specs.Blocks.{block, logged_channels, chunk_bytes, pieces_of}
-use Rattle.mcap_model.specs.Summary.{Noted, Group, group_bytes, groups_of, group_fields, offset_contents, footer_of_offsets, messages_on, schemas_of, channels_of, written_statistics, statistics_content, written_index, chunk_index_content}
-use Rattle.mcap_model.specs.File.{front, file_of, noted}
+use Rattle.mcap_model.specs.Fields.{AttachmentFields, IsAttachment, IsMetadata}
+use Rattle.mcap_model.specs.Rules.{V6}
+use Rattle.mcap_model.specs.Blocks.{block, alone, logged_channels, chunk_bytes, pieces_of}
+use Rattle.mcap_model.specs.Summary.{Noted, Group, group_bytes, groups_of, group_fields, offset_contents, footer_of_offsets, messages_on, schemas_of, channels_of, extras_of_kind, attachment_index_content, metadata_index_content, written_statistics, statistics_content, written_index, chunk_index_content}
+use Rattle.mcap_model.specs.AttachmentIndexes.{indexed_attachment}
+use Rattle.mcap_model.specs.File.{front, alone_from, file_of, noted}
 use Rattle.mcap_model.specs.Kept.{reading_limits, is_beyond}
 use Rattle.mcap_model.specs.Whole.{offset_of, IsWhole}
-use Rattle.mcap_model.specs.Laws.{CanBeWritten}
+use Rattle.mcap_model.specs.Laws.{IsNumberedRec, CanBeWritten}
+use Rattle.mcap_model.specs.Recovery.{piece_records}
 use Rattle.mcap_model.specs.ReadBack.{IsReadBack}
 use Rattle.mcap_model.proofs.Places.{at_none, at_within}
-use Rattle.mcap_model.proofs.Lists.{at_either, cut_at, each_cons}
+use Rattle.mcap_model.proofs.Lists.{at_either, cut_at, each_cons, filter_passed}
+use Rattle.mcap_model.proofs.Asides.{each_body}
+use Rattle.mcap_model.proofs.ExtraIndexes.{attachment_read_back, metadata_read_back}
 use Rattle.mcap_model.proofs.Logged.{few_channels, length-entries}
 use Rattle.mcap_model.proofs.OneMore.{each_last}
 use Rattle.mcap_model.proofs.Readings.{top_of, length-top}
-use Rattle.mcap_model.proofs.Histories.{numbered_ids_agree, within_there}
-use Rattle.mcap_model.proofs.Section.{each_flat}
+use Rattle.mcap_model.proofs.Histories.{rec_meets, numbered_ids_agree, within_there}
+use Rattle.mcap_model.proofs.Section.{each_held, each_parts, each_flat}
 use Rattle.mcap_model.proofs.ShownBack.{length-offsets}
 use Rattle.mcap_model.proofs.Edges.{end_top}
-use Rattle.mcap_model.proofs.Standing.{blocks_are}
+use Rattle.mcap_model.proofs.Standing.{blocks_are, alone_are}
 use Rattle.mcap_model.proofs.WrittenChunks.{each_map}
 use Rattle.mcap_model.proofs.Files.{group_tops, groups_tops, offset_tops, summary_crc, summary_tops, summary_foot, summary_at, section_tops, written_tops, file_spelled, length-file, length-spelled_append, whole_of}
 use Rattle.mcap_model.proofs.Body.{standing, pieces_back}
@@ -37,7 +50,7 @@ use Rattle.mcap_laws.proofs.Tails.{full_groups, full_tops, each_full, schemas_ha
 use Rattle.record_cache.specs.KeptRecords.{IsKept}
 use Rattle.recorder.specs.Laws.{IsWithinLimits}
 use Rattle.recorder.specs.Recorded.{AreReadable}
-use Rattle.recorder.proofs.ReadBack.{recs_back, rec_short, can_be_read, IsClosedFile}
+use Rattle.recorder.proofs.ReadBack.{recs_back, rec_short, extras_kept, can_be_read, IsClosedFile}
 
 abbrev IsShort : Top → Type 0
 IsShort t = length t.content ≤ 268435456
@@ -67,7 +80,43 @@ offsets_short at (g ∷ gs) =
     let size : length (summary_offset_text (group_fields g at)) ≡ 17 = simp (length-append, length-le) (omega arith) in
     each_cons (λ c. length c ≤ 268435456) (summary_offset_text (group_fields g at)) (offset_contents (at + length (group_bytes g)) gs) (omega (arith, size)) (offsets_short (at + length (group_bytes g)) gs)
 
+attachment_index_short : (offset : ℕ) (t : Top) (f : AttachmentFields) → IsAttachment t f → length t.content ≤ record_limit → length (attachment_index_content (offset, t)) ≤ 268435456
+attachment_index_short offset t f is small =
+    let row = is.layout.1 in
+    let behind = prefixed 8 f.payload ++ (le 4 f.crc ++ is.layout.0) in
+    let media = string f.media_type ++ behind in
+    let name = string f.name ++ media in
+    let there : length t.content ≡ length (le 8 f.log_time ++ (le 8 f.create_time ++ name)) = ap length row.spelled_there in
+    let size : length (attachment_index_text (indexed_attachment offset t f)) ≡ 48 + length f.name + length f.media_type = simp (length-append, length-le) (omega arith) in
+    omega (
+      arith,
+      small,
+      size,
+      there,
+      ap length (attachment_read_back offset t f is),
+      length-append (le 8 f.log_time) (le 8 f.create_time ++ name),
+      length-append (le 8 f.create_time) name,
+      length-append (string f.name) media,
+      length-append (string f.media_type) behind,
+      length-string f.name,
+      length-string f.media_type,
+    )
+
+metadata_index_short : (offset : ℕ) (t : Top) (name : List ℕ) (pairs : List (List ℕ × List ℕ)) → IsMetadata t name pairs → length t.content ≤ record_limit → length (metadata_index_content (offset, t)) ≤ 268435456
+metadata_index_short offset t name pairs is small =
+    let row = is.layout.1 in
+    let behind = text_map pairs ++ is.layout.0 in
+    let there : length t.content ≡ length (string name ++ behind) = ap length row.spelled_there in
+    let size : length (metadata_index_text (record { offset = offset; size = length (top_bytes t); name = name })) ≡ 20 + length name = simp (length-append, length-le) (omega arith) in
+    omega (arith, small, size, there, ap length (metadata_read_back offset t name pairs is), length-append (string name) behind, length-string name)
+
 -- ---- what stands behind the Data End
+
+-- an extra of a history whose records were kept
+record IsKeptExtra (op : ℕ) (t : Top) : Type 0 where
+  pub kind : t.op ≡ op
+  pub v6 : V6 t
+  pub short : length t.content ≤ record_limit
 
 module _ (options : FileOptions) (history : List Rec) (written : CanBeWritten options [] history) (kept : Each IsKept history) where
   abbrev n : Noted
@@ -75,18 +124,52 @@ module _ (options : FileOptions) (history : List Rec) (written : CanBeWritten op
 
   blocks_short : (k : ℕ) (b : ℕ × List Rec) → At n.blocks k b → length (chunk_index_content b) ≤ 268435456
   blocks_short k b there =
-      let own = blocks_are (length (front options.profile)) (pieces_of options.chunk history) k b there in
+      let own = blocks_are (length (front options.profile)) (pieces_of options.chunk options.span history) k b there in
       chunk_index_short b.0 b.1 (pieces_back options [] history (standing options [] history written) own.k (block b.1) own.at)
+
+  extra_there : (op k : ℕ) (e : ℕ × Top) → At (extras_of_kind op n.extras) k e → IsKeptExtra op e.1
+  extra_there op k e at =
+      let pieces = pieces_of options.chunk options.span history in
+      let noted = alone_from (length (front options.profile)) pieces in
+      let (has, kind) = filter_passed (λ (x : ℕ × Top). x.1.op == op) n.extras k e at in
+      let there = alone_are (length (front options.profile)) pieces has.0 e (subst (λ (l : List (ℕ × Top)). At l has.0 e) (append-nil noted) has.1) in
+      let r = there.record_there in
+      let own : IsKept r = each_parts IsKept piece_records pieces (each_held IsKept options.chunk options.span history kept) there.k (alone r) there.at 0 r refl in
+      let some : IsNumberedRec r = each_parts IsNumberedRec piece_records pieces (each_held IsNumberedRec options.chunk options.span history written.numbered) there.k (alone r) there.at 0 r refl in
+      let same = ap (λ (t : Top). length t.content) there.top_is in
+      record {
+        kind = eqb-true e.1.op op kind;
+        v6 = subst V6 (sym there.top_is) (rec_meets r (rec_shown r own.fits) some);
+        short = (let long = own.short in omega (arith, same, long, length-framed (rec_opcode r) (rec_text r)));
+      }
+
+  attachments_short : (k : ℕ) (e : ℕ × Top) → At (extras_of_kind 9 n.extras) k e → length (attachment_index_content e) ≤ 268435456
+  attachments_short k e at =
+      let it = extra_there 9 k e at in
+      let v6 = it.v6 in
+      let (f, is) = v6.attachment it.kind in
+      attachment_index_short e.0 e.1 f is it.short
+
+  metadata_short : (k : ℕ) (e : ℕ × Top) → At (extras_of_kind 12 n.extras) k e → length (metadata_index_content e) ≤ 268435456
+  metadata_short k e at =
+      let it = extra_there 12 k e at in
+      let v6 = it.v6 in
+      let (name, pairs, is) = v6.metadata it.kind in
+      metadata_index_short e.0 e.1 name pairs is it.short
+
+  -- the records of the summary are the history's
+  noted_kept : Each IsKept n.records
+  noted_kept = each_body IsKept history kept
 
   groups_short : (at : ℕ) → Each (λ g. AreShort g.contents) (full_groups at n)
   groups_short at =
       each_full (λ g. AreShort g.contents) at n
-      (each_map rec_text (λ c. length c ≤ 268435456) (schemas_of history) (λ k r there. let has = schemas_has history k r there in rec_short r (kept has.0 r has.1)))
-      (each_map rec_text (λ c. length c ≤ 268435456) (channels_of history) (λ k r there. let has = channels_has history k r there in rec_short r (kept has.0 r has.1)))
-      (each_cons (λ c. length c ≤ 268435456) (statistics_content n) [] (statistics_short n written.records_fit) (λ k c there. absurd (at_none k c there)))
+      (each_map rec_text (λ c. length c ≤ 268435456) (schemas_of n.records) (λ k r there. let has = schemas_has n.records k r there in rec_short r (noted_kept has.0 r has.1)))
+      (each_map rec_text (λ c. length c ≤ 268435456) (channels_of n.records) (λ k r there. let has = channels_has n.records k r there in rec_short r (noted_kept has.0 r has.1)))
+      (each_cons (λ c. length c ≤ 268435456) (statistics_content n) [] (statistics_short n (each_body IsReadBack history written.records_fit)) (λ k c there. absurd (at_none k c there)))
       (each_map chunk_index_content (λ c. length c ≤ 268435456) n.blocks blocks_short)
-      (λ k c there. absurd (at_none k c there))
-      (λ k c there. absurd (at_none k c there))
+      (each_map attachment_index_content (λ c. length c ≤ 268435456) (extras_of_kind 9 n.extras) attachments_short)
+      (each_map metadata_index_content (λ c. length c ≤ 268435456) (extras_of_kind 12 n.extras) metadata_short)
       (offsets_short at (groups_of n))
 
   foot_short : (chunk : Option ℕ) (at : ℕ) → IsShort (summary_foot chunk n at)
@@ -124,7 +207,7 @@ module _ (options : FileOptions) (history : List Rec) (blocks bytes : ℕ) (read
   in_section n t at =
       let back = recs_back history it.kept in
       let (agree, some) = numbered_ids_agree history back it.numbered in
-      let reads = read_so options [] history readable.profile back some agree (λ k u none. absurd (at_none k u none)) (can_be_read options history readable it.kept small) in
+      let reads = read_so options [] history readable.profile back some agree (extras_kept history it.kept) (can_be_read options history readable it.kept small) in
       let good = reads.halts.kept.good in
       let fits = good n t at in
       let near = at_within first n t at in

@@ -27,7 +27,7 @@ pub record IsEntryThere {X : Type 0} (tells : X → Option (List ℕ)) (b : ℕ 
 -- the first pieces of a history's file, which end within the limit of a file
 pub record AreFirst (options : FileOptions) (history : List Rec) (pieces : List Piece) : Type 0 where
   pub more : List Piece
-  pub first : pieces_of options.chunk history ≡ pieces ++ more
+  pub first : pieces_of options.chunk options.span history ≡ pieces ++ more
   pub within : length (front options.profile ++ pieces_bytes pieces) ≤ file_limit
 
 -- Where chunks are asked for and the records of a history are numbered and were kept, the entries of its first blocks
@@ -70,5 +70,6 @@ pub record EntriesAreGathered {X : Type 0} (tells : X → Option (List ℕ)) (si
   pub last : (options : FileOptions) (history : List Rec) (held : Option (List ℕ)) (entries : List (Entry X))
       (given : Entry X) → AllZip (IsEntryThere tells) (sure_blocks options history) entries
       → GivesLast (seen_at tells size held) options history (Some given)
-      → AllZip (IsEntryThere tells) (blocks_from (length (front options.profile)) (pieces_of options.chunk history))
+      → AllZip (IsEntryThere tells)
+      (blocks_from (length (front options.profile)) (pieces_of options.chunk options.span history))
       (entries ++ given ∷ [])

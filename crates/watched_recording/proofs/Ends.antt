@@ -38,16 +38,16 @@ file_whole options extras history = sym (append_assoc (section options extras hi
 
 -- the bytes of all blocks are among those that stand
 pub all_stand : (options : FileOptions) (extras : List Top) (opened now : Option (List ℕ)) (history records : List Rec) (before blocks bytes : ℕ) (end : Result Unit Stop)
-    → last_piece (cuts options.chunk history).waiting ≡ block records ∷ [] → before ≡ length (blocks_in (cuts options.chunk history).pieces) → blocks ≡ before + 1 → Ends options extras opened now history (numbers blocks bytes) end
-    → length (front options.profile ++ pieces_bytes (pieces_of options.chunk history)) ≤ bytes
+    → last_piece (cuts options.chunk options.span history).waiting ≡ block records ∷ [] → before ≡ length (blocks_in (cuts options.chunk options.span history).pieces) → blocks ≡ before + 1 → Ends options extras opened now history (numbers blocks bytes) end
+    → length (front options.profile ++ pieces_bytes (pieces_of options.chunk options.span history)) ≤ bytes
 all_stand options extras opened now history records before blocks bytes (Ok it) last many more ends =
     let start = front options.profile in
-    let pieces = pieces_bytes (pieces_of options.chunk history) in
+    let pieces = pieces_bytes (pieces_of options.chunk options.span history) in
     let whole = ap (λ (l : List ℕ). length l) (file_whole options extras history) in
     omega (arith, ends.2, whole, length-append (section options extras history) (back_of options extras history), length-append start (pieces ++ spelled extras), length-append pieces (spelled extras), length-append start pieces)
 all_stand options extras opened now history records before blocks bytes (Err stop) last many more ends =
-    let ps = (cuts options.chunk history).pieces in
-    let all = pieces_of options.chunk history in
+    let ps = (cuts options.chunk options.span history).pieces in
+    let all = pieces_of options.chunk options.span history in
     let split : all ≡ ps ++ block records ∷ [] = ap (λ (l : List Piece). ps ++ l) last in
     let counted : length (blocks_in (take (ends.place - 1) all)) ≡ length (blocks_in ps) + 1 = sym ends.blocks_are ∙ more ∙ ap (λ (n : ℕ). n + 1) many in
     let past = past_all ps records (ends.place - 1) (subst (λ (l : List Piece). length (blocks_in (take (ends.place - 1) l)) ≡ length (blocks_in ps) + 1) split counted) in

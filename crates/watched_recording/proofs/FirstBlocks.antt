@@ -68,15 +68,15 @@ module _ {L X : Type 0} (state : L → LiveState) (tells : X → Option (List �
 
   -- where it was closed without a last block the blocks that are sure are all
   sure_all : (p : Phase) → phase_of mid ≡ p → (it : PutsFirst (seen_before tells size (state (store_of first))) options [] history given (planned_bytes mid) (phase_of mid)) → IsLeft p it.behind
-      → EndsOn (seen_store state tells size) mid last None (written_numbers w) (answer_of w.end) → w.end ≡ ends.Closed → (cuts options.chunk it.first).pieces ≡ pieces_of options.chunk history
+      → EndsOn (seen_store state tells size) mid last None (written_numbers w) (answer_of w.end) → w.end ≡ ends.Closed → (cuts options.chunk options.span it.first).pieces ≡ pieces_of options.chunk options.span history
   sure_all phases.Going is it left ended closed =
-      let sure = (cuts options.chunk history).pieces in
+      let sure = (cuts options.chunk options.span history).pieces in
       let whole : history ≡ it.first = it.cut ∙ ap (λ (l : List Rec). it.first ++ l) left ∙ append-nil it.first in
       let writes = took.grown options [] live [] stands in
       let file = ended.file options [] live history writes in
       let all = subst (λ (a : Result Unit Stop). Ends options [] live.held (state (store_of last)).held history (numbers w.blocks w.bytes) a) (ap answer_of closed) file.0 in
-      let none = no_last sure (cuts options.chunk history).waiting (sym all.1 ∙ ended.counted ∙ (writes.0.going is).0.blocks) in
-      ap (λ (l : List Rec). (cuts options.chunk l).pieces) (sym whole) ∙ sym (append-nil sure) ∙ ap (λ (l : List Piece). sure ++ l) (sym none)
+      let none = no_last sure (cuts options.chunk options.span history).waiting (sym all.1 ∙ ended.counted ∙ (writes.0.going is).0.blocks) in
+      ap (λ (l : List Rec). (cuts options.chunk options.span l).pieces) (sym whole) ∙ sym (append-nil sure) ∙ ap (λ (l : List Piece). sure ++ l) (sym none)
   sure_all (phases.Stopped stop) is it left ended closed = absurd (subst (λ (a : Result Unit Stop). OnErr a ⊥) (sym (ap answer_of closed) ∙ (ended.kept stop is).0) tt)
   sure_all phases.Ended is it left ended closed = absurd left
 
@@ -85,13 +85,13 @@ module _ {L X : Type 0} (state : L → LiveState) (tells : X → Option (List �
       → EndsOn (seen_store state tells size) mid last None (written_numbers w) (answer_of w.end) → AreBlockEntries tells options live history w given
   sure_blocks_are it ended =
       let gives = it.entries_are in
-      let grow = pieces_grow options.chunk it.first it.behind in
+      let grow = pieces_grow options.chunk options.span it.first it.behind in
       let gathered = entries_gathered tells size in
       record {
-        pieces = (cuts options.chunk it.first).pieces;
+        pieces = (cuts options.chunk options.span it.first).pieces;
         first = record {
           more = grow.0;
-          first = ap (pieces_of options.chunk) it.cut ∙ grow.1;
+          first = ap (pieces_of options.chunk options.span) it.cut ∙ grow.1;
           within = subst (λ (n : ℕ). n ≤ file_limit) it.bytes_are holds.small;
         };
         each = gathered.more options [] it.first (state (store_of first)).held [] given (gathered.none options) gives;
@@ -116,14 +116,14 @@ module _ {L X : Type 0} (state : L → LiveState) (tells : X → Option (List �
       let sure = gathered.more options [] history seen.held [] given (gathered.none options) all in
       let gives = ended.last_is options [] live history writes in
       let file = ended.file options [] live history writes in
-      let waiting = (cuts options.chunk history).waiting in
+      let waiting = (cuts options.chunk options.span history).waiting in
       let stand = all_stand options [] live.held (state (store_of last)).held history waiting (blocks_of mid) w.blocks w.bytes (answer_of w.end) gives.0 (writes.0.going on).0.blocks ended.counted file.0 in
       let at = length (written_of options history) in
       record {
-        pieces = pieces_of options.chunk history;
+        pieces = pieces_of options.chunk options.span history;
         first = record {
           more = [];
-          first = sym (append-nil (pieces_of options.chunk history));
+          first = sym (append-nil (pieces_of options.chunk options.span history));
           within = (let within = ended.within in omega (arith, stand, within.small));
         };
         each = gathered.last options history (state (store_of mid)).held given e sure gives;

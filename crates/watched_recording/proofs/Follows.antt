@@ -11,7 +11,7 @@ use Rattle.mcap_model.specs.declared.ends.Stop.{Stop}
 use Rattle.mcap_model.specs.Places.{Each}
 use Rattle.mcap_model.specs.Blocks.{cuts, pieces_of, last_piece}
 use Rattle.mcap_model.specs.History.{Follows, Numbered}
-use Rattle.mcap_model.proofs.Places.{at_one, at_read, at_within, at_kept, each_front}
+use Rattle.mcap_model.proofs.Places.{at_kept, each_front}
 use Rattle.record_cache.specs.KeptRecords.{IsKept}
 use Rattle.live_entry.specs.declared.entry.Entry.{Entry}
 use Rattle.live_entry.specs.Entries.{seen_before, EntriesFollow}
@@ -23,15 +23,11 @@ use Rattle.chunk_writer.specs.declared.tape.Written.{Written}
 use Rattle.chunk_writer.specs.Limits.{Holds}
 use Rattle.chunk_writer.specs.Scribes.{GivesEntries, store_of, phase_of, blocks_of, planned_bytes}
 use Rattle.chunk_writer.specs.Tapes.{PutsFirst, IsLeft, seen_store, TakesOn, EndsOn, takes_on}
+use Rattle.recorder.proofs.ReadBack.{each_of}
 use Rattle.recorder.proofs.EntriesFollow.{entries_follow}
 use Rattle.recorder.proofs.EntriesGathered.{entries_gathered}
 use Rattle.watched_recording.specs.Publishing.{Board, KnowsLack, GivesTo, Publishing, IsNewPublishing, empty_board, entries_held}
 use Rattle.watched_recording.proofs.Ends.{all_stand}
-
-each_of : {X : Type 0} (P : X → Type 0) (xs : List X) → All P xs → Each P xs
-each_of P xs all n x at =
-    let less = at_within xs n x at in
-    subst P (at_one xs n _ x (at_read xs n x less) at) (all n x less)
 
 each_kept : {X : Type 0} (P : X → Type 0) (xs ys : List X) → Each P (xs ++ ys) → Each P xs
 each_kept P xs ys each n x at = each n x (at_kept xs ys n x at)
@@ -45,9 +41,9 @@ module _ {X : Type 0} (tells : X → Option (List ℕ)) (size : X → ℕ) (stor
   first_follow records entries bytes phase numbered kept within it =
       let put = it.first in
       let gathered = entries_gathered tells size in
-      entries_follow tells options chunk put (cuts options.chunk put).pieces entries some small
+      entries_follow tells options chunk put (cuts options.chunk options.span put).pieces entries some small
       (each_front Follows put it.behind (subst Numbered it.cut numbered)) (each_kept IsKept put it.behind (subst (Each IsKept) it.cut kept)) (record {
-        more = last_piece (cuts options.chunk put).waiting;
+        more = last_piece (cuts options.chunk options.span put).waiting;
         first = refl;
         within = omega (arith, within, it.bytes_are);
       }) (gathered.more options [] put store.held [] entries (gathered.none options) it.entries_are)
@@ -84,10 +80,10 @@ module _ {L X : Type 0} (state : L → LiveState) (tells : X → Option (List �
       let gives = ended.last_is options [] new.opened taken writes in
       let file = ended.file options [] new.opened taken writes in
       let plans = (writes.0.going going).0 in
-      let stand = all_stand options [] new.opened.held (state (store_of later)).held taken (cuts options.chunk taken).waiting (blocks_of now) written.blocks written.bytes end gives.0 plans.blocks ended.counted file.0 in
-      entries_follow tells options new.size taken (pieces_of options.chunk taken) (one ++ last ∷ []) new.chunked new.size_is numbered (each_of IsKept taken kept) (record {
+      let stand = all_stand options [] new.opened.held (state (store_of later)).held taken (cuts options.chunk options.span taken).waiting (blocks_of now) written.blocks written.bytes end gives.0 plans.blocks ended.counted file.0 in
+      entries_follow tells options new.size taken (pieces_of options.chunk options.span taken) (one ++ last ∷ []) new.chunked new.size_is numbered (each_of IsKept taken kept) (record {
         more = [];
-        first = sym (append-nil (pieces_of options.chunk taken));
+        first = sym (append-nil (pieces_of options.chunk options.span taken));
         within = (let holds = ended.within in omega (arith, stand, holds.small));
       }) (gathered.last options taken (state (store_of now)).held one last sure gives)
 

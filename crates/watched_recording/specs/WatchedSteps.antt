@@ -37,7 +37,7 @@ pub record AreBlockEntries {X : Type 0} (tells : X → Option (List ℕ)) (optio
   -- where the store told what it held before, each extent tells its block
   pub tell : (held : List ℕ) → before.held ≡ Some held → (stored : List Stored) × AllZip (IsStored tells) entries stored
   pub many : length entries ≡ w.blocks
-  pub all : w.end ≡ ends.Closed → pieces ≡ pieces_of options.chunk history
+  pub all : w.end ≡ ends.Closed → pieces ≡ pieces_of options.chunk options.span history
 
 -- What a recording beside a directory came to; and what the directory told at its seal, if it was sealed: the blocks of the
 -- history, and how its writer ended.

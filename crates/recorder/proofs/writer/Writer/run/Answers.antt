@@ -2,6 +2,8 @@
 use Rattle.std.proofs.Common.{◌≡◌, List, ◌++◌, Result, refl, sym, ap, subst, ◌∙◌}
 use Rattle.rec_data.specs.declared.owned.Rec.{Rec}
 use Rattle.mcap_model.specs.declared.ends.Stop.{Stop}
+use Rattle.record_cache.specs.KeptRecords.{IsKept}
+use Rattle.recorder.proofs.ReadBack.{each_of}
 use Rattle.recorder.proofs.Draining.{halts_going, phase_so, ended_for, has_none}
 use Rattle.recorder.proofs.writer.Writer.run.Goals as goal
 
@@ -34,3 +36,8 @@ pub write_all-records-requires-clause-has : goal.write_all-records-requires-clau
 write_all-records-requires-clause-has g c =
     let members = g.T.Tape in
     has_none members.is_new members.grows members.grows_none c.args.self.tape c.requires.unused c.args.self.drain.seat.me.0.post.taken c.requires.none
+
+pub returns-clause-all : goal.returns-clause-all
+returns-clause-all g c =
+    let wrote = c.write_all-records.ensures in
+    record { records = wrote.count; kept = each_of IsKept c.write_all-records.new.drain.seat.me.0.post.taken (let has = wrote.has in has.kept) }
