@@ -3,7 +3,7 @@ use Rattle.std.proofs.Common.{◌≡◌, ℕ, zero, suc, ◌+◌, List, [], ◌�
 use Rattle.std.specs.List.{AllZip, sum_by}
 use Rattle.std.proofs.lemmas.List.Sums.{sum_by-cons, sum_by-set}
 use Rattle.rec_data.specs.declared.owned.Rec.{Rec}
-use Rattle.rec_data.specs.declared.owned.Rec.TheVariants.{Schema, Channel, Message}
+use Rattle.rec_data.specs.declared.owned.Rec.TheVariants.{Schema, Channel, Message, Extra}
 use Rattle.mcap_model.specs.Places.{At, Has, Each}
 use Rattle.mcap_model.specs.Fields.{MessageFields}
 use Rattle.mcap_model.specs.Scan.{Seen}
@@ -20,6 +20,7 @@ abbrev pub weight : (MessageFields → ℕ) → Rec → ℕ
 weight f (Schema id schema) = 0
 weight f (Channel id schema topic encoding metadata) = 0
 weight f (Message channel sequence log_time publish_time payload) = f (record { sequence = sequence; log_time = log_time; publish_time = publish_time; payload = payload })
+weight f (Extra op content) = 0
 
 -- a place of a history, and the message there
 pub record Spot : Type 0 where
@@ -56,6 +57,10 @@ no_weight f (Channel id schema topic encoding metadata ∷ rs) none =
     omega (arith, all, more)
 no_weight f (Message channel sequence log_time publish_time payload ∷ rs) none =
     absurd (none 0 channel (record { sequence = sequence; log_time = log_time; publish_time = publish_time; payload = payload }) refl)
+no_weight f (Extra op content ∷ rs) none =
+    let all : sum_by (weight f) (Extra op content ∷ rs) ≡ 0 + sum_by (weight f) rs = sum_by-cons (weight f) (Extra op content) rs in
+    let more = no_weight f rs (λ place channel m at. none (suc place) channel m at) in
+    omega (arith, all, more)
 
 abbrev blank : Rec
 blank = Schema 0 (record { name = []; encoding = []; payload = [] })
@@ -137,6 +142,10 @@ seen_total f (Message channel sequence log_time publish_time payload ∷ rs) (s 
     let one = sum_by-cons f s.message (fields_seen ss) in
     let other = sum_by-cons (weight f) r rs in
     omega (arith, first, more, one, other)
+seen_total f (Extra op content ∷ rs) messages zip =
+    let all : sum_by (weight f) (Extra op content ∷ rs) ≡ 0 + sum_by (weight f) rs = sum_by-cons (weight f) (Extra op content) rs in
+    let more = seen_total f rs messages zip in
+    omega (arith, all, more)
 
 -- ---- counting
 

@@ -39,6 +39,7 @@ fn record_published<J: Naming + Send + Sync, R: Threads + Wait + Sync>(
         file: FileOptions {
             profile: Text::copied(alloc, "")?,
             chunk: Some(59),
+            span: None,
         },
         limit: 1_048_576,
         lossless: true,

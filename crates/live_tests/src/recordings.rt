@@ -73,6 +73,7 @@ fn a_sink_that_fails_takes_nothing_from_others(rt: HostRuntime) -> Result<(), Fa
             file: FileOptions {
                 profile: Text::copied(alloc, "")?,
                 chunk: Some(59),
+                span: None,
             },
             limit: 1_048_576,
             lossless: true,

@@ -1,5 +1,5 @@
 -- What is recovered of a first part of the file of a recording.
-use Rattle.std.proofs.Common.{◌≡◌, ◌⊎◌, ℕ, zero, suc, ◌+◌, ◌-◌, ◌≤◌, true, List, [], ◌∷◌, ◌++◌, length, take, drop, Option, Some, Err, refl, sym, ap, subst, inl, inr, ◌∙◌, append_assoc, arith, length-append}
+use Rattle.std.proofs.Common.{◌≡◌, ◌⊎◌, ℕ, zero, suc, ◌+◌, ◌-◌, ◌≤◌, true, List, [], ◌∷◌, ◌++◌, length, take, drop, Option, Some, None, Err, refl, sym, ap, subst, inl, inr, ◌∙◌, append_assoc, arith, length-append}
 use Rattle.std.specs.Prelude.{IsUtf8, filter}
 use Rattle.std.specs.List.{flat_map}
 use Rattle.std.proofs.lemmas.Bool.{both_ways, cases_lt}
@@ -19,16 +19,18 @@ use Rattle.mcap_model.specs.Tops.{Top, offset_behind}
 use Rattle.mcap_model.specs.Rules.{V1}
 use Rattle.mcap_model.specs.Kept.{Halt, at_end, grammar, compressed, beyond}
 use Rattle.mcap_model.specs.Readings.{SameHalt}
-use Rattle.mcap_model.specs.History.{is_message, Follows, Numbered}
+use Rattle.mcap_model.specs.History.{is_message, Follows, Numbered, without_repeats}
 use Rattle.mcap_model.specs.Blocks.{Piece, block_in, blocks_in, pieces_of}
 use Rattle.mcap_model.specs.File.{front as front_bytes, library, file_of}
 use Rattle.mcap_model.specs.Pieces.{joined, file_pieces}
 use Rattle.mcap_model.specs.Repaired.{Repairs}
+use Rattle.mcap_model.specs.Laws.{IsInner}
 use Rattle.mcap_model.specs.Recovery.{piece_records, FrontIsRepaired, FrontsAreRepaired}
 use Rattle.mcap_model.proofs.Places.{at_kept, each_front}
 use Rattle.mcap_model.proofs.Lists.{cut_at}
 use Rattle.mcap_model.proofs.Halting.{readings_halt_once}
-use Rattle.mcap_model.proofs.Section.{pieces_hold}
+use Rattle.mcap_model.proofs.Asides.{body_whole, no_extras}
+use Rattle.mcap_model.proofs.Section.{held, each_held, pieces_body}
 use Rattle.mcap_model.proofs.WrittenChunks.{empty_utf8}
 use Rattle.mcap_model.proofs.Pieces.{pieces_make_files}
 use Rattle.mcap_model.proofs.Readings.{kept_once}
@@ -41,6 +43,7 @@ use Rattle.recorder.specs.Laws.{ReadsAs}
 use Rattle.recorder.specs.Recorded.{Sides, sides, Recorded, AreReadable}
 use Rattle.mcap_model.specs.declared.options.RecordOptions.{RecordOptions}
 use Rattle.recorder.specs.declared.report.Report.{Report}
+use Rattle.recorder.proofs.Inners.{recorded_inner}
 use Rattle.recorder.proofs.ReadBack.{IsClosedFile, closed_file, can_be_read, files_read_back}
 use Rattle.recorder.proofs.Validity.{can_be_written, files_sound}
 use Rattle.mcap_recover.specs.declared.answers.Why.{Why}
@@ -69,19 +72,27 @@ take_none : {X : Type 0} (n : ℕ) (xs : List X) → xs ≡ [] → take n xs ≡
 take_none zero xs none = refl
 take_none (suc n) xs none = ap (take (suc n)) none
 
--- a recording's history: its ids are given in order, and each record was kept in a buffer
+-- a recording's history: its ids are given in order, each record was kept in a buffer, and none is an extra
 record AreRecorded (history : List Rec) : Type 0 where
   numbered : Numbered history
   kept : Each IsKept history
+  inner : Each IsInner history
 
 firsts_recorded : (first rest history : List Rec) → first ++ rest ≡ history → AreRecorded history → AreRecorded first
 firsts_recorded first rest history parted are = record {
   numbered = each_front Follows first rest (subst Numbered (sym parted) are.numbered);
   kept = λ n r at. are.kept n r (subst (λ (l : List Rec). At l n r) parted (at_kept first rest n r at));
+  inner = λ n r at. are.inner n r (subst (λ (l : List Rec). At l n r) parted (at_kept first rest n r at));
 }
 
 pieces_part : (n : ℕ) (pieces : List Piece) → flat_map piece_records (take n pieces) ++ flat_map piece_records (drop n pieces) ≡ flat_map piece_records pieces
 pieces_part n pieces = sym (flat_map-append piece_records (take n pieces) (drop n pieces)) ∙ ap (λ (l : List Piece). flat_map piece_records l) (take-append-drop n pieces)
+
+-- without extras the pieces hold the history
+pieces_hold : (size span : Option ℕ) (history : List Rec) → Each IsInner history → held (pieces_of size span history) ≡ history
+pieces_hold size span history inner =
+    let pieces = pieces_of size span history in
+    sym (body_whole (held pieces) (each_held IsInner size span history inner)) ∙ pieces_body size span history ∙ body_whole history inner
 
 -- the records of the first pieces are some
 record KeepsRecorded (options : FileOptions) (history : List Rec) (part : List ℕ) : Type 0 where
@@ -90,12 +101,13 @@ record KeepsRecorded (options : FileOptions) (history : List Rec) (part : List �
 
 keeps_first : (options : FileOptions) (history : List Rec) (part : List ℕ) → AreRecorded history → FrontIsRepaired options [] history part → KeepsRecorded options history part
 keeps_first options history part are front =
-    let pieces = pieces_of options.chunk history in
+    let pieces = pieces_of options.chunk options.span history in
     let n = front.piece_count in
-    let firsts = firsts_recorded (records_in_pieces options history n) (flat_map piece_records (drop n pieces)) history (pieces_part n pieces ∙ pieces_hold options.chunk history) are in
-    let same : front.first ≡ records_in_pieces options history n = front.first_is ∙ unrepeated (records_in_pieces options history n) firsts.numbered in
+    let firsts = firsts_recorded (records_in_pieces options history n) (flat_map piece_records (drop n pieces)) history (pieces_part n pieces ∙ pieces_hold options.chunk options.span history are.inner) are in
+    let some = records_in_pieces options history n in
+    let same : front.first ≡ some = front.first_is ∙ ap without_repeats (body_whole some firsts.inner) ∙ unrepeated some firsts.numbered in
     record {
-      keeps = record { front = front; none = front.kept_is ∙ take_none front.extra_count [] refl; records = same };
+      keeps = record { front = front; none = front.kept_is ∙ ap (λ (l : List Top). l ++ take front.extra_count []) (no_extras some firsts.inner) ∙ take_none front.extra_count [] refl; records = same };
       are = subst AreRecorded (sym same) firsts;
     }
 
@@ -118,11 +130,18 @@ new_readable options history part chunk front text few size = elim (cases_lt (le
 
 -- a file of recorded records that is within the limits
 abbrev closed_so : (options : FileOptions) (history : List Rec) → AreRecorded history → FitsWritingLimits options history
-    → IsClosedFile options history (length (blocks_in (pieces_of options.chunk history))) (length (file_of options [] history))
-closed_so options history are within = record { numbered = are.numbered; kept = are.kept; within = within; blocks_are = refl; bytes_are = refl }
+    → IsClosedFile options history (length (blocks_in (pieces_of options.chunk options.span history))) (length (file_of options [] history))
+closed_so options history are within = record {
+  numbered = are.numbered;
+  kept = are.kept;
+  few_extras = (let none = ap (λ (l : List Top). length l) (no_extras history are.inner) in omega (arith, none));
+  within = within;
+  blocks_are = refl;
+  bytes_are = refl;
+}
 
-no_extras : (profile : List ℕ) (chunk : ℕ) (a b : List Top) (c d : List Rec) → a ≡ b → c ≡ d → file_of (recovered_options profile chunk) a c ≡ file_of (recovered_options profile chunk) b d
-no_extras profile chunk a b c d first second = ap (λ (l : List Top). file_of (recovered_options profile chunk) l c) first ∙ ap (λ (l : List Rec). file_of (recovered_options profile chunk) b l) second
+file_same : (profile : List ℕ) (chunk : ℕ) (a b : List Top) (c d : List Rec) → a ≡ b → c ≡ d → file_of (recovered_options profile chunk) a c ≡ file_of (recovered_options profile chunk) b d
+file_same profile chunk a b c d first second = ap (λ (l : List Top). file_of (recovered_options profile chunk) l c) first ∙ ap (λ (l : List Rec). file_of (recovered_options profile chunk) b l) second
 
 -- ---- where the part ends
 
@@ -148,7 +167,7 @@ cut_short at whys.Limit halt n is same = absurd (subst (λ (h : Halt). SameHalt 
 limit_passed : (options : FileOptions) (history : List Rec) (opened now : Option (List ℕ)) (blocks bytes : ℕ) (written : Written) → StopsAt options [] history opened now (stops.Limit blocks bytes) written
     → FitsWritingLimits options history → ⊥
 limit_passed options history opened now blocks bytes written stop within =
-    let pieces = pieces_of options.chunk history in
+    let pieces = pieces_of options.chunk options.span history in
     let n = stop.place + 1 - 1 in
     let few = within.few in
     let among = ap (λ (l : List Piece). length (blocks_in l)) (sym (take-append-drop n pieces)) ∙ ap (λ (l : List (List Rec)). length l) (flat_map-append block_in (take n pieces) (drop n pieces)) in
@@ -175,7 +194,7 @@ module _ (options : FileOptions) (history : List Rec) (part : List ℕ) (recorde
   file = file_of new_options [] keeps.front.first
 
   abbrev blocks : ℕ
-  blocks = length (blocks_in (pieces_of (Some chunk) keeps.front.first))
+  blocks = length (blocks_in (pieces_of (Some chunk) None keeps.front.first))
 
   recovers_first : (status : Status) → RecoversFile chunk input output later last status → status ≡ statuses.Done → RecoversFirst options history chunk part output later last
   recovers_first status it done =
@@ -189,10 +208,10 @@ module _ (options : FileOptions) (history : List Rec) (part : List ℕ) (recorde
       let (profiles, extras, histories) = repairs_once own.tops holds.extras keeps.front.kept holds.profile keeps.front.profile holds.history keeps.front.first repairs own.repairs in
       let no_extra : holds.extras ≡ [] = extras ∙ keeps.none in
       let file_is : file_of (recovered_options holds.profile chunk) holds.extras holds.history ≡ file =
-      ap (λ (p : List ℕ). file_of (recovered_options p chunk) holds.extras holds.history) profiles ∙ no_extras keeps.front.profile chunk holds.extras [] holds.history keeps.front.first no_extra histories in
+      ap (λ (p : List ℕ). file_of (recovered_options p chunk) holds.extras holds.history) profiles ∙ file_same keeps.front.profile chunk holds.extras [] holds.history keeps.front.first no_extra histories in
       let within : FitsWritingLimits new_options keeps.front.first =
       subst (λ (l : List ℕ). Holds blocks (length l)) file_is
-      (subst (λ (l : List Rec). Holds (length (blocks_in (pieces_of (Some chunk) l))) (length (file_of (recovered_options holds.profile chunk) holds.extras holds.history))) histories holds.within) in
+      (subst (λ (l : List Rec). Holds (length (blocks_in (pieces_of (Some chunk) None l))) (length (file_of (recovered_options holds.profile chunk) holds.extras holds.history))) histories holds.within) in
       let readable = new_readable options history part chunk keeps.front text few size in
       let closed = closed_so new_options keeps.front.first recorded.are within in
       let written = can_be_written new_options keeps.front.first blocks (length file) readable closed in
@@ -284,10 +303,10 @@ pub first_recovered : FrontsAreRepaired → (options : RecordOptions) (before af
     → ((status ≡ statuses.Done) × RecoversFirst options.file recorded.history chunk part output later last) ⊎ (((status ≡ statuses.Limit) × PassesWritingLimit options.file recorded.history chunk part) ⊎ (status ≡ statuses.Memory))
 first_recovered fronts_are_repaired options before after r allowed text recorded within part first chunk input output later last status told size here there recovers quiet =
     let history = recorded.history in
-    let are : AreRecorded history = record { numbered = recorded.assembled.numbered; kept = recorded.kept } in
+    let are : AreRecorded history = record { numbered = recorded.assembled.numbered; kept = recorded.kept; inner = recorded_inner options before after r recorded } in
     let short = allowed.short in
     let readable : AreReadable options.file = record { profile = text; short = omega (arith, short); size = allowed.size } in
-    let blocks = length (blocks_in (pieces_of options.file.chunk history)) in
+    let blocks = length (blocks_in (pieces_of options.file.chunk options.file.span history)) in
     let closed = closed_so options.file history are within in
     let written = can_be_written options.file history blocks (length (file_of options.file [] history)) readable closed in
     let front = fronts_are_repaired options.file part [] history written (can_be_read options.file history readable are.kept within.small) first.part_is first.magic in

@@ -1,6 +1,6 @@
 -- What a merge left keeps all rules.
 use Rattle.std.proofs.Common.{◌≡◌, ◌⊎◌, ℕ, zero, suc, ◌^◌, ◌<◌, ◌≤◌, Bool, true, false, List, [], ◌∷◌, ◌++◌, length, map, Option, Some, None, Result, Ok, Err, refl, sym, ap, subst, inl, inr, ◌∙◌, arith}
-use Rattle.std.specs.Prelude.{filter, IsSome, IsUtf8, ◌==◌, ◌||◌}
+use Rattle.std.specs.Prelude.{filter, nat_le, IsSome, IsUtf8, ◌==◌, ◌||◌}
 use Rattle.std.specs.List.{AllZip, flat_map}
 use Rattle.std.specs.Str.{bytes_eq}
 use Rattle.std.proofs.lemmas.Bool.{both_ways}
@@ -20,9 +20,12 @@ use Rattle.mcap_model.specs.Kept.{Good, Halts, reading_limits, at_end}
 use Rattle.mcap_model.specs.Repaired.{is_extra, ProfileIs}
 use Rattle.mcap_model.specs.Merged.{CommonProfile, AreRead, Merged as MergesTo}
 use Rattle.mcap_model.specs.Laws.{CanBeWritten}
-use Rattle.mcap_model.specs.ReadBack.{IsReadBack, IsExtra}
+use Rattle.mcap_model.specs.ReadBack.{IsReadBack, IsExtraKind, IsExtra}
 use Rattle.mcap_model.specs.Blocks.{pieces_of, blocks_in}
 use Rattle.mcap_model.specs.File.{file_of}
+use Rattle.mcap_model.specs.History.{extras_in}
+use Rattle.mcap_model.specs.Whole.{count_of}
+use Rattle.mcap_model.proofs.Asides.{no_extras}
 use Rattle.mcap_model.proofs.Places.{at_none}
 use Rattle.mcap_model.proofs.Lists.{each_joined, filter_passed}
 use Rattle.mcap_model.proofs.NamedTopics.{zip_back}
@@ -57,7 +60,7 @@ good_inputs files inputs read n tops at =
 
 -- ---- the extras
 
-kind_of : (n : ℕ) → ((n == 9) || (n == 12)) ≡ true → (n ≡ 9) ⊎ (n ≡ 12)
+kind_of : (n : ℕ) → ((n == 9) || ((n == 12) || nat_le 128 n)) ≡ true → IsExtraKind n
 kind_of n is = grind arith
 
 extras_of_one : (tops : List Top) → Good reading_limits tops → Each IsExtra (filter is_extra tops)
@@ -114,22 +117,23 @@ small_enough : (bytes : ℕ) → bytes ≤ file_limit → bytes < 2 ^ 64
 small_enough bytes small = omega (arith, small)
 
 can_be_written : (files : List (List ℕ)) (profile : List ℕ) (extras : List Top) (history : List Rec) (chunk : ℕ) → MergesTo files profile extras history → Each IsReadBack history → IsChunkSize chunk
-    → Holds (length (blocks_in (pieces_of (Some chunk) history))) (length (file_of (merged_options profile chunk) extras history)) → length extras < 2 ^ 32 → CanBeWritten (merged_options profile chunk) extras history
+    → Holds (length (blocks_in (pieces_of (Some chunk) None history))) (length (file_of (merged_options profile chunk) extras history)) → length extras < 2 ^ 32 → CanBeWritten (merged_options profile chunk) extras history
 can_be_written files profile extras history chunk it back size within few =
     let good = good_inputs files it.inputs it.read in
     let fits = profile_fits it.inputs profile good it.merge.profile_is in
     let ids = numbered_ids_agree history back it.merge.numbered in
+    let alone : extras_in history ++ extras ≡ extras = ap (λ (l : List Top). l ++ extras) (no_extras history it.merge.inner) in
     record {
       profile = fits.0;
       profile_fits = fits.1;
       records_fit = back;
       numbered = ids.1;
       ids_agree = ids.0;
-      extras_meet = subst (Each IsExtra) (sym it.merge.extras_are) (extras_meet it.inputs good);
-      entries_fit = small_blocks_fit chunk history (omega (arith, size.0)) size.1;
-      few_blocks = few_enough (length (blocks_in (pieces_of (Some chunk) history))) within.few;
-      few_attachments = omega (arith, few, few_filtered (λ t. t.op == 9) extras);
-      few_metadata = omega (arith, few, few_filtered (λ t. t.op == 12) extras);
+      extras_meet = subst (Each IsExtra) (sym (alone ∙ it.merge.extras_are)) (extras_meet it.inputs good);
+      entries_fit = small_blocks_fit chunk None history (omega (arith, size.0)) size.1;
+      few_blocks = few_enough (length (blocks_in (pieces_of (Some chunk) None history))) within.few;
+      few_attachments = omega (arith, few, few_filtered (λ t. t.op == 9) extras, ap (count_of 9) alone);
+      few_metadata = omega (arith, few, few_filtered (λ t. t.op == 12) extras, ap (count_of 12) alone);
       size_fits = small_enough (length (file_of (merged_options profile chunk) extras history)) within.small;
     }
 

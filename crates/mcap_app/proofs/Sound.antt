@@ -93,16 +93,16 @@ no_foot = record { kind = refl; layout = footer_shown (footer_of_offsets 0 0 0) 
 no_tail : Each IsTail []
 no_tail k t there = absurd (at_none k t there)
 
-abbrev options_at : List ℕ → Option ℕ → FileOptions
-options_at profile chunk = record { profile = profile; chunk = chunk }
+abbrev options_at : List ℕ → Option ℕ → Option ℕ → FileOptions
+options_at profile chunk span = record { profile = profile; chunk = chunk; span = span }
 
-abbrev plain_of : List ℕ → FileOptions
-plain_of profile = options_at profile None
+abbrev plain_of : List ℕ → Option ℕ → FileOptions
+plain_of profile span = options_at profile None span
 
 -- it has no Statistics
-plain_unindexed : (profile : List ℕ) (history : List Rec) → CanBeWritten (plain_of profile) [] history → IsFullyIndexed (file_of (plain_of profile) [] history) → ⊥
-plain_unindexed profile history written (tops, full) =
-    let options = plain_of profile in
+plain_unindexed : (profile : List ℕ) (span : Option ℕ) (history : List Rec) → CanBeWritten (plain_of profile span) [] history → IsFullyIndexed (file_of (plain_of profile span) [] history) → ⊥
+plain_unindexed profile span history written (tops, full) =
+    let options = plain_of profile span in
     let stand = standing options [] history written in
     let all = written_tops options [] history in
     let file = file_of options [] history in
@@ -112,12 +112,12 @@ plain_unindexed profile history written (tops, full) =
     11 (λ e. omega (arith, e)) (λ e. omega (arith, e)) (λ e. omega (arith, e)) refl n t (subst (λ (l : List Top). At l n t) same at) kind in
     at_none j t second
 
-unindexed_at : (profile : List ℕ) (chunk : Option ℕ) (history : List Rec) → CanBeWritten (options_at profile chunk) [] history → chunk ≡ None → IsFullyIndexed (file_of (options_at profile chunk) [] history) → ⊥
-unindexed_at profile None history written none full = plain_unindexed profile history written full
-unindexed_at profile (Some size) history written none full = absurd cc
+unindexed_at : (profile : List ℕ) (chunk span : Option ℕ) (history : List Rec) → CanBeWritten (options_at profile chunk span) [] history → chunk ≡ None → IsFullyIndexed (file_of (options_at profile chunk span) [] history) → ⊥
+unindexed_at profile None span history written none full = plain_unindexed profile span history written full
+unindexed_at profile (Some size) span history written none full = absurd cc
 
 unindexed : (options : FileOptions) (history : List Rec) → CanBeWritten options [] history → options.chunk ≡ None → IsFullyIndexed (file_of options [] history) → ⊥
-unindexed options history written none full = unindexed_at options.profile options.chunk history written none full
+unindexed options history written none full = unindexed_at options.profile options.chunk options.span history written none full
 
 -- ---- the check
 

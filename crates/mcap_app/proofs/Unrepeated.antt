@@ -5,7 +5,7 @@ use Rattle.std.specs.List.{list_any}
 use Rattle.std.proofs.lemmas.Bool.{both_ways, eqb-true, false_from_ne_true}
 use Rattle.std.proofs.lemmas.List.{append-nil}
 use Rattle.rec_data.specs.declared.owned.Rec.{Rec}
-use Rattle.rec_data.specs.declared.owned.Rec.TheVariants.{Schema, Channel, Message}
+use Rattle.rec_data.specs.declared.owned.Rec.TheVariants.{Schema, Channel, Message, Extra}
 use Rattle.mcap_model.specs.Places.{At}
 use Rattle.mcap_model.specs.Fields.{SchemaFields, ChannelFields}
 use Rattle.mcap_model.specs.History.{declare_same, kept_with, without_repeats, Follows, Numbered}
@@ -20,12 +20,15 @@ apart done (Schema id s) (Schema other t) n numbered follows at same =
     omega (arith, follows.numbered, schema_id_below done n other f numbered at, eqb-true id other same)
 apart done (Schema id s) (Channel other schema topic encoding metadata) n numbered follows at same = both_ways false refl same
 apart done (Schema id s) (Message channel sequence log_time publish_time payload) n numbered follows at same = both_ways false refl same
+apart done (Schema id s) (Extra op content) n numbered follows at same = both_ways false refl same
 apart done (Channel id schema topic encoding metadata) (Schema other t) n numbered follows at same = both_ways false refl same
 apart done (Channel id schema topic encoding metadata) (Channel other other_schema other_topic other_encoding other_metadata) n numbered follows at same =
     let f : ChannelFields = record { schema = other_schema; topic = other_topic; encoding = other_encoding; metadata = other_metadata } in
     omega (arith, follows.numbered, channel_id_below done n other f numbered at, eqb-true id other same)
 apart done (Channel id schema topic encoding metadata) (Message channel sequence log_time publish_time payload) n numbered follows at same = both_ways false refl same
+apart done (Channel id schema topic encoding metadata) (Extra op content) n numbered follows at same = both_ways false refl same
 apart done (Message channel sequence log_time publish_time payload) k n numbered follows at same = both_ways false refl same
+apart done (Extra op content) k n numbered follows at same = both_ways false refl same
 
 is_new : (done : List Rec) (r : Rec) → Numbered done → Follows done r → list_any (declare_same r) done ≡ false
 is_new done r numbered follows =

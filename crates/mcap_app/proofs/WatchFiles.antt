@@ -14,12 +14,15 @@ use Rattle.mcap_model.specs.Places.{At, Each}
 use Rattle.mcap_model.specs.Tops.{Top, Tops, top_bytes, spelled, flat, offset_behind}
 use Rattle.mcap_model.specs.Kept.{Kept, reading_limits, Good, grammar, short_head}
 use Rattle.mcap_model.specs.Scan.{Scan}
-use Rattle.mcap_model.specs.History.{rec_top}
+use Rattle.mcap_model.specs.History.{rec_top, is_inner}
+use Rattle.mcap_model.specs.Laws.{IsInner}
+use Rattle.mcap_model.specs.Recovery.{piece_records}
 use Rattle.mcap_model.specs.Blocks.{Piece, block, alone, pieces_of, pieces_bytes, blocks_in}
 use Rattle.mcap_model.specs.File.{front, until_block, front_of}
 use Rattle.mcap_model.proofs.Places.{at_none}
 use Rattle.mcap_model.proofs.Edges.{header_top, end_top}
-use Rattle.mcap_model.proofs.Section.{piece_tops, IsBlock, pieces_are_blocks, pieces_spelled}
+use Rattle.mcap_model.proofs.Asides.{body_whole}
+use Rattle.mcap_model.proofs.Section.{piece_tops, IsBlock, pieces_are_blocks, pieces_spelled, each_held, each_parts}
 use Rattle.mcap_model.proofs.Files.{section_tops}
 use Rattle.mcap_model.proofs.Body.{section_flat}
 use Rattle.mcap_model.proofs.Readings.{kept_once, halts_are_last, good_from_the_front}
@@ -28,7 +31,8 @@ use Rattle.mcap_model.specs.declared.rules.Rule.TheVariants as rules
 use Rattle.mcap_laws.proofs.Scanned.{stand_of, read_so, scan_of_flat}
 use Rattle.recorder.specs.declared.report.WriterReport.{WriterReport}
 use Rattle.recorder.specs.Recorded.{AreReadable}
-use Rattle.recorder.proofs.ReadBack.{IsClosedFile, closed_file, can_be_read, recs_back}
+use Rattle.recorder.proofs.Inners.{recorded_inner}
+use Rattle.recorder.proofs.ReadBack.{IsClosedFile, closed_file, can_be_read, recs_back, extras_kept}
 use Rattle.time_player.specs.Text.{cat_text}
 use Rattle.watching.specs.declared.report.WatchEnd.{WatchEnd}
 use Rattle.watching.specs.declared.report.WatchEnd.TheVariants as watch_ends
@@ -48,10 +52,15 @@ use Rattle.mcap_app.proofs.Recordings.{watched_still, watched_total, of_watched}
 
 -- ---- the file up to its last block
 
-until_all : (ps : List Piece) → Each IsBlock ps → until_block (length (blocks_in ps)) ps ≡ ps
-until_all [] each = refl
-until_all (block records ∷ ps) each = ap (λ (l : List Piece). block records ∷ l) (until_all ps (λ k p at. each (suc k) p at))
-until_all (alone r ∷ ps) each = absurd (each 0 (alone r) refl)
+-- no record of the piece is an extra
+abbrev HasInner : Piece → Type 0
+HasInner p = Each IsInner (piece_records p)
+
+until_all : (ps : List Piece) → Each IsBlock ps → Each HasInner ps → until_block (length (blocks_in ps)) ps ≡ ps
+until_all [] each inner = refl
+until_all (block records ∷ ps) each inner =
+    ap (λ (l : List Piece). block records ∷ l) (until_all ps (λ k p at. each (suc k) p at) (λ k p at. inner (suc k) p at))
+until_all (alone r ∷ ps) each inner = absurd (both_ways (is_inner r) (each 0 (alone r) refl) (inner 0 (alone r) refl 0 r refl))
 
 front_stands : (profile : List ℕ) (ps : List Piece) → Tops (front profile ++ pieces_bytes ps) (header_top profile ∷ (flat_map piece_tops ps ++ [])) []
 unfolding front
@@ -61,13 +70,16 @@ front_stands profile ps = record {
       ∙ ap (λ (l : List ℕ). magic ++ l) (sym (append-nil (top_bytes (header_top profile) ++ spelled (flat_map piece_tops ps ++ []))));
 }
 
--- a closed file in chunks
-module _ (options : FileOptions) (history : List Rec) (blocks bytes size : ℕ) (readable : AreReadable options) (closed : IsClosedFile options history blocks bytes) (some : options.chunk ≡ Some size) where
+-- a closed file in chunks, without extras
+module _ (options : FileOptions) (history : List Rec) (blocks bytes size : ℕ) (readable : AreReadable options) (closed : IsClosedFile options history blocks bytes) (inner : Each IsInner history) (some : options.chunk ≡ Some size) where
   abbrev tops : List Top
   tops = section_tops options [] history
 
-  all_blocks : Each IsBlock (pieces_of options.chunk history)
-  all_blocks = subst (λ (c : Option ℕ). Each IsBlock (pieces_of c history)) (sym some) (pieces_are_blocks size history)
+  all_blocks : Each IsBlock (pieces_of options.chunk options.span history)
+  all_blocks = subst (λ (c : Option ℕ). Each IsBlock (pieces_of c options.span history)) (sym some) (pieces_are_blocks size options.span history)
+
+  all_inner : Each HasInner (pieces_of options.chunk options.span history)
+  all_inner = each_parts IsInner piece_records (pieces_of options.chunk options.span history) (each_held IsInner options.chunk options.span history inner)
 
   -- the records up to its Data End are kept of it up to its last block
   front_kept : Kept reading_limits (front_of options history blocks) tops
@@ -77,12 +89,12 @@ module _ (options : FileOptions) (history : List Rec) (blocks bytes size : ℕ) 
       let small = closed.within.small in
       let length_is = closed.bytes_are in
       let can = can_be_read options history readable closed.kept (omega (arith, small, length_is)) in
-      let read = read_so options [] history readable.profile back numbered agree (λ n t at. absurd (at_none n t at)) can in
+      let read = read_so options [] history readable.profile back numbered agree (extras_kept history closed.kept) can in
       let good : Good reading_limits tops = good_from_the_front reading_limits tops (end_top ∷ []) read.halts.kept.good in
-      let pieces = pieces_of options.chunk history in
+      let pieces = pieces_of options.chunk options.span history in
       let whole = front options.profile ++ pieces_bytes pieces in
       let kept : Kept reading_limits whole tops = halts_are_last whole tops [] (grammar (offset_behind tops) rules.V4) (front_stands options.profile pieces) good (inr (short_head refl)) in
-      let until : until_block blocks pieces ≡ pieces = ap (λ (n : ℕ). until_block n pieces) closed.blocks_are ∙ until_all pieces all_blocks in
+      let until : until_block blocks pieces ≡ pieces = ap (λ (n : ℕ). until_block n pieces) closed.blocks_are ∙ until_all pieces all_blocks all_inner in
       subst (λ (ps : List Piece). Kept reading_limits (front options.profile ++ pieces_bytes ps) tops) (sym until) kept
 
   tops_flat : flat tops ≡ map rec_top history
@@ -92,7 +104,7 @@ module _ (options : FileOptions) (history : List Rec) (blocks bytes size : ℕ) 
       let small = closed.within.small in
       let length_is = closed.bytes_are in
       let can = can_be_read options history readable closed.kept (omega (arith, small, length_is)) in
-      section_flat options [] history (stand_of options [] history readable.profile back numbered (λ n t at. absurd (at_none n t at)) can)
+      section_flat options [] history (stand_of options [] history readable.profile back numbered (extras_kept history closed.kept) can) ∙ ap (map rec_top) (body_whole history inner)
 
   -- its text, behind the lines of fronts
   messages_held : (range : Range) (fronts : List ℕ) (text : List ℕ) → WatchText (FrontReplay options range history) blocks fronts (sealed_by ends.Closed) text → HoldsWatchedMessages range history blocks (Some text)
@@ -104,7 +116,7 @@ module _ (options : FileOptions) (history : List Rec) (blocks bytes size : ℕ) 
       last ∙ ap (λ (n : ℕ). end_line ends.Closed blocks n ++ lines) replays.count_is ∙ ap (λ (l : List ℕ). end_line ends.Closed blocks (length replays.shown) ++ l) replays.text_is in
       record {
         tops = tops;
-        flat_are = tops_flat ∙ sym (recs_are_flat history);
+        flat_are = tops_flat ∙ sym (recs_are_flat history (recs_back history closed.kept) ∙ ap (map rec_top) (body_whole history inner));
         messages = replays.messages;
         scan = scan;
         are = scan_of_flat tops history replays.messages tops_flat (recs_back history closed.kept) scan;
@@ -168,7 +180,7 @@ watch_files_hold_messages options range size out watches feeds old new r told no
     let calm = is_calm is.live is.viewed it.sealed w w.report.end whole (is.ends n w at_w) in
     let (lines, wrote, took) = wrote_all options.file range history r.writer w (is.texts told here readable all.2.sealed_is n w at_w) calm.0 whole (is.sinks_empty told here n w at_w) in
     let wrote_closed = subst (λ (e : End). WatchText (FrontReplay options.file range history) r.writer.blocks w.report.fronts.items (sealed_by e) lines) closed wrote in
-    let holds = messages_held options.file history r.writer.blocks r.writer.bytes size readable file some range w.report.fronts.items lines wrote_closed in
+    let holds = messages_held options.file history r.writer.blocks r.writer.bytes size readable file (recorded_inner options made.before made.after r is.recorded) some range w.report.fronts.items lines wrote_closed in
     let still = watched_still options range out watches feeds old new r statuses.Done it refl in
     let none = nothing_added old.world.faults new.world.faults (world_faults (map sink_entry is.kept_sinks)) (world_faults (map feed_entry is.kept_feeds)) is.live_kept (watched_total options range out watches feeds old new r statuses.Done it) still in
     let well = none_failed is.kept_sinks none n k at_k in

@@ -101,7 +101,7 @@ abbrev pub IsChunkSize : ℕ → Type 0
 IsChunkSize chunk = (1 ≤ chunk) × (chunk ≤ chunk_size_limit)
 
 -- A recovery was made, and its line was printed. Under the output's name stands a file, which is valid and fully indexed where
--- fewer than 2^32 Attachments and Metadata are told: a summary has no more room for their number.
+-- fewer than 2^32 extras are told: a summary has no more room for the number of Attachments, nor for that of Metadata.
 pub record LeavesSound (out : List ℕ) (old new : Scene) (recovery : Recovery) : Type 0 where
   pub recovered : Recovered
   pub is_made : recovery ≡ recoveries.Made recovered
@@ -127,7 +127,8 @@ merged_file chunk profile extras history = file_of (merged_options profile chunk
 
 -- A merge was made, and its line was printed. These were the files under the inputs' names, and under the output's name stands what
 -- merging makes of them, with its numbers: all messages of all files, each once, in order. That file is valid and fully indexed
--- where the files have fewer than 2^32 Attachments and Metadata: a summary has no more room for their number.
+-- where the files have fewer than 2^32 extras: a summary has no more room for the number of Attachments, nor for that of
+-- Metadata.
 pub record LeavesMerged (chunk : ℕ) (inputs : List (List ℕ)) (out : List ℕ) (old new : Scene) (before : Told)
     (merging : Merging) : Type 0 where
   pub merged : Merged
@@ -163,7 +164,7 @@ pub record IsFirstPart (options : FileOptions) (history : List Rec) (part : List
 -- that file is within the limits of writing
 abbrev pub FitsWritingLimits : FileOptions → List Rec → Type 0
 FitsWritingLimits options history =
-    Holds (length (blocks_in (pieces_of options.chunk history))) (length (file_of options [] history))
+    Holds (length (blocks_in (pieces_of options.chunk options.span history))) (length (file_of options [] history))
 
 -- A recording in a world that tells, whatever its end, of which a record was accepted and the output was kept, leaves such a part
 -- under the output's name; and where its writer closed, its file is within the limits.
@@ -178,7 +179,7 @@ RecordingsLeaveFirstParts = (options : RecordOptions) (out : List ℕ) (feeds : 
 
 -- the records of the first so many pieces of the file of a history
 abbrev pub records_in_pieces : FileOptions → List Rec → ℕ → List Rec
-records_in_pieces options history pieces = flat_map piece_records (take pieces (pieces_of options.chunk history))
+records_in_pieces options history pieces = flat_map piece_records (take pieces (pieces_of options.chunk options.span history))
 
 -- What repairing makes of a first part of a file without extras: of the history just the records of those pieces that are whole
 -- there, unchanged.

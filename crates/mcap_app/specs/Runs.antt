@@ -22,8 +22,11 @@ use Rattle.generate_command.specs.Generating.{Generates}
 
 -- generated feeds are recorded without loss, with no profile and the usual sizes
 abbrev pub generate_options : RecordOptions
-generate_options =
-    record { file = record { profile = []; chunk = Some usual_chunk_size }; limit = usual_limit; lossless = true }
+generate_options = record {
+  file = record { profile = []; chunk = Some usual_chunk_size; span = None };
+  limit = usual_limit;
+  lossless = true;
+}
 
 -- a recording without watchers, or beside so many, which write to the files under their names
 abbrev pub RecordsBeside : ℕ → Requested → Scene → Scene → Option Report → Status → Type 0

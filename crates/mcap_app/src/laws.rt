@@ -14,7 +14,7 @@ pub fn recordings_are_sound()
     ensures { RecordingsAreSound }
 {}
 
-/// What is recovered, where all was done, is a valid and fully indexed file, where it has fewer than 2^32 Attachments and Metadata.
+/// What is recovered, where all was done, is a valid and fully indexed file, where it has fewer than 2^32 extras.
 pub fn recoveries_are_sound()
     ensures { RecoveriesAreSound }
 {
@@ -22,7 +22,7 @@ pub fn recoveries_are_sound()
 }
 
 /// What is merged, where all was done, is a valid and fully indexed file of all messages of the inputs, where these have fewer than
-/// 2^32 Attachments and Metadata.
+/// 2^32 extras.
 pub fn merges_are_sound()
     ensures { MergesAreSound }
 {}

@@ -55,6 +55,7 @@ fn generated_options(alloc: Global) -> RecordOptions
         file: FileOptions {
             profile: Text::new(String::new(alloc)),
             chunk: Some(USUAL_CHUNK),
+            span: None,
         },
         limit: USUAL_LIMIT,
         lossless: true,

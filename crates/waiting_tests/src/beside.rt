@@ -45,6 +45,7 @@ fn options_of(alloc: Global) -> Result<RecordOptions, Memory>
         file: FileOptions {
             profile: Text::copied(alloc, "")?,
             chunk: Some(1),
+            span: None,
         },
         limit: 1,
         lossless: false,
