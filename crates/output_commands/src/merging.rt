@@ -322,10 +322,12 @@ impl FileWriting for Merging {
     }
 }
 
-/// Merges 1 to 64 files under their names into a new file under another, in chunks of that size in bytes: their messages by log
-/// time, and of one time by the order of the inputs and the place in them, on channels that are numbered by content. Prints on
-/// `out` how many inputs, messages and records that were, and answers the status: refused
-/// where an input breaks a rule or is compressed, and a limit where an input passes one or the new file would.
+/// Merges 1 to 64 files under their names into a new file under another, in chunks of that size in bytes: their messages by
+/// log time, and of one time by the order of the inputs and the place in them, on channels that are numbered by content;
+/// after these the Attachments, the Metadata and the records of applications (opcodes from 0x80 on) that stand at their top
+/// level, by input and place. Prints on `out` how many inputs, messages and records, extras aside, that were, and answers the
+/// status: refused where an input breaks a rule or is compressed, and a limit where an input passes one or the new file
+/// would.
 pub fn merge_file<W: World, O: Sink, E: Sink>(
     alloc: Global,
     chunk: u64,
