@@ -36,12 +36,12 @@ pub record ScribeStands (options : FileOptions) (opened now : Option (List ℕ))
       → StopsBehind options extras (history ++ behind) opened now stop (numbers p.blocks p.bytes)
   pub unended : p.phase ≡ phases.Ended → ⊥
 
--- while a scribe goes on these extras wait in it, framed, for the end of its file
+-- while a scribe goes on these extras, which are none of the history, wait in it, framed, for the end of its file
 abbrev pub AreWaiting : Phase → List Top → List (List ℕ) → Type 0
 AreWaiting phase extras waiting = phase ≡ phases.Going → (waiting ≡ map top_bytes extras) × Each IsExtra extras
 
--- While a scribe of a file in chunks goes on, the front and each block that it appended are with the system: of what its store
--- took so many bytes wait, none.
+-- While a scribe of a file in chunks goes on, the front and each block and extra that it appended are with the system: of what
+-- its store took so many bytes wait, none.
 abbrev pub AreThrough : FileOptions → Phase → ℕ → Type 0
 AreThrough options phase waiting = phase ≡ phases.Going → IsSome options.chunk → waiting ≡ 0
 

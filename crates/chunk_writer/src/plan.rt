@@ -368,7 +368,7 @@ impl Plan {
         }
     }
 
-    /// Counts an extra, which stands behind all blocks, and notes it for the summary.
+    /// Counts an extra that waited for the end, which stands after all pieces of the history, and notes it for the summary.
     pub(crate) fn note_extra(&mut self, framed: &[u8]) -> Result<(), Stop>
         requires ended { self.old.phase ≡ phases.Ended }
         requires extra { AreExtra framed.now }

@@ -40,9 +40,10 @@ use rec_data::Rec;
 use record_cache::Cache;
 use std::alloc::Global;
 
-/// Writes the file of a history into a store, record by record. A scribe stands for each history (`Writes`) whose sure pieces
-/// stand in its store and whose other records wait in its plan; the extras wait, framed, for the end of the file. Once an append
-/// was refused it keeps the refusal: it answers that at every call, and appends nothing.
+/// Writes the file of a history into a store, record by record. A scribe stands for each history (`WritesHistory`) whose sure
+/// pieces stand in its store and whose other records wait in its plan; the extras that are given beside the history
+/// (`add_extra`) wait, framed, for the end of the file. Once an append was refused it keeps the refusal: it answers that at
+/// every call, and appends nothing.
 #[derive(Drop)]
 pub struct Scribe<L> {
     store: L,
@@ -582,8 +583,8 @@ impl<L: LiveStore> Scribe<L> {
         }
     }
 
-    /// Ends the file: the last block, if records wait for one, appended through; the extras; and then the Data End and all behind
-    /// it, appended through.
+    /// Ends the file: the last block, if records wait for one, appended through; the extras that wait; and then the Data End
+    /// and all after it, appended through.
     pub fn finish(&mut self) -> Finished<L::Extent>
         requires unended { phase_of self.old ≡ phases.Ended → ⊥ }
         ensures ends { EndsFile L.state self.old self.new (record { blocks = result.blocks; bytes = result.bytes })
