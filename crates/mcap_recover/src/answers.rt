@@ -13,8 +13,8 @@ pub enum Why {
 }
 
 /// What was recovered: how many Schemas, Channels and Messages, how many of these are Messages, and how many extras, which are
-/// Attachments, Metadata and records of applications (opcodes from 0x80) at top level. Then the offset, in bytes from the source's
-/// front, of the first record that wasn't kept, or of what follows the Data End; and why the reading stopped there.
+/// Attachments, Metadata and records of applications (opcodes from 0x80) at top level. Then where the reading stopped, in bytes from
+/// the source's front, at a record or after the Data End; and why it stopped there.
 #[derive(Clone, Copy, Debug, PartialEq, Eq)]
 pub struct Recovered {
     pub messages: u64,

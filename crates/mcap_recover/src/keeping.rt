@@ -51,10 +51,7 @@ fn put<L: LiveStore>(k: &mut Keeping<L>, framed: &[u8]) -> Result<(), Stop>
     ensures stopped { IfErr result (λ stop. phase_of k.new.scribe ≡ phases.Stopped stop) }
     ensures cause { Cause (L.state (store_of k.old.scribe)).faults (L.state (store_of k.new.scribe)).faults result }
 {
-    match k.scribe.put_bytes(framed) {
-        Ok(_) => {}
-        Err(stop) => return Err(stop),
-    }
+    k.scribe.put_bytes(framed)?;
     k.records = k.records.saturating_add(1);
     return Ok(());
 }
@@ -171,10 +168,7 @@ fn keep_extra<L: LiveStore>(k: &mut Keeping<L>, op: u8, content: &[u8]) -> Resul
     ensures stopped { IfErr result (λ stop. phase_of k.new.scribe ≡ phases.Stopped stop) }
     ensures cause { Cause (L.state (store_of k.old.scribe)).faults (L.state (store_of k.new.scribe)).faults result }
 {
-    match k.scribe.add_extra(op, content) {
-        Ok(()) => {}
-        Err(stop) => return Err(stop),
-    }
+    k.scribe.add_extra(op, content)?;
     k.extras = k.extras.saturating_add(1);
     return Ok(());
 }
