@@ -181,6 +181,7 @@ fn recorded<R: Threads + Wait + Sync>(
         file: FileOptions {
             profile: Text::copied(alloc, "")?,
             chunk: None,
+            span: None,
         },
         limit,
         lossless,

@@ -1,10 +1,12 @@
 //! A summary, byte by byte, of ids that stand in another order than their records.
-ghost use Rattle.std.specs.Prelude.{◌≡◌, ◌≤◌, ◌+◌, List, length, IfOk, IfSome};
+ghost use Rattle.std.specs.Prelude.{◌≡◌, ◌≤◌, ◌+◌, List, length, true, IfOk, IfSome};
 ghost use Rattle.rec_data.specs.declared.owned.Rec.{Rec};
 ghost use Rattle.rec_data.specs.OwnedReading.{LengthsFit};
 ghost use Rattle.mcap_model.specs.Built.{IsBlock};
+ghost use Rattle.mcap_model.specs.History.{is_inner};
 ghost use Rattle.chunk_build.specs.Chunker.{StandsFor};
 
+use crate::chunkers::record_of;
 use crate::same::holds;
 use chunk_build::Chunker;
 use mcap_model::Block;
@@ -49,6 +51,7 @@ fn of_mixed() -> &'static [u8] {
 // Puts a record.
 fn put(chunker: &mut Chunker, r: &Rec) -> Result<(), Memory>
     requires fits { LengthsFit r.now }
+    requires inner { is_inner r.now ≡ true }
     requires stands { (history : List Rec) × StandsFor chunker.old history }
     ensures stands { (history : List Rec) × StandsFor chunker.new history }
 {
@@ -69,6 +72,7 @@ fn last(chunker: &mut Chunker) -> Result<Option<Block>, Memory>
 // Notes a record, and puts it.
 fn note_and_put(summary: &mut Summary, chunker: &mut Chunker, r: &Rec) -> Result<(), Memory>
     requires fits { LengthsFit r.now }
+    requires inner { is_inner r.now ≡ true }
     requires few { summary.old.messages ≤ 10 }
     requires stands { (history : List Rec) × StandsFor chunker.old history }
     ensures messages { summary.new.messages ≤ summary.old.messages + 1 }
@@ -94,9 +98,7 @@ fn note_each(
     ensures block { IfOk result (λ b. (records : List Rec) × IsBlock b records) }
 {
     for bytes in records {
-        let Some(record) = Rec::from_framed(alloc, bytes)? else {
-            return Err(Fail::from("no record"));
-        };
+        let record = record_of(alloc, bytes)?;
         note_and_put(summary, chunker, &record)?;
     }
     match last(chunker)? {
@@ -114,7 +116,7 @@ fn note_all(alloc: Global, summary: &mut Summary, records: &[&[u8]]) -> Result<B
     ensures blocks { summary.new.blocks ≡ 0 }
     ensures block { IfOk result (λ b. (records : List Rec) × IsBlock b records) }
 {
-    let mut chunker = Chunker::new(alloc, 786432)?;
+    let mut chunker = Chunker::new(alloc, 786432, None)?;
     note_each(alloc, summary, &mut chunker, records)
 }
 

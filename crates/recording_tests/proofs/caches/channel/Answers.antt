@@ -1,4 +1,4 @@
-use Rattle.std.proofs.Common.{◌≤◌, ℕ, List, [], ◌∷◌, length, refl, sym, subst, arith}
+use Rattle.std.proofs.Common.{◌≡◌, true, false, ◌≤◌, ℕ, List, [], ◌∷◌, length, refl, sym, subst, arith}
 use Rattle.std.specs.Str.{IsUtf8}
 use Rattle.mcap_wire.specs.Maps.{IsTextMap}
 use Rattle.mcap_wire.proofs.Framing.{length-framed}
@@ -20,6 +20,7 @@ kept : IsKept (Channel 1 0 (47 ∷ 97 ∷ []) [] [])
 kept = record {
   fits = (omega arith, (omega arith, ((omega arith, topic), ((omega arith, ([], (refl, refl))), ((omega arith, no_pairs), tt)))));
   short = omega (arith, length-framed 4 (channel_text 1 (record { schema = 0; topic = 47 ∷ 97 ∷ []; encoding = []; metadata = [] })), length-channel_text 1 (record { schema = 0; topic = 47 ∷ 97 ∷ []; encoding = []; metadata = [] }));
+  extra = λ aside. absurd (let no : true ≡ false = aside in cc);
 }
 
 pub returns-clause-kept : goal.returns-clause-kept

@@ -1,4 +1,4 @@
-use Rattle.std.proofs.Common.{[], ◌∷◌, refl, arith}
+use Rattle.std.proofs.Common.{◌≡◌, true, false, [], ◌∷◌, refl, arith}
 use Rattle.std.specs.Str.{IsUtf8}
 use Rattle.mcap_wire.proofs.Framing.{length-framed}
 use Rattle.rec_data.specs.Records.{schema_text}
@@ -13,6 +13,7 @@ pub returns-clause-kept : goal.returns-clause-kept
 returns-clause-kept c = record {
   fits = (omega arith, ((omega arith, name), ((omega arith, ([], (refl, refl))), (omega arith, tt))));
   short = omega (arith, length-framed 3 (schema_text 1 (record { name = 115 ∷ []; encoding = []; payload = 1 ∷ 2 ∷ [] })), length-schema_text 1 (record { name = 115 ∷ []; encoding = []; payload = 1 ∷ 2 ∷ [] }));
+  extra = λ aside. absurd (let no : true ≡ false = aside in cc);
 }
 
 pub returns-clause-short : goal.returns-clause-short
