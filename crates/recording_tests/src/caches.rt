@@ -64,6 +64,7 @@ fn kind_of(rec: &Rec) -> u8 {
         Rec::Schema { .. } => b's',
         Rec::Channel { .. } => b'c',
         Rec::Message { .. } => b'm',
+        Rec::Extra { .. } => b'e',
     }
 }
 
