@@ -11,7 +11,7 @@ if [ ! -f "$kit/c/liblibc_c.a" ]; then
 fi
 work="$(mktemp -d)"
 trap 'rm -rf "$work"' EXIT
-crates="mcap_wire mcap_crc rec_data rec_index mcap_model byte_region id_table record_cache record_core"
+crates="mcap_wire mcap_crc rec_data rec_index mcap_model byte_region id_table record_cache history_ids record_core"
 for crate in $crates; do
     mkdir -p "$work/crates/$crate"
     cp -r "$here/../crates/$crate/src" "$work/crates/$crate/"
@@ -20,7 +20,7 @@ for crate in $crates; do
     done
     grep "^$crate:" "$here/../crates.txt" >>"$work/crates.txt"
 done
-echo 'mcap_desk_c staticlib: record_core record_cache rec_data mcap_wire' >>"$work/crates.txt"
+echo 'mcap_desk_c staticlib: history_ids record_core record_cache rec_data mcap_wire' >>"$work/crates.txt"
 mkdir -p "$work/crates/mcap_desk_c/src" "$work/crates/mcap_desk_c/proofs/channel" "$work/crates/mcap_desk_c/proofs/mcap_desk_of"
 : >"$work/crates/mcap_desk_c/proofs/Lib.antt"
 cat >"$work/crates/mcap_desk_c/proofs/channel/Answers.antt" <<'END_OF_PROOF'
@@ -51,7 +51,7 @@ cat >"$work/crates/mcap_desk_c/src/lib.rt" <<'END_OF_CRATE'
 #![tactic(auto)]
 
 ghost use Rattle.std.specs.Prelude.{◌≡◌, ◌≤◌, [], IfOk};
-ghost use Rattle.record_core.specs.Sights.{DefFits};
+ghost use Rattle.history_ids.specs.DeclarationFits.{DefFits};
 
 use mcap_wire::{Memory, Pairs, PairsRef, Text};
 use rec_data::ChannelDef;

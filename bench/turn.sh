@@ -22,7 +22,7 @@ take_crate() {
 
 take_crate buffer_swap
 cp "$here/../HANDLES" "$work/"
-echo 'turn_times: buffer_swap record_core record_cache rec_data mcap_wire' >>"$work/crates.txt"
+echo 'turn_times: buffer_swap history_ids record_core record_cache rec_data mcap_wire' >>"$work/crates.txt"
 program="$work/crates/turn_times"
 mkdir -p "$program/src" "$program/proofs/channel" "$program/proofs/by_desk" "$program/proofs/by_turn"
 : >"$program/proofs/Lib.antt"
@@ -62,7 +62,7 @@ cat >"$program/src/main.rt" <<'END_OF_CRATE'
 #![tactic(auto)]
 
 ghost use Rattle.std.specs.Prelude.{◌≡◌, ◌≤◌, [], IfOk};
-ghost use Rattle.record_core.specs.Sights.{DefFits};
+ghost use Rattle.history_ids.specs.DeclarationFits.{DefFits};
 
 use buffer_swap::{Drain, Publisher, Turn};
 use mcap_wire::{Memory, Pairs, PairsRef, Text};

@@ -11,16 +11,16 @@ use Rattle.mcap_model.specs.declared.options.FileOptions.{FileOptions}
 use Rattle.mcap_model.specs.Fields.{SchemaFields, ChannelFields, MessageFields}
 use Rattle.mcap_model.proofs.Places.{each_front}
 use Rattle.mcap_model.specs.History.{Follows, Numbered, message_of, schema_count, channel_count, history_bytes}
-use Rattle.record_core.specs.Ids.{Ids, schemas_in, channels_in, is_known_channel, ids_of, with_ids, channel_id, new_records}
-use Rattle.record_core.specs.Tables.{HasFewIds}
+use Rattle.history_ids.specs.Ids.{Ids, schemas_in, channels_in, is_known_channel, ids_of, with_ids, channel_id, new_records}
+use Rattle.history_ids.specs.Tables.{HasFewIds}
 use Rattle.record_core.specs.Desk.{DeskView, accepted, with_more_records, swapped, ended, end_unless, found_of, publish_refusal, declare_refusal, Published, DeclaredBy}
 use Rattle.record_core.specs.Machine.{State, desk_of, publish, declare, accept, end_with, unless}
 use Rattle.record_core.specs.Stands.{DeskStandsFor, DeskSteps, PublishSteps, DeclareSteps}
 use Rattle.record_core.specs.declared.answers.Declared.{Declared}
 use Rattle.record_core.specs.declared.answers.CallRefused.{CallRefused}
 use Rattle.record_core.specs.declared.answers.CallRefused.TheVariants as refusing
-use Rattle.record_core.proofs.Numbering.{HasContents}
-use Rattle.record_core.proofs.Searches.{schemas_counted, channels_counted, schemas_more, channels_more}
+use Rattle.history_ids.proofs.Numbering.{HasContents}
+use Rattle.history_ids.proofs.Searches.{schemas_counted, channels_counted, schemas_more, channels_more}
 use Rattle.feed_lane.specs.Pass.{full_at}
 use Rattle.buffer_swap.specs.Shown.{ChannelStands, HeldThere, FoundThere}
 use Rattle.buffer_swap.specs.Plays.{MayCount, NamedAt, LacksIdAt}

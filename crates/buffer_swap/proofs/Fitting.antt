@@ -7,10 +7,10 @@ use Rattle.mcap_model.specs.declared.ends.End.{End}
 use Rattle.mcap_model.specs.declared.ends.End.TheVariants.{Stopped}
 use Rattle.mcap_model.specs.declared.ends.Stop.{Stop}
 use Rattle.mcap_model.proofs.Places.{at_none, at_kept}
-use Rattle.record_core.specs.Ids.{schemas_in, channels_in}
+use Rattle.history_ids.specs.Ids.{schemas_in, channels_in}
 use Rattle.record_core.specs.Desk.{DeskView, accepted, with_more_records, swapped, ended, first_of, desk_end, found_of}
 use Rattle.record_core.specs.declared.answers.Found.{Found}
-use Rattle.record_core.proofs.Searches.{channels_more}
+use Rattle.history_ids.proofs.Searches.{channels_more}
 use Rattle.feed_lane.specs.Pass.{PassState}
 use Rattle.feed_lane.specs.PassCalls.{no_calls, IsLater}
 use Rattle.buffer_swap.specs.ShownSteps.{Spares}

@@ -9,12 +9,12 @@ use Rattle.mcap_model.specs.Fields.{SchemaFields, ChannelFields}
 use Rattle.mcap_model.specs.History.{schema_of, channel_of, schema_count, channel_count, history_bytes}
 use Rattle.mcap_model.proofs.Places.{at_none, has_kept}
 use Rattle.mcap_model.proofs.Lists.{at_either}
-use Rattle.record_core.specs.Ids.{schemas_in, channels_in}
-use Rattle.record_core.specs.DeclarationFields.{fields_of_schema, fields_with}
+use Rattle.history_ids.specs.Ids.{schemas_in, channels_in}
+use Rattle.history_ids.specs.DeclarationFields.{fields_of_schema, fields_with}
 use Rattle.record_core.specs.declared.answers.Found.{Found}
 use Rattle.record_core.specs.declared.answers.CallRefused.{CallRefused}
 use Rattle.record_core.specs.declared.answers.CallRefused.TheVariants as refusing
-use Rattle.record_core.proofs.Searches.{schemas_counted, channels_counted, schemas_more, channels_more, schema_content, channel_content}
+use Rattle.history_ids.proofs.Searches.{schemas_counted, channels_counted, schemas_more, channels_more, schema_content, channel_content}
 use Rattle.feed_lane.specs.Pass.{FullAt, full_at, with_places}
 use Rattle.buffer_swap.specs.Shown.{SchemaStands, ChannelStands, LacksSchema, LacksChannelId, IdsLack, HeldThere, FoundThere}
 use Rattle.buffer_swap.specs.ShownSteps.{Spares}

@@ -21,12 +21,12 @@ use Rattle.mcap_model.specs.History.{Numbered}
 use Rattle.mcap_model.proofs.Places.{at_none}
 use Rattle.mcap_model.proofs.Lists.{at_second, each_joined}
 use Rattle.mcap_model.proofs.OneMore.{each_last}
-use Rattle.record_core.specs.Ids.{channels_in}
+use Rattle.history_ids.specs.Ids.{channels_in}
 use Rattle.record_core.specs.Desk.{DeskView, new_desk, accepted, with_more_records, swapped, ended, end_unless, first_of, desk_end, found_of, EndIsLast}
 use Rattle.record_core.specs.Machine.{State, start, accept, end_with}
 use Rattle.record_core.specs.Stands.{DeskStandsFor}
 use Rattle.record_core.specs.declared.answers.CallRefused.{CallRefused}
-use Rattle.record_core.proofs.Searches.{schemas_counted, channels_counted}
+use Rattle.history_ids.proofs.Searches.{schemas_counted, channels_counted}
 use Rattle.feed_lane.specs.Pass.{PassState, with_places, full_at}
 use Rattle.feed_lane.specs.PassCalls.{with_found}
 use Rattle.buffer_swap.specs.Weights.{total, one_if, below}

@@ -11,11 +11,11 @@ use Rattle.mcap_model.specs.Fields.{SchemaFields, ChannelFields, MessageFields}
 use Rattle.mcap_model.specs.History.{schema_of, channel_of, message_of, SchemaFollows, ChannelFollows, Numbered}
 use Rattle.mcap_model.proofs.Places.{at_within, has_kept, has_last}
 use Rattle.mcap_model.proofs.Lists.{at_second, cut_at, has_taken}
-use Rattle.record_core.specs.Ids.{Ids, schemas_in, channels_in, same_schema, same_channel, schema_place, id_at, schema_id, fields_of_channel, channel_place, channel_id, new_schema_at, new_schema, new_at, new_records}
-use Rattle.record_core.specs.DeclarationFields.{fields_of_schema, fields_with}
-use Rattle.record_core.specs.Tables.{schemas_lack, IsSchemaAt, HasSchemaOf}
-use Rattle.record_core.proofs.Numbering.{HasContents, schema_at, channel_at}
-use Rattle.record_core.proofs.Searches.{found, not_found, schema_own, schema_same, channel_own, channel_same, schemas_counted, channels_counted, schemas_more, channels_more, schema_content, channel_content}
+use Rattle.history_ids.specs.Ids.{Ids, schemas_in, channels_in, same_schema, same_channel, schema_place, id_at, schema_id, fields_of_channel, channel_place, channel_id, new_schema_at, new_schema, new_at, new_records}
+use Rattle.history_ids.specs.DeclarationFields.{fields_of_schema, fields_with}
+use Rattle.history_ids.specs.Tables.{schemas_lack, IsSchemaAt, HasSchemaOf}
+use Rattle.history_ids.proofs.Numbering.{HasContents, schema_at, channel_at}
+use Rattle.history_ids.proofs.Searches.{found, not_found, schema_own, schema_same, channel_own, channel_same, schemas_counted, channels_counted, schemas_more, channels_more, schema_content, channel_content}
 use Rattle.record_core.specs.Desk.{DeskView, found_of}
 use Rattle.feed_lane.specs.Pass.{PassState, AreAdded}
 use Rattle.feed_lane.specs.PassCalls.{GetsId}

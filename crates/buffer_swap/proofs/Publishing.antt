@@ -6,10 +6,10 @@ use Rattle.rec_data.specs.declared.schema.SchemaDef.{SchemaDef}
 use Rattle.rec_data.specs.declared.channel.ChannelDef.{ChannelDef}
 use Rattle.mcap_model.specs.declared.ends.End.TheVariants as ends
 use Rattle.mcap_model.proofs.Places.{at_within}
-use Rattle.record_core.specs.Ids.{channel_place, channel_id, new_records}
-use Rattle.record_core.specs.Tables.{HasFewIds, HasSchemaOf, MayShare}
+use Rattle.history_ids.specs.Ids.{channel_place, channel_id, new_records}
+use Rattle.history_ids.specs.Tables.{HasFewIds, HasSchemaOf, MayShare}
 use Rattle.record_core.specs.Desk.{DeskView, accepted, with_more_records, first_of, found_of, fields_of_message, Published, DeclaredBy}
-use Rattle.record_core.specs.DeclarationFields.{declared_size}
+use Rattle.history_ids.specs.DeclarationFields.{declared_size}
 use Rattle.record_core.specs.declared.answers.Declared.{Declared}
 use Rattle.record_core.specs.declared.answers.NewMessage.{NewMessage}
 use Rattle.record_core.specs.declared.answers.CallRefused.{CallRefused}

@@ -5,11 +5,11 @@ use Rattle.std.proofs.lemmas.Bool.{ltb-true, leb-true}
 use Rattle.rec_data.specs.declared.channel.ChannelDef.{ChannelDef}
 use Rattle.mcap_model.specs.declared.ends.End.{End}
 use Rattle.mcap_model.specs.declared.ends.End.TheVariants.{Closed, Stopped}
-use Rattle.record_core.specs.Ids.{is_known_channel, channel_place}
-use Rattle.record_core.specs.Tables.{schemas_lack, ids_lack}
+use Rattle.history_ids.specs.Ids.{is_known_channel, channel_place}
+use Rattle.history_ids.specs.Tables.{schemas_lack}
+use Rattle.record_core.specs.Desk.{ids_refusal, DeskView, accepted, bytes_held, found_of, publish_ended, publish_refusal, declare_at, declare_ended, declare_refusal}
 use Rattle.feed_lane.specs.Pass.{filled, full_at}
-use Rattle.record_core.specs.Desk.{DeskView, accepted, bytes_held, found_of, publish_ended, publish_refusal, declare_at, declare_ended, declare_refusal}
-use Rattle.record_core.specs.DeclarationFields.{declared_size}
+use Rattle.history_ids.specs.DeclarationFields.{declared_size}
 use Rattle.record_core.specs.declared.answers.CallRefused.{CallRefused}
 use Rattle.record_core.specs.declared.answers.CallRefused.TheVariants as refusing
 
@@ -107,12 +107,12 @@ ids_reason d c true is unended new place = (unended, is, new, place)
 ids_reason d c false is unended new place = channels_reason d c (nat_le 65535 (length d.ids.channels)) refl unended new place is
 
 full_reason : (d : DeskView) (c : ChannelDef) (b : Bool) → nat_le d.limit (bytes_held d) ≡ b → d.end ≡ None → channel_place d.ids c ≡ None → accepted d < 2 ^ 48
-    → DeclareReason d c (if b then Some (refusing.Full (bytes_held d) d.taken (accepted d)) else ids_lack d.ids c)
+    → DeclareReason d c (if b then Some (refusing.Full (bytes_held d) d.taken (accepted d)) else ids_refusal d.ids c)
 full_reason d c true is unended new few = (unended, refl, leb-true d.limit (bytes_held d) is, new, few)
 full_reason d c false is unended new few = ids_reason d c (schemas_lack d.ids c.schema) refl unended new (record { few = few; room = le_false d.limit (bytes_held d) is })
 
 many_reason : (d : DeskView) (c : ChannelDef) (b : Bool) → nat_le (2 ^ 48) (accepted d) ≡ b → d.end ≡ None → channel_place d.ids c ≡ None
-    → DeclareReason d c (if b then Some (refusing.TooManyRecords (accepted d)) else (if nat_le d.limit (bytes_held d) then Some (refusing.Full (bytes_held d) d.taken (accepted d)) else ids_lack d.ids c))
+    → DeclareReason d c (if b then Some (refusing.TooManyRecords (accepted d)) else (if nat_le d.limit (bytes_held d) then Some (refusing.Full (bytes_held d) d.taken (accepted d)) else ids_refusal d.ids c))
 many_reason d c true is unended new = (unended, refl, leb-true (2 ^ 48) (accepted d) is, new)
 many_reason d c false is unended new = full_reason d c (nat_le d.limit (bytes_held d)) refl unended new (le_false (2 ^ 48) (accepted d) is)
 

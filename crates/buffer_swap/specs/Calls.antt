@@ -9,7 +9,7 @@ use Rattle.mcap_model.specs.Places.{Has}
 use Rattle.mcap_model.specs.History.{Numbered}
 use Rattle.record_cache.specs.Buffers.{Buffer}
 use Rattle.record_core.specs.Desk.{DeskView, swapped, ended, desk_end, fields_of_message, Published, DeclaredBy, SwapAnswered, EndIsSetAt}
-use Rattle.record_core.specs.Tables.{HasFewIds}
+use Rattle.history_ids.specs.Tables.{HasFewIds}
 use Rattle.record_core.specs.declared.answers.Declared.{Declared}
 use Rattle.record_core.specs.declared.answers.Empty.{Empty}
 use Rattle.record_core.specs.declared.answers.Found.{Found}

@@ -8,7 +8,7 @@ use Rattle.mcap_model.specs.declared.ends.End.{End}
 use Rattle.mcap_model.specs.declared.ends.End.TheVariants as ends
 use Rattle.mcap_model.specs.Places.{At, Has, Each}
 use Rattle.mcap_model.specs.History.{schema_of, channel_of, schema_count, channel_count, history_bytes}
-use Rattle.record_core.specs.DeclarationFields.{fields_of_schema, fields_with}
+use Rattle.history_ids.specs.DeclarationFields.{fields_of_schema, fields_with}
 use Rattle.record_core.specs.declared.answers.CallRefused.{CallRefused}
 use Rattle.record_core.specs.declared.answers.CallRefused.TheVariants as refusing
 use Rattle.record_core.specs.declared.answers.Found.{Found}

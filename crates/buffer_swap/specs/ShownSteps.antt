@@ -5,7 +5,7 @@ use Rattle.rec_data.specs.declared.owned.Rec.{Rec}
 use Rattle.mcap_model.specs.declared.ends.End.{End}
 use Rattle.mcap_model.specs.Places.{At, Each}
 use Rattle.mcap_model.specs.History.{schema_count, channel_count}
-use Rattle.record_core.specs.Ids.{schemas_in, channels_in}
+use Rattle.history_ids.specs.Ids.{schemas_in, channels_in}
 use Rattle.record_core.specs.declared.answers.Found.{Found}
 use Rattle.feed_lane.specs.Pass.{PassState}
 use Rattle.buffer_swap.specs.Shown.{ChannelStands, IdsLack, HeldThere, FoundThere}

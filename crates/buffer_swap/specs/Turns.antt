@@ -8,7 +8,7 @@ use Rattle.mcap_model.specs.declared.ends.End.{End}
 use Rattle.mcap_model.specs.declared.ends.End.TheVariants.{Closed, Stopped}
 use Rattle.mcap_model.specs.declared.ends.Stop.{Stop}
 use Rattle.mcap_model.specs.Places.{At, Each}
-use Rattle.record_core.specs.Ids.{channels_in}
+use Rattle.history_ids.specs.Ids.{channels_in}
 use Rattle.record_core.specs.Desk.{DeskView, new_desk, accepted, desk_end, found_of, EndIsLast}
 use Rattle.record_core.specs.Machine.{State}
 use Rattle.record_core.specs.Stands.{DeskStandsFor}

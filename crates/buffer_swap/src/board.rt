@@ -3,9 +3,9 @@ ghost use Rattle.std.specs.Prelude.{◌≡◌, ℕ, ◌+◌, ◌≤◌, [], ◌�
 ghost use Rattle.rec_data.specs.declared.owned.Rec.{Rec};
 ghost use Rattle.mcap_model.specs.declared.ends.End.TheVariants.{Closed, Stopped};
 ghost use Rattle.mcap_model.specs.History.{Numbered};
-ghost use Rattle.record_core.specs.Ids.{new_records};
-ghost use Rattle.record_core.specs.Tables.{HasFewIds, MayShare};
-ghost use Rattle.record_core.specs.Sights.{DefFits};
+ghost use Rattle.history_ids.specs.Ids.{new_records};
+ghost use Rattle.history_ids.specs.Tables.{HasFewIds, MayShare};
+ghost use Rattle.history_ids.specs.DeclarationFits.{DefFits};
 ghost use Rattle.record_core.specs.declared.answers.CallRefused.TheVariants.{TooManySchemas, TooManyChannels};
 ghost use Rattle.record_core.specs.Desk.{DeskView, new_desk, found_of, swapped, ended, desk_end, fields_of_message, Published, DeclaredBy, SwapAnswered, EndIsSetAt, IsCause, EndIsLast};
 ghost use Rattle.feed_lane.specs.PassCalls.{message_record, with_found};

@@ -2,9 +2,9 @@
 //! buffer is full take a turn each time.
 ghost use Rattle.std.specs.Prelude.{◌≡◌, ◌≤◌, ℕ, Ok, Err, Some, length, true, false};
 ghost use Rattle.mcap_wire.specs.Limits.{data_limit, declaration_limit};
-ghost use Rattle.record_core.specs.DeclarationFields.{declared_size};
+ghost use Rattle.history_ids.specs.DeclarationFields.{declared_size};
 ghost use Rattle.record_core.specs.declared.answers.CallRefused.TheVariants.{Full};
-ghost use Rattle.record_core.specs.Sights.{DefFits};
+ghost use Rattle.history_ids.specs.DeclarationFits.{DefFits};
 ghost use Rattle.buffer_swap.specs.Calls.{PublishesMessage, DeclaresChannel, MayName, last_of, TriesBy, LooksOn, NotFull, NeverFull};
 
 use crate::board::FAR_BEHIND;

@@ -4,5 +4,4 @@ pub mod Marks
 pub mod Growing
 pub mod Blocks
 mod Putting
-pub mod Tables
 mod Taking

@@ -5,4 +5,3 @@ pub mod Building
 pub mod Chunking
 pub mod Held
 pub mod Chunker
-pub mod IndexTable

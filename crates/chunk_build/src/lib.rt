@@ -5,10 +5,8 @@
 mod building;
 mod chunker;
 mod framed;
-mod index_table;
 mod row;
 
 pub use building::Mark;
 pub use chunker::Chunker;
 pub use framed::{framed_of, mark_of_bytes};
-pub use index_table::{IndexTable, TimeAt};

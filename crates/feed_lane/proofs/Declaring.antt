@@ -12,7 +12,8 @@ use Rattle.feed_lane.specs.declared.report.DeclaredAt.{DeclaredAt}
 use Rattle.feed_lane.specs.declared.report.Refused.{Refused}
 use Rattle.feed_lane.specs.Pass.{PassState, with_places, AreAdded}
 use Rattle.feed_lane.specs.PassCalls.{Finds, with_declared}
-use Rattle.feed_lane.specs.Lanes.{ReportLists, IsOn, DeclaresContent, DeclarationAdds, IsTried, full_in, ShowsDeclaration, InTurnWith, IsGiven, ListsFit}
+use Rattle.feed_lane.specs.Lanes.{ReportLists, IsOn, DeclarationAdds, IsTried, full_in, ShowsDeclaration, InTurnWith, IsGiven, ListsFit}
+use Rattle.history_ids.specs.FeedContents.{DeclaresContent}
 use Rattle.feed_lane.specs.Kept.{LaneIds, with_channel_id}
 use Rattle.feed_lane.specs.Steps.{Extends, DeclaredWithId, IdsStand, ListsStand}
 use Rattle.feed_lane.proofs.Growing.{on_one}

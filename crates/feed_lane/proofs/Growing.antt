@@ -16,11 +16,12 @@ use Rattle.record_core.specs.declared.answers.CallRefused.TheVariants as refusin
 use Rattle.feed_lane.specs.declared.report.Accepted.{Accepted}
 use Rattle.feed_lane.specs.declared.report.DeclaredAt.{DeclaredAt}
 use Rattle.feed_lane.specs.declared.report.Refused.{Refused}
-use Rattle.feed_lane.specs.declared.ids.KeptSchema.{KeptSchema}
+use Rattle.history_ids.specs.declared.describing.KeptSchema.{KeptSchema}
 use Rattle.feed_lane.specs.declared.lane.Lane.{Lane}
 use Rattle.feed_lane.specs.Pass.{PassState}
-use Rattle.feed_lane.specs.Lanes.{ReportLists, messages, IsOn, SchemaShown, DeclaresContent, DeclarationAdds, Accepts, HasTooMuchData, IsChannelOf, IsWide, LacksId, CauseFits, IsUndeclared, IsTried, lacks_of, ShowsDeclaration, IsLacking, InStep, ListsFit}
-use Rattle.feed_lane.specs.Kept.{LaneIds, KeptStands, with_kept}
+use Rattle.feed_lane.specs.Lanes.{ReportLists, messages, IsOn, DeclarationAdds, Accepts, HasTooMuchData, IsChannelOf, IsWide, LacksId, CauseFits, IsUndeclared, IsTried, lacks_of, ShowsDeclaration, IsLacking, InStep, ListsFit}
+use Rattle.history_ids.specs.FeedContents.{SchemaShown, DeclaresContent, KeptStands}
+use Rattle.feed_lane.specs.Kept.{LaneIds, with_kept}
 use Rattle.feed_lane.specs.Sizes.{IsLength}
 use Rattle.feed_lane.specs.Steps.{lists_of, DeclaredWithId, IdsStand, ListsStand, LaneStands, ChannelFound}
 use Rattle.feed_lane.proofs.Members.{in_step_on}

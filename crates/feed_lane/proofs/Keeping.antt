@@ -1,9 +1,10 @@
 -- A lane goes on listing messages, or counting them, and says nothing of a schema that the pass doesn't know.
 use Rattle.std.proofs.Common.{Bool, true, false, ◌≡◌, ◌∙◌, Option, sym, subst}
 use Rattle.rec_data.specs.declared.schema.SchemaDef.{SchemaDef}
-use Rattle.feed_lane.specs.declared.ids.KeptSchema.{KeptSchema}
+use Rattle.history_ids.specs.declared.describing.KeptSchema.{KeptSchema}
 use Rattle.feed_lane.specs.declared.lane.Lane.{Lane}
-use Rattle.feed_lane.specs.Kept.{no_schema, IsKnown}
+use Rattle.history_ids.specs.FeedContents.{no_schema}
+use Rattle.feed_lane.specs.Kept.{IsKnown}
 use Rattle.feed_lane.specs.Steps.{KeepsLists, KeepsAs}
 
 pub keeps_on : (before now after : Lane) → KeepsAs before now → KeepsAs now after → KeepsAs before after

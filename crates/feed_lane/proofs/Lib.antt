@@ -4,7 +4,6 @@ mod Refusing
 mod Accepting
 mod Declaring
 mod Calls
-pub mod Definitions
 mod AtHand
 mod Walking
 mod Feeding

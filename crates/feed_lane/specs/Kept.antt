@@ -1,9 +1,7 @@
 -- What a lane keeps of its declarations.
-use Rattle.std.specs.Prelude.{◌≡◌, ℕ, List, set, Bool, true, false, Option, None, Result, Ok, Err}
+use Rattle.std.specs.Prelude.{◌≡◌, ℕ, List, set, Bool, true, Option, Result, Ok, Err}
 use Rattle.rec_data.specs.declared.schema.SchemaDef.{SchemaDef}
-use Rattle.mcap_model.specs.Tops.{Top}
-use Rattle.feed_lane.specs.declared.ids.KeptSchema.{KeptSchema}
-use Rattle.feed_lane.specs.Lanes.{SchemaShown}
+use Rattle.history_ids.specs.declared.describing.KeptSchema.{KeptSchema}
 
 -- For each id that a channel of a feed may have, the id that its declaration got, or 0; a schema of the feed; and for the first
 -- of these ids how many bytes the channel's records have, or 0.
@@ -15,9 +13,6 @@ pub record LaneIds : Type 0 where
 abbrev pub lane_ids : List ℕ → KeptSchema → List ℕ → LaneIds
 lane_ids given kept wide = record { given = given; kept = kept; wide = wide }
 
-abbrev pub no_schema : KeptSchema
-no_schema = record { id = 0; schema = None; known = false }
-
 -- with that id for a channel
 abbrev pub with_channel_id : LaneIds → ℕ → ℕ → LaneIds
 with_channel_id ids source id = record ids { given = set ids.given source id }
@@ -25,10 +20,6 @@ with_channel_id ids source id = record ids { given = set ids.given source id }
 -- with that schema
 abbrev pub with_kept : LaneIds → KeptSchema → LaneIds
 with_kept ids kept = record ids { kept = kept }
-
--- the schema is that of its id in the feed
-abbrev pub KeptStands : List Top → KeptSchema → Type 0
-KeptStands records kept = SchemaShown records kept.id kept.schema
 
 -- where the pass is said to know the schema, it does
 abbrev pub IsKnown : (Option SchemaDef → Type 0) → KeptSchema → Type 0

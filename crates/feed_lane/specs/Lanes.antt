@@ -1,19 +1,18 @@
 -- What the lists of a feed's report say, of the records that its reading kept and of the pass of its lane.
-use Rattle.std.specs.Prelude.{◌≡◌, ◌⊎◌, ℕ, ◌+◌, ◌<◌, ◌≤◌, List, [], ◌∷◌, length, filter, AllPairs, ◌==◌, Option, Some, None, IsPermutation}
+use Rattle.std.specs.Prelude.{◌≡◌, ◌⊎◌, ℕ, ◌+◌, ◌<◌, ◌≤◌, List, [], ◌∷◌, length, filter, AllPairs, ◌==◌, Some}
 use Rattle.std.specs.List.{flat_map}
 use Rattle.mcap_wire.specs.Limits.{data_limit, declaration_limit, record_count_limit}
 use Rattle.rec_data.specs.declared.owned.Rec.{Rec}
 use Rattle.rec_data.specs.declared.channel.ChannelDef.{ChannelDef}
-use Rattle.rec_data.specs.declared.schema.SchemaDef.{SchemaDef}
 use Rattle.rec_data.specs.Records.{message_opcode}
 use Rattle.mcap_model.specs.declared.ends.End.{End}
 use Rattle.mcap_model.specs.declared.ends.End.TheVariants as ends
 use Rattle.mcap_model.specs.Places.{At, Has, Each}
 use Rattle.mcap_model.specs.Tops.{Top}
-use Rattle.mcap_model.specs.Fields.{IsSchema, ChannelFields, MessageFields, IsMessage}
+use Rattle.mcap_model.specs.Fields.{MessageFields, IsMessage}
 use Rattle.mcap_model.specs.History.{message_of}
-use Rattle.mcap_model.specs.Written.{SourceShows}
-use Rattle.record_core.specs.DeclarationFields.{fields_of_schema, declared_size}
+use Rattle.history_ids.specs.DeclarationFields.{declared_size}
+use Rattle.history_ids.specs.FeedContents.{DeclaresContent}
 use Rattle.record_core.specs.declared.answers.Found.{Found}
 use Rattle.record_core.specs.declared.answers.CallRefused.{CallRefused}
 use Rattle.record_core.specs.declared.answers.CallRefused.TheVariants as refusing
@@ -40,27 +39,6 @@ pub record IsOn (records : List Top) (index channel : ℕ) : Type 0 where
   pub is : IsMessage top channel message
 
 -- ---- declarations
-
--- the record of that place shows a Schema of that id with the fields of the declaration's schema
-pub record ShowsDef (records : List Top) (id : ℕ) (s : SchemaDef) : Type 0 where
-  pub place : ℕ
-  pub top : Top
-  pub at : At records place top
-  pub is : IsSchema top id (fields_of_schema s)
-
--- a schema of the feed, as a declaration has it: none for 0, else with the fields of the Schema of that id
-abbrev pub SchemaShown : List Top → ℕ → Option SchemaDef → Type 0
-SchemaShown records id None = id ≡ 0
-SchemaShown records id (Some s) = ShowsDef records id s
-
--- the declaration has the content of the feed's channel of that id
-pub record DeclaresContent (records : List Top) (channel : ℕ) (d : ChannelDef) : Type 0 where
-  pub shown : ChannelFields
-  pub known : SourceShows records channel shown
-  pub topic : d.topic ≡ shown.topic
-  pub encoding : d.message_encoding ≡ shown.encoding
-  pub metadata : IsPermutation shown.metadata d.metadata
-  pub schema : SchemaShown records shown.schema d.schema
 
 -- a declaration for a message's channel: it got this id, and added these records
 pub record DeclarationAdds (records : List Top) (pass : PassState) (d : DeclaredAt) : Type 0 where

@@ -3,7 +3,7 @@ use Rattle.std.specs.Prelude.{◌≡◌, ◌⊎◌, ℕ, ◌+◌, ◌≤◌, Lis
 use Rattle.rec_data.specs.declared.owned.Rec.{Rec}
 use Rattle.rec_data.specs.declared.channel.ChannelDef.{ChannelDef}
 use Rattle.mcap_model.specs.History.{schema_of, channel_of}
-use Rattle.record_core.specs.DeclarationFields.{fields_of_schema, fields_with}
+use Rattle.history_ids.specs.DeclarationFields.{fields_of_schema, fields_with}
 use Rattle.record_core.specs.declared.answers.Found.{Found}
 use Rattle.record_core.specs.declared.answers.CallRefused.{CallRefused}
 

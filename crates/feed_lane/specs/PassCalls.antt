@@ -7,7 +7,7 @@ use Rattle.mcap_model.specs.declared.ends.End.{End}
 use Rattle.mcap_model.specs.declared.ends.End.TheVariants.{Closed, Stopped}
 use Rattle.mcap_model.specs.Places.{Each}
 use Rattle.mcap_model.specs.History.{message_of}
-use Rattle.record_core.specs.DeclarationFields.{declared_size}
+use Rattle.history_ids.specs.DeclarationFields.{declared_size}
 use Rattle.record_core.specs.Desk.{fields_of_message}
 use Rattle.record_core.specs.declared.answers.Declared.{Declared}
 use Rattle.record_core.specs.declared.answers.Found.{Found}

@@ -5,8 +5,8 @@ use Rattle.rec_data.specs.declared.channel.Channel.{Channel}
 use Rattle.rec_data.specs.declared.channel.ChannelDef.{ChannelDef}
 use Rattle.mcap_model.specs.Fields.{ChannelFields}
 use Rattle.mcap_model.specs.Tops.{Top}
-use Rattle.record_core.specs.DeclarationFields.{schema_size, declared_size}
-use Rattle.feed_lane.specs.Lanes.{SchemaShown, DeclaresContent}
+use Rattle.history_ids.specs.DeclarationFields.{schema_size, declared_size}
+use Rattle.history_ids.specs.FeedContents.{SchemaShown, DeclaresContent}
 
 -- the fields of a Channel that was read, but for its ids
 abbrev pub shown_by : Channel → ChannelFields

@@ -2,7 +2,6 @@
 -- message at hand, and what it takes of a feed, record by record.
 use Rattle.std.specs.Prelude.{◌≡◌, Bool, ℕ, List, ◌+◌, ◌^◌, ◌<◌, ◌≤◌, ◌++◌, length, filter, true, false, vec_len, vec_capacity, Some, None, Result, Ok, Err, OnOk}
 use Rattle.feed_lane.specs.declared.report.FeedReport.{FeedReport}
-use Rattle.rec_data.specs.declared.schema.SchemaDef.{SchemaDef}
 use Rattle.mcap_wire.specs.Limits.{declaration_limit}
 use Rattle.rec_data.specs.declared.owned.Rec.{Rec}
 use Rattle.rec_data.specs.declared.channel.ChannelDef.{ChannelDef}
@@ -27,7 +26,8 @@ use Rattle.feed_lane.specs.declared.lane.Lane.{Lane}
 use Rattle.feed_lane.specs.declared.lane.Over.{Over}
 use Rattle.feed_lane.specs.declared.lane.Over.TheVariants as overs
 use Rattle.feed_lane.specs.Pass.{FullAt, PassState, FoundAtLeast}
-use Rattle.feed_lane.specs.Kept.{LaneIds, KeptStands}
+use Rattle.feed_lane.specs.Kept.{LaneIds}
+use Rattle.history_ids.specs.FeedContents.{KeptStands}
 use Rattle.feed_lane.specs.Sizes.{IsLength}
 use Rattle.feed_lane.specs.Lanes.{ReportLists, messages, IsOn, CauseFits, IsTried, full_in, lack_in, reason_in, IsLacking, InStep, ListsFit, LaneFits}
 use Rattle.feed_lane.specs.Causes.{goes_on}
@@ -219,9 +219,3 @@ over_end overs.Ended = feed_ends.Ended
 -- the report lists messages, or only counts them
 abbrev pub ListsMessages : FeedReport → Bool → Type 0
 ListsMessages report listed = (report.accepted.kept ≡ listed) × (report.refused.kept ≡ listed)
-
--- ---- a schema of a declaration
-
--- a schema of a declaration by its fields
-abbrev pub definition_of : List ℕ → List ℕ → List ℕ → SchemaDef
-definition_of name encoding payload = record { name = name; encoding = encoding; payload = payload }

@@ -2,24 +2,16 @@
 ghost use Rattle.std.specs.Prelude.{◌≡◌, ◌⊎◌, ◌<◌, ℕ, [], IfOk, IfSome};
 ghost use Rattle.mcap_wire.specs.Limits.{declaration_limit};
 ghost use Rattle.mcap_model.specs.Places.{At};
-ghost use Rattle.record_core.specs.Sights.{SchemaFits};
-ghost use Rattle.feed_lane.specs.Kept.{no_schema, with_channel_id, with_kept};
+ghost use Rattle.history_ids.specs.DeclarationFits.{SchemaFits};
+ghost use Rattle.history_ids.specs.FeedContents.{no_schema};
+ghost use Rattle.feed_lane.specs.Kept.{with_channel_id, with_kept};
 
+use history_ids::{KeptSchema, no_schema};
 use mcap_wire::Memory;
-use rec_data::SchemaDef;
 use record_core::DECLARATION_LIMIT;
 use std::alloc::Global;
 use std::marker::Model;
 use std::mem;
-
-/// A schema as a declaration has it, with its id in the feed, none for 0, and whether the pass knows it of the last channel that
-/// got an id.
-#[derive(Drop)]
-pub(crate) struct KeptSchema {
-    pub id: u16,
-    pub schema: Option<SchemaDef>,
-    pub known: bool,
-}
 
 /// For each id that a channel of a feed may have, the id that its declaration got, or 0 while it has none. Beside them the
 /// schema of the channel that was declared last, for the next one, which may have the same: what stands under an id of a feed
@@ -37,7 +29,7 @@ const CHANNEL_IDS: usize = 65_536;
 
 impl Model for Ids {
     ghost use Rattle.std.specs.Prelude.{◌≡◌, length};
-    ghost use Rattle.record_core.specs.Sights.{SchemaFits};
+    ghost use Rattle.history_ids.specs.DeclarationFits.{SchemaFits};
     ghost use Rattle.feed_lane.specs.Kept.{LaneIds, lane_ids};
 
     ghost Value = { LaneIds };
@@ -45,17 +37,6 @@ impl Model for Ids {
     ghost view = { λ t. lane_ids t.given.items t.kept t.wide.items };
 
     ghost invariant = { λ t. (length t.given.items ≡ 65536) × SchemaFits t.kept.schema };
-}
-
-/// No schema.
-pub(crate) fn no_schema() -> KeptSchema
-    ensures { result ≡ no_schema }
-{
-    KeptSchema {
-        id: 0,
-        schema: None,
-        known: false,
-    }
 }
 
 impl Ids {

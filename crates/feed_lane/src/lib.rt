@@ -2,7 +2,6 @@
 //! became of each message.
 #![tactic(auto)]
 
-mod describing;
 mod feed;
 mod ids;
 mod lane;
@@ -11,8 +10,8 @@ mod pass;
 mod refused_list;
 mod report;
 mod section;
+mod sizes;
 
-pub use describing::definition;
 pub use feed::publish_feed;
 pub use pass::Pass;
 pub use refused_list::Refusals;

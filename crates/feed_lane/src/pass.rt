@@ -3,7 +3,7 @@ ghost use Rattle.std.specs.Prelude.{◌<◌, ℕ, Option, OnOk};
 ghost use Rattle.mcap_wire.specs.Limits.{declaration_limit};
 ghost use Rattle.rec_data.specs.declared.schema.SchemaDef.{SchemaDef};
 ghost use Rattle.record_core.specs.declared.answers.CallRefused.TheVariants.{TooLarge};
-ghost use Rattle.record_core.specs.Sights.{DefFits};
+ghost use Rattle.history_ids.specs.DeclarationFits.{DefFits};
 ghost use Rattle.feed_lane.specs.Pass.{PassState};
 ghost use Rattle.feed_lane.specs.PassCalls.{with_reason, DeclaredInto, PublishedBy};
 

@@ -8,9 +8,9 @@ use Rattle.rec_data.specs.declared.owned.Rec.{Rec}
 use Rattle.rec_data.specs.declared.owned.Rec.TheVariants.{Schema, Channel, Message, Extra}
 use Rattle.mcap_model.specs.Places.{Each}
 use Rattle.mcap_model.specs.History.{message_of, is_message, is_inner}
-use Rattle.record_core.specs.Ids.{Ids, ids_of, schemas_in, channels_in, channel_place, channel_id, new_records}
-use Rattle.record_core.specs.DeclarationFields.{fields_of_schema}
-use Rattle.record_core.specs.Tables.{content_in, ids_in}
+use Rattle.history_ids.specs.Ids.{Ids, ids_of, schemas_in, channels_in, channel_place, channel_id, new_records}
+use Rattle.history_ids.specs.DeclarationFields.{fields_of_schema}
+use Rattle.history_ids.specs.Tables.{content_in, ids_in}
 use Rattle.mcap_merge.specs.declared.answers.Merged.{Merged}
 use Rattle.mcap_merge.specs.declared.joining.Joiner.{Joiner}
 use Rattle.mcap_merge.specs.Uses.{Use, added_by, with_use, history_of}

@@ -17,11 +17,11 @@ use Rattle.id_table.specs.Given.{EachOnce, Offers, OffersTo, with_given, with_gi
 use Rattle.id_table.specs.declared.given.Given.{Given}
 use Rattle.id_table.specs.declared.given.Given.TheVariants.{Known, New}
 use Rattle.id_table.specs.declared.given.GivenIds.{GivenIds}
-use Rattle.record_core.specs.Ids.{Ids, ids_of, with_ids, schema_place, id_at, channel_place, channel_id, new_at, new_records, same_channel, fields_of_channel}
-use Rattle.record_core.specs.Tables.{ids_in, content_in, HasSchemas, id_given, id_of}
-use Rattle.record_core.proofs.Searches.{found}
-use Rattle.record_core.proofs.TableIds.{schema_stands, schema_missed, channel_missed}
-use Rattle.record_core.proofs.Giving.{given_id, given_records, answers_by}
+use Rattle.history_ids.specs.Ids.{Ids, ids_of, with_ids, schema_place, id_at, channel_place, channel_id, new_at, new_records, same_channel, fields_of_channel}
+use Rattle.history_ids.specs.Tables.{ids_in, content_in, HasSchemas, id_given, id_of}
+use Rattle.history_ids.proofs.Searches.{found}
+use Rattle.history_ids.proofs.TableIds.{schema_stands, schema_missed, channel_missed}
+use Rattle.history_ids.proofs.Giving.{given_id, given_records, answers_by}
 use Rattle.mcap_merge.specs.declared.joining.Declared.{Declared}
 use Rattle.mcap_merge.specs.Uses.{Use, added_by, with_use, history_of}
 use Rattle.mcap_merge.specs.Joining.{TableIsUsed, declaring_records}

@@ -13,11 +13,11 @@ use Rattle.id_table.specs.Given.{HasId, Lacks, EachOnce, Offers, Declares, with_
 use Rattle.id_table.specs.declared.given.Given.{Given}
 use Rattle.id_table.specs.declared.given.Given.TheVariants.{Known, New}
 use Rattle.id_table.specs.declared.given.GivenIds.{GivenIds}
-use Rattle.record_core.specs.Ids.{Ids, ids_of, with_ids, schemas_in, channels_in, channel_place, channel_id, id_at, new_at, new_records}
-use Rattle.record_core.specs.Tables.{ids_in, HasSchemas, IsIdAt, GivesIds, id_given}
-use Rattle.record_core.proofs.Searches.{schemas_more, channels_more}
-use Rattle.record_core.proofs.TableIds.{id_found, channel_missed}
-use Rattle.record_core.proofs.Giving.{given_id, given_records}
+use Rattle.history_ids.specs.Ids.{Ids, ids_of, with_ids, schemas_in, channels_in, channel_place, channel_id, id_at, new_at, new_records}
+use Rattle.history_ids.specs.Tables.{ids_in, HasSchemas, IsIdAt, GivesIds, id_given}
+use Rattle.history_ids.proofs.Searches.{schemas_more, channels_more}
+use Rattle.history_ids.proofs.TableIds.{id_found, channel_missed}
+use Rattle.history_ids.proofs.Giving.{given_id, given_records}
 use Rattle.mcap_merge.specs.declared.joining.Joiner.{Joiner}
 use Rattle.mcap_model.specs.Merged.{IsContent}
 use Rattle.mcap_merge.specs.Joining.{HasMergedId, JoinerStands, IsChosen}

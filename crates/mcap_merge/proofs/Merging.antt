@@ -16,10 +16,10 @@ use Rattle.mcap_model.proofs.Places.{at_none, at_one, at_kept, at_last, each_mor
 use Rattle.mcap_model.proofs.Lists.{at_either, at_second, each_joined, has_taken}
 use Rattle.mcap_model.proofs.OneMore.{zip_push, each_last}
 use Rattle.mcap_model.proofs.ReadBack.{schema_id_below}
-use Rattle.record_core.specs.Ids.{Ids, ids_of, schemas_in, channels_in, same_schema, same_channel, fields_of_channel, schema_place, id_at, schema_id, channel_place, channel_id, new_schema_at, new_schema, new_at, new_records}
-use Rattle.record_core.specs.DeclarationFields.{fields_of_schema}
-use Rattle.record_core.proofs.Searches.{found, schema_same, channel_same, schemas_counted}
-use Rattle.record_core.proofs.Numbering.{schema_at, channel_at, declared_numbered}
+use Rattle.history_ids.specs.Ids.{Ids, ids_of, schemas_in, channels_in, same_schema, same_channel, fields_of_channel, schema_place, id_at, schema_id, channel_place, channel_id, new_schema_at, new_schema, new_at, new_records}
+use Rattle.history_ids.specs.DeclarationFields.{fields_of_schema}
+use Rattle.history_ids.proofs.Searches.{found, schema_same, channel_same, schemas_counted}
+use Rattle.history_ids.proofs.Numbering.{schema_at, channel_at, declared_numbered}
 use Rattle.mcap_model.specs.Merged.{Sent, IsMerged, IsUseOf, StandBeforeUse, SchemaContent}
 use Rattle.mcap_merge.specs.Uses.{Use, added_by, with_use, history_of, IsUse, AreUses}
 

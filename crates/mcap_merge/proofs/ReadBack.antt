@@ -17,8 +17,8 @@ use Rattle.mcap_model.proofs.Lists.{each_cons, each_joined}
 use Rattle.mcap_model.proofs.NamedTopics.{zip_back}
 use Rattle.id_table.specs.declared.given.Given.{Given}
 use Rattle.id_table.specs.declared.given.Given.TheVariants.{Known, New}
-use Rattle.record_core.specs.DeclarationFields.{fields_of_schema, fields_with}
-use Rattle.record_core.specs.Tables.{id_given, id_of, schema_with}
+use Rattle.history_ids.specs.DeclarationFields.{fields_of_schema, fields_with}
+use Rattle.history_ids.specs.Tables.{id_given, id_of, schema_with}
 use Rattle.mcap_merge.specs.declared.joining.Declared.{Declared}
 use Rattle.mcap_merge.specs.Joining.{declaring_records}
 use Rattle.mcap_merge.specs.Contents.{SchemaFitsUnder}

@@ -14,7 +14,7 @@ use Rattle.id_table.specs.declared.given.Given.{Given}
 use Rattle.id_table.specs.declared.given.Given.TheVariants.{Known, New}
 use Rattle.id_table.specs.declared.given.IdRefused.{IdRefused}
 use Rattle.id_table.specs.declared.given.IdRefused.TheVariants.{TooManySchemas, TooManyChannels, Memory}
-use Rattle.record_core.specs.Tables.{SchemaHasId, HasSchemas}
+use Rattle.history_ids.specs.Tables.{SchemaHasId, HasSchemas}
 use Rattle.mcap_merge.specs.declared.input.Input.{Input}
 use Rattle.mcap_merge.specs.Inputs.{HoldInputs}
 use Rattle.mcap_merge.specs.ReadInputs.{Read, read_tops}

@@ -18,12 +18,10 @@ use Rattle.id_table.specs.declared.given.Given.TheVariants.{Known, New}
 use Rattle.id_table.specs.declared.given.GivenIds.{GivenIds}
 use Rattle.id_table.specs.declared.given.IdRefused.{IdRefused}
 use Rattle.id_table.specs.declared.given.IdRefused.TheVariants.{TooManySchemas, TooManyChannels, Memory}
-use Rattle.record_core.specs.declared.answers.CallRefused.{CallRefused}
-use Rattle.record_core.specs.declared.answers.CallRefused.TheVariants as refusing
-use Rattle.record_core.specs.Ids.{Ids, schema_place, new_schema_at, channel_place}
-use Rattle.record_core.specs.DeclarationFields.{fields_of_schema}
-use Rattle.record_core.specs.Tables.{content_in, ids_in, schemas_lack, ids_lack, IdsDeclared}
-use Rattle.record_core.proofs.TableIds.{schema_missed, channel_missed}
+use Rattle.history_ids.specs.Ids.{Ids, schema_place, new_schema_at, channel_place}
+use Rattle.history_ids.specs.DeclarationFields.{fields_of_schema}
+use Rattle.history_ids.specs.Tables.{content_in, ids_in, schemas_lack, IdsDeclared, ids_lack}
+use Rattle.history_ids.proofs.TableIds.{schema_missed, channel_missed}
 use Rattle.mcap_model.specs.Merged.{Sent, IsContent, IsUsed, SchemaIsUsed, MoreThan}
 use Rattle.mcap_merge.specs.Joining.{TableIsUsed, IsAskedFor, LackMet}
 
@@ -81,27 +79,27 @@ more_than P xs x n size once lacks each one = (
   each_last P xs x each one,
 )
 
-abbrev lack_by : Bool → Bool → Option CallRefused
-lack_by schemas channels = if schemas then Some refusing.TooManySchemas else (if channels then Some refusing.TooManyChannels else None)
+abbrev lack_by : Bool → Bool → Option IdRefused
+lack_by schemas channels = if schemas then Some TooManySchemas else (if channels then Some TooManyChannels else None)
 
 lack_is : (ids : Ids) (c : ChannelDef) (a b : Bool) → schemas_lack ids c.schema ≡ a → nat_le 65535 (length ids.channels) ≡ b → ids_lack ids c ≡ lack_by a b
 lack_is ids c a b one other = ap (λ (x : Bool). lack_by x (nat_le 65535 (length ids.channels))) one ∙ ap (lack_by a) other
 
-none_schemas : None ≡ Some refusing.TooManySchemas → ⊥
+none_schemas : None ≡ Some TooManySchemas → ⊥
 none_schemas e = cc
 
-none_channels : None ≡ Some refusing.TooManyChannels → ⊥
+none_channels : None ≡ Some TooManyChannels → ⊥
 none_channels e = cc
 
-channels_schemas : Some refusing.TooManyChannels ≡ Some refusing.TooManySchemas → ⊥
+channels_schemas : Some TooManyChannels ≡ Some TooManySchemas → ⊥
 channels_schemas e = cc
 
-schemas_by : (a b : Bool) → lack_by a b ≡ Some refusing.TooManySchemas → a ≡ true
+schemas_by : (a b : Bool) → lack_by a b ≡ Some TooManySchemas → a ≡ true
 schemas_by true b e = refl
 schemas_by false true e = absurd (channels_schemas e)
 schemas_by false false e = absurd (none_schemas e)
 
-channels_by : (a b : Bool) → lack_by a b ≡ Some refusing.TooManyChannels → b ≡ true
+channels_by : (a b : Bool) → lack_by a b ≡ Some TooManyChannels → b ≡ true
 channels_by true b e = absurd (channels_schemas (sym e))
 channels_by false true e = refl
 channels_by false false e = absurd (none_channels e)

@@ -5,8 +5,8 @@ use Rattle.rec_data.specs.declared.channel.ChannelDef.{ChannelDef}
 use Rattle.mcap_model.specs.Tops.{Top}
 use Rattle.mcap_model.specs.Fields.{MessageFields}
 use Rattle.mcap_model.specs.History.{channel_of, message_of}
-use Rattle.record_core.specs.Ids.{ids_of, channel_id, new_records}
-use Rattle.record_core.specs.DeclarationFields.{fields_with}
+use Rattle.history_ids.specs.Ids.{ids_of, channel_id, new_records}
+use Rattle.history_ids.specs.DeclarationFields.{fields_with}
 use Rattle.mcap_merge.specs.declared.input.Input.{Input}
 use Rattle.mcap_merge.specs.declared.joining.Joiner.{Joiner}
 use Rattle.mcap_merge.specs.declared.joining.Declared.{Declared}

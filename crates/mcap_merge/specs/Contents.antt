@@ -13,7 +13,7 @@ use Rattle.id_table.specs.Given.{EachOnce, IsFull, IsFullTo, Declares}
 use Rattle.id_table.specs.declared.given.GivenIds.{GivenIds}
 use Rattle.id_table.specs.declared.given.IdRefused.{IdRefused}
 use Rattle.id_table.specs.declared.given.IdRefused.TheVariants.{TooManySchemas, TooManyChannels, Memory}
-use Rattle.record_core.specs.DeclarationFields.{fields_of_schema, fields_with}
+use Rattle.history_ids.specs.DeclarationFields.{fields_of_schema, fields_with}
 
 -- ---- their records
 

@@ -12,10 +12,10 @@ use Rattle.id_table.specs.Ids as tables
 use Rattle.id_table.specs.declared.given.IdRefused.{IdRefused}
 use Rattle.id_table.specs.declared.given.IdRefused.TheVariants.{TooManySchemas, TooManyChannels, Memory}
 use Rattle.id_table.specs.Given.{HasId}
-use Rattle.record_core.specs.Ids.{ids_of, channel_id, new_records}
-use Rattle.record_core.specs.DeclarationFields.{fields_with}
-use Rattle.record_core.specs.Tables.{ids_in, id_given, id_of, schema_with}
-use Rattle.record_core.specs.Sights.{DefFits}
+use Rattle.history_ids.specs.Ids.{ids_of, channel_id, new_records}
+use Rattle.history_ids.specs.DeclarationFields.{fields_with}
+use Rattle.history_ids.specs.Tables.{ids_in, id_given, id_of, schema_with}
+use Rattle.history_ids.specs.DeclarationFits.{DefFits}
 use Rattle.mcap_merge.specs.declared.joining.Joiner.{Joiner}
 use Rattle.mcap_merge.specs.declared.joining.Declared.{Declared}
 use Rattle.mcap_merge.specs.declared.joining.Choice.{Choice}

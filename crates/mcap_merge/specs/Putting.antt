@@ -6,7 +6,7 @@ use Rattle.mcap_model.specs.Tops.{Top}
 use Rattle.mcap_model.specs.History.{is_message}
 use Rattle.chunk_writer.specs.declared.phase.Phase.{Phase}
 use Rattle.chunk_writer.specs.declared.phase.Phase.TheVariants as phases
-use Rattle.record_core.specs.Tables.{HasSchemas}
+use Rattle.history_ids.specs.Tables.{HasSchemas}
 use Rattle.chunk_walk.specs.declared.answers.Turn.{Turn}
 use Rattle.chunk_walk.specs.declared.walk.Walk.{Walk}
 use Rattle.chunk_walk.specs.Pieces.{InputBytes}

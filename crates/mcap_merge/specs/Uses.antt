@@ -7,7 +7,7 @@ use Rattle.mcap_model.specs.Places.{At}
 use Rattle.mcap_model.specs.Tops.{Top, flat}
 use Rattle.mcap_model.specs.Fields.{MessageFields}
 use Rattle.mcap_model.specs.History.{message_of}
-use Rattle.record_core.specs.Ids.{ids_of, channel_id, new_records}
+use Rattle.history_ids.specs.Ids.{ids_of, channel_id, new_records}
 use Rattle.mcap_model.specs.Merged.{Sent, IsContent}
 
 -- a message, and the content of its channel

@@ -4,8 +4,8 @@ ghost use Rattle.mcap_model.specs.History.{schema_of, channel_of, message_of};
 ghost use Rattle.rec_data.specs.Owned.{RecFits};
 ghost use Rattle.rec_data.specs.Parsed.{message_fields};
 ghost use Rattle.chunk_build.specs.Chunker.{AreInner};
-ghost use Rattle.record_core.specs.DeclarationFields.{fields_of_schema, fields_with};
-ghost use Rattle.record_core.specs.Sights.{SchemaFits, DefFits};
+ghost use Rattle.history_ids.specs.DeclarationFields.{fields_of_schema, fields_with};
+ghost use Rattle.history_ids.specs.DeclarationFits.{SchemaFits, DefFits};
 
 use mcap_wire::{Memory, PairsRef};
 use rec_data::{Channel, ChannelDef, Message, Schema, SchemaDef};

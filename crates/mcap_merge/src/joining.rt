@@ -7,20 +7,19 @@ ghost use Rattle.mcap_model.specs.Tops.{Top, flat};
 ghost use Rattle.mcap_model.specs.Declarations.{TablesOf};
 ghost use Rattle.mcap_model.specs.History.{schema_of, channel_of};
 ghost use Rattle.rec_data.specs.Owned.{RecFits};
-ghost use Rattle.record_core.specs.DeclarationFields.{fields_of_schema, fields_with};
-ghost use Rattle.record_core.specs.Tables.{HasSchemas};
-ghost use Rattle.record_core.specs.Sights.{SchemaFits, DefFits};
+ghost use Rattle.history_ids.specs.DeclarationFields.{fields_of_schema, fields_with};
+ghost use Rattle.history_ids.specs.Tables.{HasSchemas};
+ghost use Rattle.history_ids.specs.DeclarationFits.{SchemaFits, DefFits};
 ghost use Rattle.mcap_model.specs.Merged.{Sent, IsContent};
 ghost use Rattle.mcap_merge.specs.Contents.{FitsUnderIds};
 ghost use Rattle.mcap_merge.specs.Joining.{JoinerStands, IsChosen, FitsChoice, IsSized, TableIsUsed, IsAskedFor, AfterChoice, declared_records, declaring_records};
 
 use crate::input::Input;
-use feed_lane::definition;
+use history_ids::{definition, give_ids, id_of, number_of};
 use id_table::{GivenIds, IdRefused, IdTable};
 use mcap_model::Tables;
 use mcap_wire::Memory;
 use rec_data::{ChannelDef, SchemaDef};
-use record_core::{give_ids, id_of, number_of};
 use std::alloc::Global;
 
 /// The ids so far, by content, and the id that each channel of each input got, or 0.

@@ -2,7 +2,7 @@
 ghost use Rattle.std.specs.Prelude.{◌≡◌, ◌≤◌, ◌*◌, List, map, length, IfOk, IfErr, OnOk};
 ghost use Rattle.mcap_io.specs.Stores.{StoreState};
 ghost use Rattle.chunk_writer.specs.declared.phase.Phase.TheVariants as phases;
-ghost use Rattle.record_core.specs.Tables.{HasSchemas};
+ghost use Rattle.history_ids.specs.Tables.{HasSchemas};
 ghost use Rattle.chunk_walk.specs.Stores.{files_of, StoresFit, StoresStay, AskedWithin, unasked, none_left};
 ghost use Rattle.chunk_walk.specs.Walks.{pieces_in};
 ghost use Rattle.mcap_merge.specs.Inputs.{HoldInputs};

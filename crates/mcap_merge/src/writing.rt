@@ -6,8 +6,8 @@ ghost use Rattle.mcap_model.specs.Tops.{Top};
 ghost use Rattle.mcap_model.specs.History.{message_of};
 ghost use Rattle.chunk_writer.specs.declared.phase.Phase.TheVariants as phases;
 ghost use Rattle.chunk_writer.specs.Stops.{Cause};
-ghost use Rattle.record_core.specs.Tables.{HasSchemas, schema_with};
-ghost use Rattle.record_core.specs.Sights.{SchemaFits, DefFits};
+ghost use Rattle.history_ids.specs.Tables.{HasSchemas, schema_with};
+ghost use Rattle.history_ids.specs.DeclarationFits.{SchemaFits, DefFits};
 ghost use Rattle.mcap_merge.specs.Uses.{Use, added_by, with_use};
 ghost use Rattle.mcap_merge.specs.Joining.{JoinerStands, declaring_records, declared_records, FitsChoice};
 ghost use Rattle.mcap_merge.specs.Writing.{put_on_channel, ComesNext};
@@ -16,10 +16,10 @@ use crate::framing::{frame_channel, frame_message, frame_schema};
 use crate::input::Input;
 use crate::joining::{Declared, Joiner};
 use crate::pen::Pen;
+use history_ids::{id_of, number_of};
 use id_table::Given;
 use mcap_model::Stop;
 use rec_data::{Message, SchemaDef};
-use record_core::{id_of, number_of};
 use std::alloc::Global;
 
 // Puts the Schema, where its id is new.

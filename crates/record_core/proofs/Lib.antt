@@ -1,11 +1,7 @@
-pub mod Places
-pub mod Searches
-pub mod TableIds
-pub mod Numbering
 pub mod Owning
 pub mod Bytes
 pub mod Refusals
 pub mod Runs
-pub mod Giving
 pub mod Calls
 pub mod Sizes
+mod Lacking

@@ -17,8 +17,8 @@ use Rattle.record_cache.specs.KeptRecords.{IsKept}
 use Rattle.record_cache.proofs.Kept.{inner_kept}
 use Rattle.id_table.specs.declared.given.Given.{Given}
 use Rattle.id_table.specs.declared.given.Given.TheVariants.{Known, New}
-use Rattle.record_core.specs.DeclarationFields.{fields_of_schema, fields_with, schema_size, declared_size}
-use Rattle.record_core.specs.Tables.{id_of, schema_with}
+use Rattle.history_ids.specs.DeclarationFields.{fields_of_schema, fields_with, schema_size, declared_size}
+use Rattle.history_ids.specs.Tables.{id_of, schema_with}
 use Rattle.record_core.specs.Sights.{FirstFits, SchemaKept}
 
 schema_length : (id : ℕ) (f : SchemaFields) → length (rec_bytes (schema_of id f)) ≡ 9 + (14 + length f.name + length f.encoding + length f.payload)

@@ -9,8 +9,8 @@ use Rattle.mcap_model.specs.declared.ends.Stop.{Stop}
 use Rattle.mcap_model.specs.declared.ends.Stop.TheVariants.{Fault, Limit, Memory}
 use Rattle.mcap_model.specs.Fields.{MessageFields}
 use Rattle.mcap_model.specs.History.{message_of, history_bytes}
-use Rattle.record_core.specs.Ids.{Ids, no_ids, with_ids, is_known_channel, channel_place, channel_id, new_records}
-use Rattle.record_core.specs.Tables.{ids_lack}
+use Rattle.history_ids.specs.Ids.{Ids, no_ids, with_ids, is_known_channel, channel_place, channel_id, new_records}
+use Rattle.history_ids.specs.Tables.{told_lack}
 use Rattle.record_core.specs.declared.answers.CallRefused.{CallRefused}
 use Rattle.record_core.specs.declared.answers.CallRefused.TheVariants as refusing
 use Rattle.record_core.specs.declared.answers.Declared.{Declared}
@@ -18,7 +18,7 @@ use Rattle.record_core.specs.declared.answers.Empty.{Empty}
 use Rattle.record_core.specs.declared.answers.Found.{Found}
 use Rattle.record_core.specs.declared.answers.NewMessage.{NewMessage}
 use Rattle.record_cache.specs.Buffers.{Buffer}
-use Rattle.record_core.specs.DeclarationFields.{declared_size}
+use Rattle.history_ids.specs.DeclarationFields.{declared_size}
 
 -- ---- the desk
 
@@ -80,11 +80,15 @@ publish_refusal d channel len =
 
 -- ---- declaring
 
+-- why no ids are given to a new channel, as a call tells it
+abbrev pub ids_refusal : Ids → ChannelDef → Option CallRefused
+ids_refusal ids c = told_lack refusing.TooManySchemas refusing.TooManyChannels ids c
+
 abbrev pub declare_new : DeskView → ChannelDef → Option CallRefused
 declare_new d c =
     if nat_le record_count_limit (accepted d) then Some (refusing.TooManyRecords (accepted d))
     else (if nat_le d.limit (bytes_held d) then Some (refusing.Full (bytes_held d) d.taken (accepted d))
-    else ids_lack d.ids c)
+    else ids_refusal d.ids c)
 
 abbrev pub declare_at : Option ℕ → DeskView → ChannelDef → Option CallRefused
 declare_at (Some place) d c = None

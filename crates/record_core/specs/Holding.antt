@@ -3,7 +3,7 @@ use Rattle.std.specs.Prelude.{◌+◌, ◌≤◌, length}
 use Rattle.mcap_wire.specs.Limits.{record_count_limit}
 use Rattle.record_core.specs.declared.desk.Desk.TheInside.{Inside}
 use Rattle.record_core.specs.Desk.{DeskView, EndIsLast}
-use Rattle.record_core.specs.Tables.{ids_in, HasSchemas}
+use Rattle.history_ids.specs.Tables.{ids_in, HasSchemas}
 
 abbrev pub desk_seen : Inside → DeskView
 desk_seen d =

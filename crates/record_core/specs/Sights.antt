@@ -1,15 +1,13 @@
 -- Parts of a desk's calls.
-use Rattle.std.specs.Prelude.{◌≡◌, ℕ, ◌+◌, ◌^◌, ◌<◌, ◌≤◌, List, [], ◌∷◌, length, Option, Some, None, Result, Ok, Err}
+use Rattle.std.specs.Prelude.{◌≡◌, ℕ, ◌+◌, ◌<◌, ◌≤◌, List, [], ◌∷◌, length, Option, Some, None, Result, Ok, Err}
 use Rattle.mcap_wire.specs.Limits.{declaration_limit, record_count_limit}
-use Rattle.mcap_wire.specs.Maps.{pair_texts}
-use Rattle.rec_data.specs.declared.schema.SchemaDef.{SchemaDef}
 use Rattle.rec_data.specs.declared.channel.ChannelDef.{ChannelDef}
 use Rattle.record_core.specs.declared.desk.Sight.{Sight}
 use Rattle.record_core.specs.declared.desk.Sight.TheVariants.{Refused, Known, New}
-use Rattle.record_core.specs.Ids.{channel_place}
-use Rattle.record_core.specs.Tables.{IsIdAt, ids_lack}
-use Rattle.record_core.specs.Desk.{DeskView, bytes_held, accepted, declare_refusal}
-use Rattle.record_core.specs.DeclarationFields.{declared_size}
+use Rattle.history_ids.specs.Ids.{channel_place}
+use Rattle.history_ids.specs.Tables.{IsIdAt}
+use Rattle.record_core.specs.Desk.{ids_refusal, DeskView, bytes_held, accepted, declare_refusal}
+use Rattle.history_ids.specs.DeclarationFields.{declared_size}
 use Rattle.rec_data.specs.declared.owned.Rec.{Rec}
 use Rattle.record_cache.specs.declared.cache.Full.{Full}
 use Rattle.rec_data.specs.Owned.{rec_bytes, RecFits}
@@ -18,20 +16,9 @@ use Rattle.record_cache.specs.Buffers.{Buffer}
 use Rattle.record_cache.specs.KeptRecords.{IsKept}
 use Rattle.record_cache.specs.Offers.{rec_of, Offered}
 
--- the lengths of a declaration fit in front of what they count
-abbrev pub SchemaFits : Option SchemaDef → Type 0
-SchemaFits None = Unit {0}
-SchemaFits (Some s) = (length s.name < 2 ^ 32) × (length s.encoding < 2 ^ 32) × (length s.payload < 2 ^ 32)
-
-pub record DefFits (c : ChannelDef) : Type 0 where
-  pub schema : SchemaFits c.schema
-  pub topic : length c.topic < 2 ^ 32
-  pub encoding : length c.message_encoding < 2 ^ 32
-  pub metadata : length (pair_texts c.metadata) < 2 ^ 32
-
 -- only ids and memory may lack
 pub record OnlyIdsLack (d : DeskView) (c : ChannelDef) : Type 0 where
-  pub refusal : declare_refusal d c ≡ ids_lack d.ids c
+  pub refusal : declare_refusal d c ≡ ids_refusal d.ids c
   pub is_new : channel_place d.ids c ≡ None
   pub small : declared_size c ≤ declaration_limit
   pub room : bytes_held d < d.limit

@@ -3,19 +3,20 @@ ghost use Rattle.std.specs.Prelude.{◌≡◌, ◌≤◌, ◌<◌, ◌+◌, [], 
 ghost use Rattle.mcap_wire.specs.Limits.{data_limit, record_count_limit};
 ghost use Rattle.mcap_wire.specs.RecordingLimits.{buffer_limit};
 ghost use Rattle.mcap_model.specs.declared.ends.End.TheVariants.{Closed, Stopped};
-ghost use Rattle.record_core.specs.Ids.{is_known_channel};
-ghost use Rattle.record_core.specs.Tables.{HasFewIds, MayShare};
+ghost use Rattle.history_ids.specs.Ids.{is_known_channel};
+ghost use Rattle.history_ids.specs.Tables.{HasFewIds, MayShare};
 ghost use Rattle.record_core.specs.Desk.{new_desk, accepted, bytes_held, with_more_records, swapped, ended, fields_of_message, publish_refusal, IsForMessage, IsForDeclaration, Published, SwapAnswered, EndIsLast, EndIsSetAt, IsCause, desk_end, found_of, DeclaredBy};
 ghost use Rattle.mcap_model.specs.History.{message_of};
 ghost use Rattle.record_cache.specs.Offers.{Offered};
 ghost use Rattle.record_core.specs.Machine.{start, swap, close, stop};
-ghost use Rattle.record_core.specs.Sights.{DefFits, OnlyIdsLack, SightOf};
+ghost use Rattle.history_ids.specs.DeclarationFits.{DefFits};
+ghost use Rattle.record_core.specs.Sights.{OnlyIdsLack, SightOf};
 ghost use Rattle.record_core.specs.Stands.{DeskStandsFor, DeskSteps, Stays, PublishSteps, DeclareSteps};
 
 use crate::answers::{CallRefused, Declared, Empty, Found, NewMessage};
 use crate::framing::{declared_size, offer_declared};
-use crate::ids::{give_ids_sharing, id_of_channel, number_of};
 use crate::limits::{DATA_LIMIT, DECLARATION_LIMIT, RECORD_COUNT_LIMIT};
+use history_ids::{give_ids_sharing, id_of_channel, number_of};
 use id_table::{IdRefused, IdTable};
 use mcap_model::{End, Stop};
 use mcap_wire::Memory;

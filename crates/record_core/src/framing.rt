@@ -3,13 +3,14 @@ ghost use Rattle.std.specs.Prelude.{◌≡◌, ◌≤◌, ◌++◌, ◌∷◌, [
 ghost use Rattle.mcap_wire.specs.Limits.{declaration_limit};
 ghost use Rattle.mcap_model.specs.History.{schema_of, channel_of};
 ghost use Rattle.record_cache.specs.Offers.{rec_of};
-ghost use Rattle.record_core.specs.DeclarationFields.{fields_of_schema, fields_with, schema_size, declared_size};
+ghost use Rattle.history_ids.specs.DeclarationFields.{fields_of_schema, fields_with, schema_size, declared_size};
 ghost use Rattle.rec_data.specs.Owned.{RecFits};
 ghost use Rattle.record_cache.specs.KeptRecords.{IsKept};
-ghost use Rattle.record_core.specs.Tables.{id_of, schema_with};
-ghost use Rattle.record_core.specs.Sights.{SchemaFits, DefFits, recs_of, FirstFits, SchemaKept, CountedOffer};
+ghost use Rattle.history_ids.specs.Tables.{id_of, schema_with};
+ghost use Rattle.history_ids.specs.DeclarationFits.{SchemaFits, DefFits};
+ghost use Rattle.record_core.specs.Sights.{recs_of, FirstFits, SchemaKept, CountedOffer};
 
-use crate::ids::id_of;
+use history_ids::id_of;
 use id_table::Given;
 use mcap_wire::PairsRef;
 use rec_data::{Channel, ChannelDef, Schema, SchemaDef};

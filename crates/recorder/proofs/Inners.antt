@@ -9,7 +9,7 @@ use Rattle.mcap_model.specs.History.{schema_of, channel_of, message_of}
 use Rattle.mcap_model.specs.Laws.{IsInner}
 use Rattle.mcap_model.proofs.Places.{at_none, at_one, at_within, at_read}
 use Rattle.mcap_model.proofs.Lists.{each_cons}
-use Rattle.record_core.specs.DeclarationFields.{fields_of_schema, fields_with}
+use Rattle.history_ids.specs.DeclarationFields.{fields_of_schema, fields_with}
 use Rattle.feed_lane.specs.Pass.{AreAdded}
 use Rattle.feed_lane.specs.Lanes.{ReportLists, IsGiven}
 use Rattle.mcap_model.specs.declared.options.RecordOptions.{RecordOptions}

@@ -1,6 +1,6 @@
 //! Channels that tests declare.
 ghost use Rattle.std.specs.Prelude.{◌<◌, ◌^◌, Some, None, length, IfOk};
-ghost use Rattle.record_core.specs.Sights.{DefFits, SchemaFits};
+ghost use Rattle.history_ids.specs.DeclarationFits.{DefFits, SchemaFits};
 
 use mcap_wire::{Bytes, Memory, Pairs, Text, take_pairs};
 use rec_data::{ChannelDef, SchemaDef};

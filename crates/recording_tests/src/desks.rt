@@ -1,6 +1,6 @@
 //! Desks that are full, swapped, closed and stopped, ids by content, and the order of refusals.
 ghost use Rattle.std.specs.Prelude.{◌≡◌, ◌≤◌};
-ghost use Rattle.record_core.specs.Sights.{DefFits};
+ghost use Rattle.history_ids.specs.DeclarationFits.{DefFits};
 
 use crate::contents::{channel, schema};
 use crate::same::holds_at;

@@ -1,6 +1,6 @@
 //! The entries of a Message Index in a range, in the order of time and offset.
 use crate::same::holds_at;
-use chunk_build::{IndexTable, TimeAt};
+use live_replay::{IndexTable, TimeAt};
 use mcap_model::Range;
 use mcap_wire::EntriesRef;
 use rec_index::MessageIndex;

@@ -1,6 +1,6 @@
 //! Publishers, a drain and a control at one turn, on one thread and on many.
 ghost use Rattle.std.specs.Prelude.{◌≡◌, ◌+◌, ◌≤◌, ◌<◌, ◌^◌, [], length, IfOk};
-ghost use Rattle.record_core.specs.Sights.{DefFits};
+ghost use Rattle.history_ids.specs.DeclarationFits.{DefFits};
 
 use crate::same::holds;
 use buffer_swap::{Control, Drain, Publisher, Turn, meet};

@@ -1,14 +1,14 @@
 -- What the report of a recording tells besides faults and ends: that a limit would be passed, and that memory lacked.
-use Rattle.std.specs.Prelude.{◌||◌, [], Bool, true, false, Option, Some, None}
+use Rattle.std.specs.Prelude.{◌||◌, Bool, true, false, Option, Some, None}
 use Rattle.std.specs.List.{list_any}
 use Rattle.mcap_model.specs.declared.ends.End.{End}
 use Rattle.mcap_model.specs.declared.ends.End.TheVariants as ends
 use Rattle.mcap_model.specs.declared.ends.Stop.TheVariants as stops
+use Rattle.mcap_model.specs.RefusalKinds.{is_memory_refusal}
 use Rattle.feed_lane.specs.Causes.{is_over, is_memory_stop, is_memory}
 use Rattle.feed_lane.specs.declared.report.FeedEnd.{FeedEnd}
 use Rattle.feed_lane.specs.declared.report.FeedEnd.TheVariants as feed_ends
 use Rattle.recorder.specs.declared.report.Report.{Report}
-use Rattle.command_base.specs.OneFile.{refusal_ending, is_lack}
 
 abbrev pub is_limit : End → Bool
 is_limit ends.Closed = false
@@ -23,7 +23,7 @@ passes_limit r = is_limit r.writer.end || list_any (λ f. list_any (λ x. is_ove
 -- memory lacked for a feed, for the file, or for a message
 abbrev pub is_memory_end : FeedEnd → Bool
 is_memory_end feed_ends.Done = false
-is_memory_end (feed_ends.Refused why) = is_lack (refusal_ending [] why)
+is_memory_end (feed_ends.Refused why) = is_memory_refusal why
 is_memory_end feed_ends.Ended = false
 
 abbrev pub is_memory_writer : End → Bool

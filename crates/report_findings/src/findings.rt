@@ -4,7 +4,6 @@ ghost use Rattle.std.specs.List.{list_any};
 ghost use Rattle.feed_lane.specs.Causes.{is_over, is_memory, is_memory_stop};
 ghost use Rattle.report_findings.specs.Findings.{is_limit, is_memory_end, is_memory_writer, limit_passed, lacks_memory as names_lack};
 
-use command_base::lacks_memory;
 use mcap_model::{End, Stop};
 use recorder::{FeedEnd, FeedReport, Report};
 
@@ -61,7 +60,7 @@ fn is_end_for_memory(end: &FeedEnd) -> bool
     ensures { result ≡ is_memory_end end.now }
 {
     match end {
-        FeedEnd::Refused { why } => return lacks_memory(why),
+        FeedEnd::Refused { why } => return why.is_memory(),
         FeedEnd::Done | FeedEnd::Ended => return false,
     }
 }

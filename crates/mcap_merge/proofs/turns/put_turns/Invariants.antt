@@ -1,5 +1,5 @@
 use Rattle.std.proofs.Common.{◌≡◌, ◌*◌, length, map, Ok}
-use Rattle.record_core.specs.Tables.{HasSchemas}
+use Rattle.history_ids.specs.Tables.{HasSchemas}
 use Rattle.chunk_writer.specs.declared.phase.Phase.TheVariants as phases
 use Rattle.chunk_walk.specs.Stores.{files_of, StoresFit, LeavesStores}
 use Rattle.mcap_merge.specs.Turns.{sources, PutSoFar}

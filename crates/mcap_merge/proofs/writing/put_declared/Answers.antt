@@ -1,8 +1,8 @@
 use Rattle.std.proofs.Common.{ℕ, List, [], ◌∷◌, sym, subst}
 use Rattle.rec_data.specs.declared.owned.Rec.{Rec}
 use Rattle.mcap_model.specs.History.{channel_of}
-use Rattle.record_core.specs.DeclarationFields.{fields_with}
-use Rattle.record_core.specs.Tables.{id_given, id_of, schema_with}
+use Rattle.history_ids.specs.DeclarationFields.{fields_with}
+use Rattle.history_ids.specs.Tables.{id_given, id_of, schema_with}
 use Rattle.chunk_build.specs.Chunker.{AreInner}
 use Rattle.mcap_merge.proofs.Written.{channel_is}
 use Rattle.mcap_merge.proofs.writing.put_declared.Goals as goal

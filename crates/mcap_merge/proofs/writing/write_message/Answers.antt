@@ -3,7 +3,7 @@ use Rattle.std.specs.Prelude.{Result, Ok, Err, OnOk}
 use Rattle.rec_data.specs.declared.owned.Rec.{Rec}
 use Rattle.rec_data.specs.Parsed.{message_fields}
 use Rattle.mcap_model.specs.History.{message_of}
-use Rattle.record_core.specs.Ids.{ids_of, channel_id, new_records}
+use Rattle.history_ids.specs.Ids.{ids_of, channel_id, new_records}
 use Rattle.mcap_merge.specs.Uses.{added_by}
 use Rattle.mcap_merge.proofs.Written.{taken, stands_on}
 use Rattle.mcap_merge.proofs.writing.write_message.Goals as goal

@@ -1,8 +1,8 @@
 use Rattle.std.proofs.Common.{ap, sym, ◌∙◌, subst}
 use Rattle.std.specs.Prelude.{OnOk}
-use Rattle.record_core.specs.Ids.{new_records}
+use Rattle.history_ids.specs.Ids.{new_records}
 use Rattle.record_core.specs.Desk.{DeskView}
-use Rattle.record_core.specs.Tables.{MayShare}
+use Rattle.history_ids.specs.Tables.{MayShare}
 use Rattle.record_core.specs.declared.answers.CallRefused.TheVariants.{TooManySchemas, TooManyChannels}
 use Rattle.buffer_swap.specs.Plays.{desk_out, MayCount, LacksIdAt}
 use Rattle.buffer_swap.proofs.Desks.{channel_counts_if, named_after_if, lacks_schemas_if, lacks_channels_if}

@@ -1,5 +1,5 @@
 use Rattle.std.proofs.Common.{ap, sym, subst, arith}
-use Rattle.record_core.specs.Tables.{MayShare}
+use Rattle.history_ids.specs.Tables.{MayShare}
 use Rattle.buffer_swap.specs.Posts.{Post}
 use Rattle.buffer_swap.specs.Plays.{Sat}
 use Rattle.buffer_swap.specs.Calls.{DeclaredInTurn}

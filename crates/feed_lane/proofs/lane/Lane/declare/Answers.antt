@@ -4,7 +4,8 @@ use Rattle.mcap_model.specs.Places.{At}
 use Rattle.record_core.specs.declared.answers.CallRefused.TheVariants as refusing
 use Rattle.feed_lane.specs.PassCalls.{with_reason}
 use Rattle.feed_lane.specs.Lanes.{messages, IsChannelOf}
-use Rattle.feed_lane.specs.Kept.{LaneIds, KeptStands, no_schema}
+use Rattle.feed_lane.specs.Kept.{LaneIds}
+use Rattle.history_ids.specs.FeedContents.{KeptStands, no_schema}
 use Rattle.feed_lane.specs.Steps.{lists_of, LaneStands, ListsStand, ChannelFound}
 use Rattle.feed_lane.proofs.Growing.{may_declare, undeclared_yet, standing, keeping, found_keeping}
 use Rattle.feed_lane.proofs.Calls.{unchanged, memory_tried, declare_refused, declare_tried}

@@ -1,6 +1,6 @@
 use Rattle.std.proofs.Common.{ℕ, List, inl, inr, sym, subst}
 use Rattle.mcap_model.specs.Places.{At}
-use Rattle.feed_lane.specs.Kept.{KeptStands}
+use Rattle.history_ids.specs.FeedContents.{KeptStands}
 use Rattle.feed_lane.specs.Sizes.{IsLength}
 use Rattle.feed_lane.proofs.lane.Lane.excess_of.Goals as goal
 

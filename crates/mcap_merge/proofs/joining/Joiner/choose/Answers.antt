@@ -1,9 +1,9 @@
 use Rattle.std.proofs.Common.{◌+◌, ◌*◌, refl, sym, subst, arith}
 use Rattle.mcap_model.specs.Places.{At}
 use Rattle.mcap_model.proofs.Places.{at_read}
-use Rattle.record_core.proofs.TableIds.{id_found}
-use Rattle.record_core.specs.Tables.{ids_in}
-use Rattle.record_core.specs.Ids.{channel_place}
+use Rattle.history_ids.proofs.TableIds.{id_found}
+use Rattle.history_ids.specs.Tables.{ids_in}
+use Rattle.history_ids.specs.Ids.{channel_place}
 use Rattle.mcap_merge.proofs.ReadBack.{none_back}
 use Rattle.mcap_merge.proofs.Joined.{none_place, chosen_known, chosen_found, chosen_new}
 use Rattle.mcap_merge.proofs.Used.{content_used, used_given, used_lacking}

@@ -1,18 +1,19 @@
 use Rattle.std.proofs.Common.{◌<◌, subst, sym, rules, arith}
 use Rattle.record_core.specs.Desk.{DeskView, bytes_held}
+use Rattle.record_core.proofs.Lacking.{lacks_none, lacks_schemas, lacks_channels}
 use Rattle.record_core.proofs.desk.Desk.give.Goals as goal
 
 pub returns-in-Err-TooManySchemas : goal.returns-in-Err-TooManySchemas
-returns-in-Err-TooManySchemas c = search rules
+returns-in-Err-TooManySchemas c = search (rules, lacks_schemas)
 
 pub returns-in-Err-TooManyChannels : goal.returns-in-Err-TooManyChannels
-returns-in-Err-TooManyChannels c = search rules
+returns-in-Err-TooManyChannels c = search (rules, lacks_channels)
 
 pub returns-in-Err-Memory : goal.returns-in-Err-Memory
-returns-in-Err-Memory c = search rules
+returns-in-Err-Memory c = search (rules, lacks_none)
 
 pub returns-in-Ok-offer_declared : goal.returns-in-Ok-offer_declared
-returns-in-Ok-offer_declared c = search rules
+returns-in-Ok-offer_declared c = search (rules, lacks_none)
 
 pub give_ids_sharing-requires-clause-schemas : goal.give_ids_sharing-requires-clause-schemas
 give_ids_sharing-requires-clause-schemas c = search rules
