@@ -3,10 +3,17 @@ pub mod Asked
 pub mod Asking
 pub mod Behind
 pub mod Blamed
+pub mod BlamedNames
 pub mod Counting
 pub mod Due
+pub mod DueComplaints
+pub mod EndingStatuses
+pub mod Endings
+pub mod NameEntries
 pub mod OneFile
 pub mod Opened
+pub mod Outputs
 pub mod ReadNames
 pub mod Refusals
+pub mod SomeInputs
 pub mod Taken

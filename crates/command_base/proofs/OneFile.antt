@@ -13,6 +13,7 @@ use Rattle.mcap_io.specs.declared.outside.ObjectKind.{ObjectKind}
 use Rattle.mcap_io.specs.declared.outside.ObjectKind.TheVariants as kinds
 use Rattle.mcap_io.specs.declared.outside.OutsideRefused.{OutsideRefused}
 use Rattle.mcap_io.specs.declared.outside.OutsideRefused.TheVariants as outside_refusals
+use Rattle.command_base.specs.InputKinds.{IsInput}
 use Rattle.command_base.specs.declared.faults.Counts.{Counts}
 use Rattle.command_base.specs.declared.one_file.Faults.{Faults}
 use Rattle.command_base.specs.declared.statuses.Status.{Status}
@@ -329,17 +330,6 @@ shows_at b before n now broken broke faults same same_now shows =
     subst (λ (x : Counts). ShowsFaults before x broken broke faults) same_now (subst (λ (x : Counts). ShowsFaults x n broken broke faults) same shows)
 
 -- ---- the file's name
-
--- an object of an input
-pub record IsInput (kind : ObjectKind) : Type 0 where
-  pub inputs : (n : ℕ) → source_faults kind n ≡ n
-  pub outputs : (n : ℕ) → live_faults kind n ≡ 0
-
-pub source_input : IsInput kinds.Source
-source_input = record { inputs = λ n. refl; outputs = λ n. refl }
-
-pub store_input : IsInput kinds.Store
-store_input = record { inputs = λ n. refl; outputs = λ n. refl }
 
 module _ (kind : ObjectKind) (file : List ℕ) where
   -- the opening failed

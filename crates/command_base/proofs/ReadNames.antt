@@ -16,7 +16,8 @@ use Rattle.command_base.specs.OneFileSteps.{HaltsWell}
 use Rattle.command_base.specs.Readings.{ending_of, StoreUse, store_use, IsOpened, IsSourceRead, IsStoreRead}
 use Rattle.command_base.specs.ReadingSteps.{is_failure, IsRefusal, NameEnds}
 use Rattle.command_base.proofs.Counting.{failed_often}
-use Rattle.command_base.proofs.OneFile.{IsInput, IsTakenBack, taken_back, unopened, unopened_for_memory, halts_so, read_halts, failed_halts, lacked_halts, lacked_sure, read_sure}
+use Rattle.command_base.specs.InputKinds.{IsInput}
+use Rattle.command_base.proofs.OneFile.{IsTakenBack, taken_back, unopened, unopened_for_memory, halts_so, read_halts, failed_halts, lacked_halts, lacked_sure, read_sure}
 
 -- ---- endings
 

@@ -22,7 +22,7 @@ use Rattle.mcap_scan.specs.Scanning.{Stands as ReaderStands, StageStands, IsGoin
 use Rattle.mcap_scan.specs.RefusedReadings.{RefusalStands, MemoryStands}
 use Rattle.mcap_scan.proofs.Scanning.{tables_stand, good_stand}
 use Rattle.mcap_scan.proofs.Refused.{nothing_read}
-use Rattle.record_walk.specs.Walking.{ReachesLast}
+use Rattle.mcap_scan.specs.Walking.{ReachesLast}
 use Rattle.feed_lane.specs.declared.report.FeedReport.{FeedReport}
 use Rattle.feed_lane.specs.declared.report.FeedEnd.{FeedEnd}
 use Rattle.feed_lane.specs.declared.report.FeedEnd.TheVariants as feed_ends

@@ -1,12 +1,13 @@
-pub mod Growing
-pub mod Members
-mod Refusing
 mod Accepting
-mod Declaring
-mod Calls
 mod AtHand
-mod Walking
+mod Calls
+mod Declaring
 mod Feeding
 mod Given
+pub mod Growing
 mod Keeping
+pub mod ListMaking
+pub mod Members
+mod Refusing
 pub mod Tapes
+mod Walking

@@ -10,3 +10,5 @@ pub mod Sizes
 pub mod Steps
 pub mod Laws
 pub mod Tapes
+pub mod Listings
+pub mod Stores

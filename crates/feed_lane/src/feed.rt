@@ -6,14 +6,14 @@ ghost use Rattle.feed_lane.specs.Lanes.{LaneFits};
 ghost use Rattle.feed_lane.specs.Steps.{over_end as end_of_over, ListsMessages};
 ghost use Rattle.feed_lane.specs.Feeds.{reported, Reports};
 
+use crate::Listing;
 use crate::lane::{Lane, Over};
 use crate::pass::Pass;
 use crate::refused_list::Refusals;
 use crate::report::{FeedEnd, FeedReport};
-use listing::Listing;
 use mcap_io::Source;
 use mcap_model::ReadingRefused;
-use record_walk::{FlatReader, FlatStep};
+use mcap_scan::{FlatReader, FlatStep};
 use std::alloc::Global;
 
 // The end of a feed whose lane was over before.

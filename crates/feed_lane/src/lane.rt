@@ -15,13 +15,13 @@ ghost use Rattle.feed_lane.specs.Sizes.{IsLength};
 ghost use Rattle.feed_lane.specs.Steps.{lists_of, IdsStand, LaneStands, ListsStand, Roomy, KeepsLists, KeepsAs, AreKnown, AtHand, RefusalIsDue, DeclaredWithId, ThenShows, ChannelFound, MessageTaken, fields_of};
 ghost use Rattle.feed_lane.specs.Causes.{goes_on as goes_on_behind};
 
+use crate::Listing;
 use crate::ids::Ids;
 use crate::pass::Pass;
 use crate::refused_list::Refusals;
 use crate::report::{Accepted, DeclaredAt, Refused};
 use crate::sizes::excess;
 use history_ids::definition_over;
-use listing::Listing;
 use mcap_model::Tables;
 use mcap_wire::Memory;
 use rec_data::{ChannelDef, Message};

@@ -1,11 +1,11 @@
 //! The messages of a feed that were refused.
 ghost use Rattle.std.specs.Prelude.{◌≡◌, ◌+◌, ◌^◌, ◌<◌, ◌≤◌, [], ◌∷◌, ◌++◌, length, true, false, IsSome, IfSome, OnOk, OnErr};
 ghost use Rattle.std.specs.List.{list_any};
-ghost use Rattle.listing.specs.Listings.{most_counted};
+ghost use Rattle.feed_lane.specs.Listings.{most_counted};
 ghost use Rattle.feed_lane.specs.Causes.{is_over, is_memory, is_memory_stop};
 
+use crate::Listing;
 use crate::report::Refused;
-use listing::Listing;
 use mcap_model::Stop;
 use record_core::CallRefused;
 use std::alloc::{AllocError, Global};
@@ -22,7 +22,7 @@ pub struct Refusals {
 
 impl Model for Refusals {
     ghost use Rattle.std.specs.Prelude.{◌≡◌};
-    ghost use Rattle.listing.specs.Listings.{Listed};
+    ghost use Rattle.feed_lane.specs.Listings.{Listed};
     ghost use Rattle.feed_lane.specs.declared.report.Refused.{Refused};
 
     ghost Value = { Listed Refused };

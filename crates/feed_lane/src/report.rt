@@ -1,6 +1,6 @@
 //! What the lane of a feed came to.
+use crate::Listing;
 use crate::refused_list::Refusals;
-use listing::Listing;
 use mcap_model::ReadingRefused;
 use record_core::CallRefused;
 

@@ -16,7 +16,7 @@ use Rattle.mcap_model.specs.Valid.{Keeps}
 use Rattle.mcap_model.proofs.Places.{at_none, at_within, at_kept, at_last, at_more, has_kept, has_last, last_apart}
 use Rattle.mcap_model.proofs.Lists.{each_cons, each_joined, take_while_front}
 use Rattle.mcap_model.proofs.Unpacking.{chunks_are_opened}
-use Rattle.record_walk.specs.declared.heads.MessageHead.{MessageHead}
+use Rattle.mcap_scan.specs.declared.message_heads.MessageHead.{MessageHead}
 use Rattle.index_check.specs.Behind.{IsChunkOpen}
 use Rattle.index_check.specs.Chunks.{EndsWithChunk}
 use Rattle.index_check.specs.Messages.{HoldsMessages}

@@ -9,8 +9,8 @@ use Rattle.mcap_model.specs.declared.checked.Verdict.{Verdict}
 use Rattle.mcap_model.proofs.Flaws.{left_size}
 use Rattle.mcap_model.specs.declared.refusals.ReadingRefused.{ReadingRefused}
 use Rattle.mcap_model.specs.declared.refusals.ReadingRefused.TheVariants as scans
-use Rattle.store_front.specs.Fronts.{WasRead}
-use Rattle.store_front.proofs.Lent.{asks_front}
+use Rattle.mcap_io.specs.StoreFronts.{WasRead}
+use Rattle.mcap_io.proofs.LentStores.{asks_front}
 use Rattle.index_check.specs.declared.section.Section.{Section}
 use Rattle.file_check.specs.declared.flaws.FailedRule.{FailedRule}
 use Rattle.file_check.specs.Reading.{ReadsSection}

@@ -11,10 +11,9 @@ use crate::ends::tell_flaw;
 use crate::flaws::FailedRule;
 use crate::reading::read_section;
 use index_check::Section;
-use mcap_io::{OutsideRefused, Store, read_part};
+use mcap_io::{OutsideRefused, Store, StoreFront, read_part};
 use mcap_model::{Counts, ReadingRefused, Verdict};
 use std::alloc::Global;
-use store_front::StoreFront;
 use summary_check::judge_summary;
 
 /// Reads the data section of a store in front of that end; or tells where V9 fails in it.

@@ -6,7 +6,7 @@ ghost use Rattle.mcap_model.specs.Rules.{HasDataEnd, V6};
 ghost use Rattle.mcap_model.specs.Kept.{reading_limits, Good};
 ghost use Rattle.mcap_model.specs.Whole.{IsSection};
 ghost use Rattle.mcap_model.specs.Made.{top};
-ghost use Rattle.record_walk.specs.Walking.{placed_at};
+ghost use Rattle.mcap_scan.specs.Walking.{placed_at};
 ghost use Rattle.index_check.specs.Section.{SectionOf};
 ghost use Rattle.index_check.specs.Tally.{TallyOf};
 ghost use Rattle.file_check.specs.Gathering.{GatheredOf, GatheredTo, StandBefore, RecordGathered, KnownAtDataEnd};

@@ -11,8 +11,8 @@ use crate::gathering::{DataEnd, Gathering};
 use index_check::Section;
 use mcap_io::Source;
 use mcap_model::{ReadingRefused, Rule, Tables};
+use mcap_scan::{FlatReader, FlatStep};
 use mcap_wire::Memory;
-use record_walk::{FlatReader, FlatStep};
 use std::alloc::Global;
 
 // Why a reading was refused.

@@ -13,7 +13,7 @@ use Rattle.mcap_model.proofs.Places.{at_none, at_last, last_apart}
 use Rattle.mcap_model.proofs.Lists.{take_while_front}
 use Rattle.mcap_model.proofs.Cutting.{last_of}
 use Rattle.mcap_model.proofs.Once.{message_index_once}
-use Rattle.record_walk.specs.declared.heads.MessageHead.{MessageHead}
+use Rattle.mcap_scan.specs.declared.message_heads.MessageHead.{MessageHead}
 use Rattle.index_check.specs.Behind.{IsChunkOpen}
 use Rattle.index_check.specs.Messages.{message_at_entry, AreOn}
 

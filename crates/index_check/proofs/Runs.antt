@@ -14,7 +14,7 @@ use Rattle.mcap_model.proofs.Places.{at_read, at_within, at_one}
 use Rattle.mcap_model.proofs.Lists.{pairs_at, pairs_from, filter_passed, filter_has}
 use Rattle.mcap_model.proofs.ReadBack.{at_map}
 use Rattle.mcap_model.proofs.Flat.{at_mapped}
-use Rattle.record_walk.specs.declared.heads.MessageHead.{MessageHead}
+use Rattle.mcap_scan.specs.declared.message_heads.MessageHead.{MessageHead}
 use Rattle.index_check.specs.Entries.{ListsEntries, entry_offset}
 use Rattle.index_check.specs.Messages.{entry_of, message_at_entry, ByChannelNotBehind, MessagesRise, HoldsMessages}
 use Rattle.index_check.proofs.Apart.{apart_moved}

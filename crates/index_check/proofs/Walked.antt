@@ -20,9 +20,9 @@ use Rattle.mcap_model.proofs.Places.{at_none, at_within, at_kept, at_last, at_mo
 use Rattle.mcap_model.proofs.Lists.{cut_flat, each_cons}
 use Rattle.mcap_model.proofs.Readings.{length-top}
 use Rattle.mcap_model.proofs.Maps.{message_once, message_long}
-use Rattle.record_walk.specs.declared.heads.MessageHead.{MessageHead}
-use Rattle.record_walk.specs.Heads.{channel_id_in, heads_at, heads_in}
-use Rattle.record_walk.specs.HeadTimes.{time_in, is_headed}
+use Rattle.mcap_scan.specs.declared.message_heads.MessageHead.{MessageHead}
+use Rattle.mcap_scan.specs.Heads.{channel_id_in, heads_at, heads_in}
+use Rattle.mcap_scan.specs.HeadTimes.{time_in, is_headed}
 use Rattle.index_check.specs.Chunks.{HasMessage}
 use Rattle.index_check.specs.Entries.{entry_offset}
 use Rattle.index_check.specs.Messages.{entry_of, message_at_entry, HoldsMessages}

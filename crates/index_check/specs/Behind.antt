@@ -4,7 +4,7 @@ use Rattle.rec_index.specs.Records.{chunk_opcode, message_index_opcode}
 use Rattle.mcap_model.specs.Places.{Has, Each}
 use Rattle.mcap_model.specs.Tops.{Top, inner_tops}
 use Rattle.mcap_model.specs.Fields.{IsMessageIndex}
-use Rattle.record_walk.specs.declared.heads.MessageHead.{MessageHead}
+use Rattle.mcap_scan.specs.declared.message_heads.MessageHead.{MessageHead}
 use Rattle.index_check.specs.Messages.{HoldsMessages}
 
 -- The last of these records are a chunk and, behind it, Message Indexes alone: the chunk has these Messages, and the

@@ -3,7 +3,7 @@ use Rattle.std.specs.Prelude.{◌≡◌, ◌≢◌, ◌⊎◌, ℕ, ◌<◌, ◌
 use Rattle.mcap_model.specs.Places.{Has, Each}
 use Rattle.mcap_model.specs.Tops.{Top}
 use Rattle.mcap_model.specs.Whole.{IsEntryOf}
-use Rattle.record_walk.specs.declared.heads.MessageHead.{MessageHead}
+use Rattle.mcap_scan.specs.declared.message_heads.MessageHead.{MessageHead}
 
 -- its entry in a Message Index: a log time and an offset
 abbrev pub entry_of : MessageHead → ℕ × ℕ

@@ -3,12 +3,12 @@ ghost use Rattle.std.specs.Prelude.{◌≡◌, ◌↔◌, ◌<◌, ◌≤◌, �
 ghost use Rattle.std.specs.List.{AllAdjacentBelow};
 ghost use Rattle.mcap_model.specs.Places.{At};
 ghost use Rattle.mcap_model.specs.Tops.{records_in};
-ghost use Rattle.record_walk.specs.declared.heads.MessageHead.{MessageHead as Heard};
+ghost use Rattle.mcap_scan.specs.declared.message_heads.MessageHead.{MessageHead as Heard};
 ghost use Rattle.index_check.specs.Messages.{ByChannelNotBehind, MessagesRise, HoldsMessages, AreOn};
 
 use crate::ids::Ids;
+use mcap_scan::{MessageHead, list_heads};
 use mcap_wire::Memory;
-use record_walk::{MessageHead, list_heads};
 use std::alloc::Global;
 use std::marker::Model;
 
@@ -21,7 +21,7 @@ pub struct ChunkMessages {
 
 impl Model for ChunkMessages {
     ghost use Rattle.std.specs.Prelude.{List};
-    ghost use Rattle.record_walk.specs.declared.heads.MessageHead.{MessageHead as Heard};
+    ghost use Rattle.mcap_scan.specs.declared.message_heads.MessageHead.{MessageHead as Heard};
     ghost use Rattle.index_check.specs.Messages.{MessagesRise};
 
     ghost Value = { List Heard };

@@ -7,8 +7,8 @@ ghost use Rattle.index_check.specs.Entries.{entry_offset};
 ghost use Rattle.index_check.specs.Messages.{entry_of, HoldsMessages};
 
 use crate::chunk_messages::ChunkMessages;
+use mcap_scan::MessageHead;
 use mcap_wire::{EntriesRef, Memory};
-use record_walk::MessageHead;
 use std::alloc::Global;
 
 // A copy of the entries.

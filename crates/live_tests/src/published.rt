@@ -5,6 +5,7 @@ ghost use Rattle.live_directory.specs.Writing.{empty_directory};
 use io_memory::{MemoryLive, MemorySource, Piece};
 use live_directory::{Directory, Front, Naming, Opened, Reader, open_directory};
 use live_entry::Entry;
+use live_recording::{PublishingTape, last_room};
 use mcap_io::Extent;
 use mcap_model::{End, FileOptions, RecordOptions};
 use mcap_wire::{Memory, Text};
@@ -15,7 +16,6 @@ use std::process::Abort;
 use std::sync::Wait;
 use std::test::*;
 use std::thread::Threads;
-use watched_recording::{PublishingTape, last_room};
 
 // A feed of a Channel of the topic `/a` and two Messages on it, logged at 10 and at 11.
 pub(crate) fn feed_bytes() -> &'static [u8] {

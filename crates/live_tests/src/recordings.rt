@@ -3,13 +3,13 @@ ghost use Rattle.std.specs.Prelude.{◌≡◌, vec_len, IfOk};
 
 use crate::published::feed_bytes;
 use io_memory::{FailingWrite, MemoryLive, MemorySink, MemorySource};
+use live_recording::{WatchedRecording, record_watched};
+use live_watcher::{WatchEnd, WatchReport};
 use mcap_model::{End, FileOptions, Range, RecordOptions};
 use mcap_wire::{Memory, Text};
 use recorder::Report;
 use std::alloc::Global;
 use std::test::*;
-use watched_recording::{WatchedRecording, record_watched};
-use watching::{WatchEnd, WatchReport};
 
 // What a watcher of the feed writes behind its fronts.
 const LINES: &[u8] = b"end closed 2 2\n10 9 1 1 \"/a\" aa\n11 9 1 2 \"/a\" aa\n";

@@ -9,6 +9,7 @@ use crate::replays::holds_at;
 use crate::untold::{FileView, Untold};
 use io_memory::{FailingWrite, MemorySink};
 use live_directory::{Directory, Naming, Note, Opened, Reader, open_directory};
+use live_watcher::{WatchEnd, Watched, Watcher};
 use mcap_model::{End, Range, Stop};
 use std::alloc::Global;
 use std::marker::Brand;
@@ -18,7 +19,6 @@ use std::sync::atomic::AtomicBool;
 use std::sync::atomic::Ordering::SeqCst;
 use std::test::*;
 use std::thread::{Threads, for_each_mut, join};
-use watching::{WatchEnd, Watched, Watcher};
 
 // Publishes the entry of that number.
 fn publish_nth<J: Naming, R: Wait>(

@@ -55,11 +55,11 @@ use Rattle.mcap_recover.specs.Recovering.{recovered_options, TellsHalt}
 use Rattle.command_base.specs.declared.statuses.Status.{Status}
 use Rattle.command_base.specs.declared.statuses.Status.TheVariants as statuses
 use Rattle.command_base.specs.Ran.{Scene, counts_in, AnyRose}
-use Rattle.output_commands.specs.declared.recovering.Recovery.{Recovery}
-use Rattle.output_commands.specs.declared.recovering.Recovery.TheVariants as recoveries
-use Rattle.output_commands.specs.Recover.{HoldsRecovered, RecoveryDecides, RecoversFile}
-use Rattle.record_command.specs.Record.{back_sources}
-use Rattle.record_command.specs.RecordSteps.{AreAllowed}
+use Rattle.command_write.specs.declared.recovering.Recovery.{Recovery}
+use Rattle.command_write.specs.declared.recovering.Recovery.TheVariants as recoveries
+use Rattle.command_write.specs.Recover.{HoldsRecovered, RecoveryDecides, RecoversFile}
+use Rattle.command_record.specs.Record.{back_sources}
+use Rattle.command_record.specs.RecordSteps.{AreAllowed}
 use Rattle.mcap_app.specs.Laws.{IsChunkSize, IsFirstPart, FitsWritingLimits, records_in_pieces, KeepsFirst, RecoversFirst, PassesWritingLimit, RecordingsLeaveFirstParts, RecordingsAreRecovered}
 use Rattle.mcap_app.proofs.Recordings.{Recording, of_records}
 use Rattle.mcap_app.proofs.Unrepeated.{unrepeated}

@@ -44,10 +44,10 @@ use Rattle.mcap_merge.specs.Filed.{merged_options}
 use Rattle.command_base.specs.declared.statuses.Status.TheVariants as statuses
 use Rattle.command_base.specs.Printing.{TellsAll}
 use Rattle.command_base.specs.Ran.{Scene, kept, has_failed, named_when, failed_names}
-use Rattle.output_commands.specs.declared.merging.Merging.{Merging}
-use Rattle.output_commands.specs.declared.merging.Merging.TheVariants as mergings
-use Rattle.output_commands.specs.Merge.{HoldsBytes, HoldsMerged, store_entry, Reached, unopened_so, some_refused, merging_of, IsMerging, merged_line, MergesFiles}
-use Rattle.output_commands.proofs.Merges.{was_merged}
+use Rattle.command_write.specs.declared.merging.Merging.{Merging}
+use Rattle.command_write.specs.declared.merging.Merging.TheVariants as mergings
+use Rattle.command_write.specs.Merge.{HoldsBytes, HoldsMerged, store_entry, Reached, unopened_so, some_refused, merging_of, IsMerging, merged_line, MergesFiles}
+use Rattle.command_write.proofs.Merges.{was_merged}
 use Rattle.mcap_app.specs.Laws.{IsChunkSize, MergesAreSound}
 
 -- ---- the inputs are good lists

@@ -7,17 +7,17 @@ use Rattle.mcap_model.specs.declared.replay.Range.{Range}
 use Rattle.mcap_model.specs.declared.options.RecordOptions.{RecordOptions}
 use Rattle.recorder.specs.declared.report.Report.{Report}
 use Rattle.recorder.specs.Recorded.{Sides, sides, Recorded}
-use Rattle.watching.specs.declared.report.WatchReport.{WatchReport}
+use Rattle.live_watcher.specs.declared.report.WatchReport.{WatchReport}
 use Rattle.command_base.specs.declared.statuses.Status.{Status}
 use Rattle.command_base.specs.declared.statuses.Status.TheVariants as statuses
 use Rattle.command_base.specs.Ran.{Scene, counts_in, world_faults}
-use Rattle.record_command.specs.declared.watched_answer.WatchedCounts.{WatchedCounts}
-use Rattle.record_command.specs.Record.{feed_entry, live_entry, back_sources, OutputHolds, Records, report_lack}
-use Rattle.record_command.specs.Sinks.{sink_entry}
-use Rattle.record_command.specs.Watched.{requested}
-use Rattle.record_command.specs.WatchedAnswer.{watched_counts_in, AnyCountRose, EndsBeside, RecordsWatched}
-use Rattle.record_command.proofs.Runs.{world_faults-append}
-use Rattle.record_command.proofs.Whole.{calm, undone_memory, undone_fault}
+use Rattle.command_record.specs.declared.watched_answer.WatchedCounts.{WatchedCounts}
+use Rattle.command_record.specs.Record.{feed_entry, live_entry, back_sources, OutputHolds, Records, report_lack}
+use Rattle.command_record.specs.Sinks.{sink_entry}
+use Rattle.command_record.specs.Watched.{requested}
+use Rattle.command_record.specs.WatchedAnswer.{watched_counts_in, AnyCountRose, EndsBeside, RecordsWatched}
+use Rattle.command_record.proofs.Runs.{world_faults-append}
+use Rattle.command_record.proofs.Whole.{calm, undone_memory, undone_fault}
 
 -- What was recorded, by what was seen of the sources and of the store, and what then stands under the output's name. Where all was
 -- done the writer closed, and the output was kept.

@@ -21,10 +21,10 @@ use Rattle.mcap_recover.specs.Recovering.{lacks, recovered_options}
 use Rattle.command_base.specs.declared.statuses.Status.TheVariants as statuses
 use Rattle.command_base.specs.Printing.{TellsAll}
 use Rattle.command_base.specs.Ran.{Scene, kept, failed_so, named_when, failed_names}
-use Rattle.output_commands.specs.declared.recovering.Recovery.{Recovery}
-use Rattle.output_commands.specs.declared.recovering.Recovery.TheVariants as recoveries
-use Rattle.output_commands.specs.Recover.{HoldsRecovered, BothReached, RefusesRecovery, recovery_of, IsRecovery, recovered_line, RecoversFile}
-use Rattle.output_commands.proofs.Recoveries.{was_recovered}
+use Rattle.command_write.specs.declared.recovering.Recovery.{Recovery}
+use Rattle.command_write.specs.declared.recovering.Recovery.TheVariants as recoveries
+use Rattle.command_write.specs.Recover.{HoldsRecovered, BothReached, RefusesRecovery, recovery_of, IsRecovery, recovered_line, RecoversFile}
+use Rattle.command_write.proofs.Recoveries.{was_recovered}
 use Rattle.mcap_app.specs.Laws.{RecoveriesAreSound}
 
 -- ---- what it came to

@@ -23,14 +23,14 @@ use Rattle.command_base.specs.declared.file_reading.Reading.{Reading}
 use Rattle.command_base.specs.declared.file_reading.Reading.TheVariants as readings
 use Rattle.command_base.specs.Ran.{Scene, counts_in, AnyRose}
 use Rattle.mcap_model.specs.declared.options.RecordOptions.{RecordOptions}
-use Rattle.record_command.specs.RecordSteps.{AreAllowed}
+use Rattle.command_record.specs.RecordSteps.{AreAllowed}
 use Rattle.mcap_model.specs.declared.refusals.ReadingRefused.{ReadingRefused}
 use Rattle.command_base.specs.OneFile.{refusal_ending}
 use Rattle.command_base.specs.Readings.{IsSourceRead}
 use Rattle.command_base.proofs.ReadNames.{read_is, source_shows}
 use Rattle.command_base.proofs.Refusals.{refusal_is}
 use Rattle.command_base.specs.Printing.{TellsAll}
-use Rattle.file_commands.specs.Cat.{ComesTo, IsPrinted, Cats}
+use Rattle.command_read.specs.Cat.{ComesTo, IsPrinted, Cats}
 use Rattle.mcap_app.specs.Laws.{everything, PrintsHistory, RecordingsArePrinted}
 use Rattle.mcap_app.proofs.Recordings.{Recording, of_records}
 

@@ -14,10 +14,10 @@ use Rattle.command_base.specs.declared.statuses.Status.{Status}
 use Rattle.command_base.specs.declared.statuses.Status.TheVariants as statuses
 use Rattle.command_base.specs.Texts.{status_number}
 use Rattle.command_base.specs.Ran.{Scene}
-use Rattle.generate_command.specs.Allowed.{OptionsAllowed}
-use Rattle.record_command.specs.Record.{Records}
-use Rattle.record_command.specs.Watched.{requested}
-use Rattle.record_command.specs.WatchedAnswer.{RecordsWatched}
+use Rattle.command_generate.specs.Allowed.{OptionsAllowed}
+use Rattle.command_record.specs.Record.{Records}
+use Rattle.command_record.specs.Watched.{requested}
+use Rattle.command_record.specs.WatchedAnswer.{RecordsWatched}
 use Rattle.mcap_model.specs.declared.options.RecordOptions.{RecordOptions}
 use Rattle.mcap_app.specs.Runs.{RecordsBeside, generate_options}
 use Rattle.mcap_app.specs.Ways.{IsAllowed, IsWatchable}

@@ -42,9 +42,9 @@ use Rattle.command_base.specs.declared.statuses.Status.{Status}
 use Rattle.command_base.specs.declared.statuses.Status.TheVariants as statuses
 use Rattle.command_base.specs.declared.file_reading.Reading.{Reading}
 use Rattle.command_base.specs.declared.file_reading.Reading.TheVariants as readings
-use Rattle.file_commands.specs.Check.{verdict_status, Decides, FileChecks}
+use Rattle.command_read.specs.Check.{verdict_status, Decides, FileChecks}
 use Rattle.command_base.specs.Ran.{Scene, counts_in, AnyRose}
-use Rattle.record_command.specs.RecordSteps.{AreAllowed}
+use Rattle.command_record.specs.RecordSteps.{AreAllowed}
 use Rattle.mcap_app.specs.Laws.{IsSaid, PrintsSound, RecordingsAreSound}
 use Rattle.mcap_app.proofs.Recordings.{Recording, of_records}
 use Rattle.mcap_app.proofs.RoundTrip.{closed_left}

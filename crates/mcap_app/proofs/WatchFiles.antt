@@ -34,19 +34,19 @@ use Rattle.recorder.specs.Recorded.{AreReadable}
 use Rattle.recorder.proofs.Inners.{recorded_inner}
 use Rattle.recorder.proofs.ReadBack.{IsClosedFile, closed_file, can_be_read, recs_back, extras_kept}
 use Rattle.time_player.specs.Text.{cat_text}
-use Rattle.watching.specs.declared.report.WatchEnd.{WatchEnd}
-use Rattle.watching.specs.declared.report.WatchEnd.TheVariants as watch_ends
-use Rattle.watching.specs.declared.report.WatchReport.{WatchReport}
-use Rattle.watching.specs.Text.{sealed_by, end_line, WatchText}
-use Rattle.watching.specs.Watching.{unwritten, written_by}
-use Rattle.watched_recording.specs.Watched.{Watch}
-use Rattle.watched_recording.specs.Files.{FrontReplay, WritesOfFile, TellsWatchFile, IsWatchedFile}
+use Rattle.live_watcher.specs.declared.report.WatchEnd.{WatchEnd}
+use Rattle.live_watcher.specs.declared.report.WatchEnd.TheVariants as watch_ends
+use Rattle.live_watcher.specs.declared.report.WatchReport.{WatchReport}
+use Rattle.live_watcher.specs.Text.{sealed_by, end_line, WatchText}
+use Rattle.live_watcher.specs.Watching.{unwritten, written_by}
+use Rattle.live_recording.specs.Watched.{Watch}
+use Rattle.live_recording.specs.Files.{FrontReplay, WritesOfFile, TellsWatchFile, IsWatchedFile}
 use Rattle.command_base.specs.declared.statuses.Status.TheVariants as statuses
 use Rattle.command_base.specs.Ran.{world_faults}
-use Rattle.record_command.specs.Record.{feed_entry}
-use Rattle.record_command.specs.Sinks.{SinkKept, sink_entry}
-use Rattle.record_command.specs.Watched.{EndsSo, IsCalm}
-use Rattle.record_command.proofs.Whole.{at_map, map_at}
+use Rattle.command_record.specs.Record.{feed_entry}
+use Rattle.command_record.specs.Sinks.{SinkKept, sink_entry}
+use Rattle.command_record.specs.Watched.{EndsSo, IsCalm}
+use Rattle.command_record.proofs.Whole.{at_map, map_at}
 use Rattle.mcap_app.specs.WatchedLaws.{HoldsWatchedMessages, WatchFilesHoldMessages}
 use Rattle.mcap_app.proofs.Recordings.{watched_still, watched_total, of_watched}
 

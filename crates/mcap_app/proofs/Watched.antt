@@ -3,7 +3,7 @@ use Rattle.std.proofs.Common.{refl}
 use Rattle.mcap_model.specs.Recovery.{FrontsAreRepaired}
 use Rattle.recorder.specs.Recorded.{sides}
 use Rattle.command_base.specs.declared.statuses.Status.TheVariants as statuses
-use Rattle.record_command.specs.Record.{back_sources}
+use Rattle.command_record.specs.Record.{back_sources}
 use Rattle.mcap_app.specs.WatchedLaws.{WatchedRecordingsArePrinted, WatchedRecordingsAreSound, WatchedRecordingsLeaveFirstParts, WatchedRecordingsAreRecovered}
 use Rattle.mcap_app.proofs.Recordings.{of_watched}
 use Rattle.mcap_app.proofs.RoundTrip.{printed_so}

@@ -34,16 +34,16 @@ use Rattle.mcap_recover.specs.declared.answers.Why.TheVariants as whys
 use Rattle.mcap_recover.specs.Recovering.{recovered_options}
 use Rattle.mcap_merge.specs.declared.answers.Merged.{Merged}
 use Rattle.mcap_merge.specs.Filed.{merged_options}
-use Rattle.record_command.specs.Record.{Records}
-use Rattle.record_command.specs.RecordSteps.{AreAllowed}
-use Rattle.file_commands.specs.Cat.{Selection, Cats}
-use Rattle.file_commands.specs.Check.{verdict_line, FileChecks}
-use Rattle.output_commands.specs.declared.recovering.Recovery.{Recovery}
-use Rattle.output_commands.specs.declared.recovering.Recovery.TheVariants as recoveries
-use Rattle.output_commands.specs.Recover.{recovered_line, RecoversFile}
-use Rattle.output_commands.specs.declared.merging.Merging.{Merging}
-use Rattle.output_commands.specs.declared.merging.Merging.TheVariants as mergings
-use Rattle.output_commands.specs.Merge.{HoldsBytes, merged_line, MergesFiles}
+use Rattle.command_record.specs.Record.{Records}
+use Rattle.command_record.specs.RecordSteps.{AreAllowed}
+use Rattle.command_read.specs.Cat.{Selection, Cats}
+use Rattle.command_read.specs.Check.{verdict_line, FileChecks}
+use Rattle.command_write.specs.declared.recovering.Recovery.{Recovery}
+use Rattle.command_write.specs.declared.recovering.Recovery.TheVariants as recoveries
+use Rattle.command_write.specs.Recover.{recovered_line, RecoversFile}
+use Rattle.command_write.specs.declared.merging.Merging.{Merging}
+use Rattle.command_write.specs.declared.merging.Merging.TheVariants as mergings
+use Rattle.command_write.specs.Merge.{HoldsBytes, merged_line, MergesFiles}
 
 -- all messages are asked for
 abbrev pub everything : Selection

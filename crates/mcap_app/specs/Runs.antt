@@ -8,17 +8,17 @@ use Rattle.command_base.specs.declared.statuses.Status.TheVariants as statuses
 use Rattle.command_base.specs.Texts.{no_memory, said, status_number}
 use Rattle.command_base.specs.Printing.{Takes}
 use Rattle.command_base.specs.Ran.{Scene}
-use Rattle.record_command.specs.Record.{Records}
-use Rattle.record_command.specs.Watched.{Requested, requested}
-use Rattle.record_command.specs.WatchedAnswer.{RecordsWatched}
-use Rattle.file_commands.specs.FileCommand.{RunsOnFile}
-use Rattle.file_commands.specs.Cat.{selection, Cats}
-use Rattle.file_commands.specs.Indexed.{IndexedCats}
-use Rattle.output_commands.specs.Recover.{RecoversFile}
-use Rattle.output_commands.specs.Merge.{MergesFiles}
+use Rattle.command_record.specs.Record.{Records}
+use Rattle.command_record.specs.Watched.{Requested, requested}
+use Rattle.command_record.specs.WatchedAnswer.{RecordsWatched}
+use Rattle.command_read.specs.FileCommand.{RunsOnFile}
+use Rattle.command_read.specs.Cat.{selection, Cats}
+use Rattle.command_read.specs.Indexed.{IndexedCats}
+use Rattle.command_write.specs.Recover.{RecoversFile}
+use Rattle.command_write.specs.Merge.{MergesFiles}
 use Rattle.command_words.specs.Defaults.{usual_chunk_size, usual_limit, watch_names}
 use Rattle.mcap_model.specs.declared.options.RecordOptions.{RecordOptions}
-use Rattle.generate_command.specs.Generating.{Generates}
+use Rattle.command_generate.specs.Generating.{Generates}
 
 -- generated feeds are recorded without loss, with no profile and the usual sizes
 abbrev pub generate_options : RecordOptions

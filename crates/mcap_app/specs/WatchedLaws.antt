@@ -12,18 +12,18 @@ use Rattle.mcap_model.specs.Histories.{flat_history}
 use Rattle.mcap_model.specs.Scan.{Seen, Scan, Replay}
 use Rattle.mcap_model.specs.Laws.{HoldsSeen}
 use Rattle.time_player.specs.Text.{cat_text}
-use Rattle.watching.specs.Text.{end_line}
+use Rattle.live_watcher.specs.Text.{end_line}
 use Rattle.command_base.specs.declared.statuses.Status.{Status}
 use Rattle.command_base.specs.declared.statuses.Status.TheVariants as statuses
 use Rattle.command_base.specs.Ran.{Scene, counts_in, AnyRose}
 use Rattle.mcap_model.specs.declared.options.RecordOptions.{RecordOptions}
 use Rattle.recorder.specs.declared.report.Report.{Report}
-use Rattle.record_command.specs.RecordSteps.{AreAllowed}
-use Rattle.record_command.specs.Watched.{requested}
-use Rattle.record_command.specs.WatchedAnswer.{RecordsWatched}
-use Rattle.file_commands.specs.Cat.{Cats}
-use Rattle.file_commands.specs.Check.{FileChecks}
-use Rattle.output_commands.specs.Recover.{RecoversFile}
+use Rattle.command_record.specs.RecordSteps.{AreAllowed}
+use Rattle.command_record.specs.Watched.{requested}
+use Rattle.command_record.specs.WatchedAnswer.{RecordsWatched}
+use Rattle.command_read.specs.Cat.{Cats}
+use Rattle.command_read.specs.Check.{FileChecks}
+use Rattle.command_write.specs.Recover.{RecoversFile}
 use Rattle.mcap_app.specs.Laws.{everything, PrintsHistory, PrintsSound, IsChunkSize, IsFirstPart, FitsWritingLimits, RecoversFirst, PassesWritingLimit}
 
 -- A recording with watchers in which all was done, in a world that tells, and then a printing of its output there, in which no

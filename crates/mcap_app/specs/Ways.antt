@@ -2,10 +2,10 @@
 use Rattle.std.specs.Prelude.{◌≡◌, ◌≤◌, ℕ, Some}
 use Rattle.command_words.specs.declared.command.Command.{Command}
 use Rattle.command_words.specs.declared.command.Command.TheVariants as commands
-use Rattle.record_command.specs.RecordSteps.{AreAllowed, AreFew}
+use Rattle.command_record.specs.RecordSteps.{AreAllowed, AreFew}
 use Rattle.mcap_model.specs.declared.options.FileOptions.{FileOptions}
 use Rattle.mcap_wire.specs.Limits.{chunk_size_limit}
-use Rattle.output_base.specs.OutputSteps.{InputsAreFew}
+use Rattle.command_base.specs.OutputSteps.{InputsAreFew}
 use Rattle.command_words.specs.Commands.{feed_limit, watcher_limit}
 
 -- so many watchers may read a file of this kind: at most 16, and none where it has no chunks

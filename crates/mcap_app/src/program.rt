@@ -8,23 +8,23 @@ ghost use Rattle.command_base.specs.Texts.{no_memory, said, status_number};
 ghost use Rattle.command_base.specs.ComplaintTroubles.{bad_words_line};
 ghost use Rattle.command_base.specs.Printing.{Takes};
 ghost use Rattle.command_base.specs.Scenes.{scene};
-ghost use Rattle.record_command.specs.RecordSteps.{AreAllowed, AreFew};
+ghost use Rattle.command_record.specs.RecordSteps.{AreAllowed, AreFew};
 ghost use Rattle.command_words.specs.Defaults.{watch_names as names_of_watches};
-ghost use Rattle.record_command.specs.Watched.{requested};
+ghost use Rattle.command_record.specs.Watched.{requested};
 ghost use Rattle.mcap_app.specs.Runs.{RecordsBeside, Does, LacksForWords, Runs, generate_options};
 ghost use Rattle.mcap_app.specs.Ways.{IsAllowed, IsWatchable, records, generates, reads, writes, way_of};
 
 use command_base::{BAD_WORDS_STATUS, Status, refuse_for_memory, refuse_words};
+use command_generate::{Generated, Numbers, generate_file};
+use command_read::{print_file, print_indexed, run_file_command};
+use command_record::{Ended, record_file, record_watched_file};
 use command_words::{
     Command, USUAL_CHUNK, USUAL_LIMIT, WordsRefused, parse_words, usage, watch_names,
 };
-use file_commands::{print_file, print_indexed, run_file_command};
-use generate_command::{Generated, Numbers, generate_file};
+use command_write::{merge_file, recover_file};
 use mcap_io::{Sink, World};
 use mcap_model::{FileOptions, Range, RecordOptions};
 use mcap_wire::{Memory, Text};
-use output_commands::{merge_file, recover_file};
-use record_command::{Ended, record_file, record_watched_file};
 use recorder::Report;
 use std::alloc::Global;
 use std::sync::Wait;

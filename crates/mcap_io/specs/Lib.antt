@@ -8,3 +8,4 @@ pub mod StoreAnswers
 pub mod StoreSources
 pub mod Rooms
 pub mod Stretch
+pub mod StoreFronts

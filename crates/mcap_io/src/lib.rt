@@ -2,6 +2,7 @@
 //! each with a meaning that contracts can name and a count of its faults.
 #![tactic(auto)]
 
+mod front;
 mod outside;
 mod pieces;
 mod room;
@@ -10,6 +11,7 @@ mod store_part;
 mod store_source;
 mod stretch;
 
+pub use front::StoreFront;
 pub use outside::{
     AppendRefused, EachRefused, Extent, Failed, LiveStore, LiveView, ObjectKind, OutsideRefused,
     Short, Sink, Source, World,

@@ -4,11 +4,11 @@ use Rattle.std.specs.Prelude.{min, ◌-◌, ◌^◌}
 use Rattle.std.specs.List.{AllZip}
 use Rattle.rec_data.specs.declared.owned.Rec.{Rec}
 use Rattle.mcap_model.specs.Tops.{Top}
-use Rattle.chunk_walk.specs.declared.pieces.Piece.{Piece}
-use Rattle.chunk_walk.specs.declared.walk.Walk.{Walk}
-use Rattle.chunk_walk.specs.Pieces.{InputBytes, pieces_size}
-use Rattle.chunk_walk.specs.Stores.{unasked}
-use Rattle.chunk_walk.specs.Walks.{pieces_in, peak_of, IsTextOf, WalkStands}
+use Rattle.merge_walk.specs.declared.pieces.Piece.{Piece}
+use Rattle.merge_walk.specs.declared.walk.Walk.{Walk}
+use Rattle.merge_walk.specs.Pieces.{InputBytes, pieces_size}
+use Rattle.merge_walk.specs.Stores.{unasked}
+use Rattle.merge_walk.specs.Walks.{pieces_in, peak_of, IsTextOf, WalkStands}
 use Rattle.mcap_merge.specs.declared.answers.Merged.{Merged}
 use Rattle.mcap_merge.specs.declared.input.Input.{Input}
 use Rattle.mcap_merge.specs.declared.joining.Joiner.{Joiner}

@@ -12,11 +12,11 @@ use Rattle.mcap_model.specs.Places.{At}
 use Rattle.mcap_model.proofs.Places.{at_none, at_one}
 use Rattle.mcap_model.proofs.Lists.{each_cons}
 use Rattle.mcap_model.proofs.NamedTopics.{zip_front, zip_back}
-use Rattle.chunk_walk.specs.declared.pieces.Piece.{Piece}
-use Rattle.chunk_walk.specs.declared.walk.Walk.{Walk}
-use Rattle.chunk_walk.specs.Pieces.{InputBytes, pieces_size}
-use Rattle.chunk_walk.specs.Stores.{files_of, StoresStay, AskedWithin, unasked, none_left}
-use Rattle.chunk_walk.specs.Stores as walks
+use Rattle.merge_walk.specs.declared.pieces.Piece.{Piece}
+use Rattle.merge_walk.specs.declared.walk.Walk.{Walk}
+use Rattle.merge_walk.specs.Pieces.{InputBytes, pieces_size}
+use Rattle.merge_walk.specs.Stores.{files_of, StoresStay, AskedWithin, unasked, none_left}
+use Rattle.merge_walk.specs.Stores as walks
 use Rattle.mcap_merge.specs.Reading.{FaultsStand, InputRose}
 use Rattle.mcap_merge.specs.ReadingSteps.{StoreKeeps, AsksWithinLength}
 use Rattle.mcap_merge.specs.declared.answers.MergeRefused.{MergeRefused}

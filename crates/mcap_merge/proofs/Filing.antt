@@ -18,7 +18,7 @@ use Rattle.chunk_writer.specs.declared.phase.Phase.TheVariants as phases
 use Rattle.chunk_writer.specs.Stops.{numbers, StopsAt}
 use Rattle.chunk_writer.specs.Limits.{Holds}
 use Rattle.chunk_writer.specs.Scribes.{WritesHistory, ScribeGrows, GathersExtra, phase_of}
-use Rattle.chunk_walk.specs.Pieces.{InputBytes}
+use Rattle.merge_walk.specs.Pieces.{InputBytes}
 use Rattle.mcap_merge.specs.declared.answers.MergeRefused.{MergeRefused}
 use Rattle.mcap_merge.specs.declared.answers.MergeRefused.TheVariants as merges
 use Rattle.mcap_merge.specs.declared.answers.Merged.{Merged}

@@ -13,13 +13,13 @@ use Rattle.mcap_model.proofs.Places.{at_none, at_one, at_kept}
 use Rattle.mcap_model.proofs.Lists.{at_either, at_second}
 use Rattle.mcap_model.proofs.NamedTopics.{zip_front, zip_back, unmapped, contained, has_there}
 use Rattle.mcap_model.proofs.Flat.{at_mapped}
-use Rattle.chunk_survey.specs.declared.spans.Span.{Span}
-use Rattle.chunk_survey.specs.Spans.{spans_of}
-use Rattle.chunk_walk.specs.declared.pieces.Piece.{Piece}
-use Rattle.chunk_walk.specs.declared.walk.Walk.{Walk}
-use Rattle.chunk_walk.specs.Pieces.{pieces_with, pieces_size, overlap_at}
-use Rattle.chunk_walk.specs.Stores.{StoresFit}
-use Rattle.chunk_walk.specs.Walks.{pieces_in, pieces_loaded, peak_of, PeakStands}
+use Rattle.merge_walk.specs.declared.spans.Span.{Span}
+use Rattle.merge_walk.specs.Spans.{spans_of}
+use Rattle.merge_walk.specs.declared.pieces.Piece.{Piece}
+use Rattle.merge_walk.specs.declared.walk.Walk.{Walk}
+use Rattle.merge_walk.specs.Pieces.{pieces_with, pieces_size, overlap_at}
+use Rattle.merge_walk.specs.Stores.{StoresFit}
+use Rattle.merge_walk.specs.Walks.{pieces_in, pieces_loaded, peak_of, PeakStands}
 use Rattle.mcap_merge.specs.declared.input.Input.{Input}
 use Rattle.mcap_merge.specs.Inputs.{HoldsInput, HoldInputs}
 use Rattle.mcap_merge.specs.ReadInputs.{Read, read_tops}

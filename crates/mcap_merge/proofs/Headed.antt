@@ -10,7 +10,7 @@ use Rattle.rec_data.specs.Records.{ShowsMessage}
 use Rattle.mcap_model.specs.Tops.{Top, Placed}
 use Rattle.mcap_model.specs.Fields.{MessageFields, IsMessage}
 use Rattle.mcap_model.specs.Scan.{Seen, IsSeen, is_message_top}
-use Rattle.record_walk.specs.HeadTimes.{is_headed}
+use Rattle.mcap_scan.specs.HeadTimes.{is_headed}
 
 -- a content that shows a message has its fields
 shown_long : (content : List ℕ) (channel : ℕ) (m : MessageFields) → ShowsMessage content channel m → 22 ≤ length content

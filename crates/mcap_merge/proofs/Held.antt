@@ -18,9 +18,9 @@ use Rattle.mcap_model.proofs.Readings.{length-top}
 use Rattle.mcap_scan.specs.declared.reader.Reader.{Reader}
 use Rattle.mcap_scan.specs.Scanning.{Stands, Gives, FindsEnd, content_of}
 use Rattle.mcap_scan.proofs.Scanning.{good_stand}
-use Rattle.chunk_survey.specs.declared.spans.Span.{Span}
-use Rattle.chunk_survey.specs.Spans.{spans_one, spans_of}
-use Rattle.chunk_survey.proofs.Noted.{spans_joined}
+use Rattle.merge_walk.specs.declared.spans.Span.{Span}
+use Rattle.merge_walk.specs.Spans.{spans_one, spans_of}
+use Rattle.merge_walk.proofs.Noted.{spans_joined}
 use Rattle.mcap_merge.specs.declared.input.Extra.{Extra}
 use Rattle.mcap_merge.specs.declared.input.Holding.{Holding}
 use Rattle.mcap_merge.specs.declared.input.Input.{Input}

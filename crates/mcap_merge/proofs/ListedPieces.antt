@@ -3,8 +3,8 @@ use Rattle.std.proofs.Common.{◌≡◌, ℕ, suc, ◌+◌, List, [], ◌∷◌,
 use Rattle.mcap_model.specs.Places.{At}
 use Rattle.mcap_model.proofs.Lists.{length-take_at}
 use Rattle.mcap_model.proofs.OneMore.{taken_more}
-use Rattle.chunk_walk.specs.declared.pieces.Piece.{Piece}
-use Rattle.chunk_walk.specs.Pieces.{pieces_with}
+use Rattle.merge_walk.specs.declared.pieces.Piece.{Piece}
+use Rattle.merge_walk.specs.Pieces.{pieces_with}
 use Rattle.mcap_merge.specs.declared.input.Input.{Input}
 use Rattle.mcap_merge.specs.Pieces.{pieces_from}
 

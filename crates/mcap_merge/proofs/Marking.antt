@@ -18,10 +18,10 @@ use Rattle.mcap_model.specs.Scan.{Seen, IsSeen, Scan, is_message_top, tops_of}
 use Rattle.mcap_model.proofs.Places.{at_none, at_one, at_set, at_set_same}
 use Rattle.mcap_model.proofs.NamedTopics.{unmapped, zip_back}
 use Rattle.mcap_model.proofs.Flat.{placed_tops, at_mapped, map-append}
-use Rattle.record_walk.specs.declared.heads.MessageHead.{MessageHead}
-use Rattle.record_walk.specs.Heads.{channel_id_in, head_of}
-use Rattle.record_walk.specs.HeadTimes.{is_headed}
-use Rattle.chunk_survey.specs.Heads.{set_at, heads_one, heads_from}
+use Rattle.mcap_scan.specs.declared.message_heads.MessageHead.{MessageHead}
+use Rattle.mcap_scan.specs.Heads.{channel_id_in, head_of}
+use Rattle.mcap_scan.specs.HeadTimes.{is_headed}
+use Rattle.merge_walk.specs.SpanHeads.{set_at, heads_one, heads_from}
 use Rattle.mcap_merge.proofs.Headed.{headed_message, scan_headed}
 use Rattle.mcap_merge.specs.Marks.{listed_channels, message_channels, channels_under, with_mark, with_marks, AreUnmarked, MarksChannels}
 

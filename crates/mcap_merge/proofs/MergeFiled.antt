@@ -16,12 +16,12 @@ use Rattle.mcap_model.specs.ReadBack.{IsExtra}
 use Rattle.mcap_model.proofs.Places.{at_none, at_one, at_within}
 use Rattle.mcap_model.proofs.Lists.{at_flat}
 use Rattle.mcap_model.proofs.NamedTopics.{zip_front, unmapped}
-use Rattle.chunk_walk.specs.declared.answers.Turn.{Turn}
-use Rattle.chunk_walk.specs.declared.pieces.Piece.{Piece}
-use Rattle.chunk_walk.specs.declared.walk.Walk.{Walk}
-use Rattle.chunk_walk.specs.Pieces.{InputBytes}
-use Rattle.chunk_walk.specs.Stores.{files_of, StoresFit, StoresStay, AskedWithin, unasked, none_left}
-use Rattle.chunk_walk.specs.Walks.{Text, pieces_in, WalkStands, AllGiven}
+use Rattle.merge_walk.specs.declared.turns.Turn.{Turn}
+use Rattle.merge_walk.specs.declared.pieces.Piece.{Piece}
+use Rattle.merge_walk.specs.declared.walk.Walk.{Walk}
+use Rattle.merge_walk.specs.Pieces.{InputBytes}
+use Rattle.merge_walk.specs.Stores.{files_of, StoresFit, StoresStay, AskedWithin, unasked, none_left}
+use Rattle.merge_walk.specs.Walks.{Text, pieces_in, WalkStands, AllGiven}
 use Rattle.mcap_merge.specs.declared.answers.MergeRefused.{MergeRefused}
 use Rattle.mcap_merge.specs.declared.answers.MergeRefused.TheVariants as merges
 use Rattle.mcap_merge.specs.declared.answers.Merged.{Merged}

@@ -18,17 +18,17 @@ use Rattle.mcap_model.proofs.Lists.{has_taken}
 use Rattle.mcap_model.proofs.NamedTopics.{zip_back, unmapped}
 use Rattle.mcap_model.proofs.Flat.{at_mapped}
 use Rattle.mcap_model.proofs.OneMore.{zip_push}
-use Rattle.chunk_walk.specs.declared.answers.Turn.{Turn}
-use Rattle.chunk_walk.specs.declared.answers.WalkRefused.{WalkRefused}
-use Rattle.chunk_walk.specs.declared.answers.WalkRefused.TheVariants as walks
-use Rattle.chunk_walk.specs.declared.pieces.Piece.{Piece}
-use Rattle.chunk_walk.specs.declared.walk.Walk.{Walk}
-use Rattle.chunk_walk.specs.Cursors.{turn_of}
-use Rattle.record_walk.specs.Heads.{heads_in}
-use Rattle.chunk_walk.specs.Pieces.{InputBytes}
-use Rattle.chunk_walk.specs.Stores.{StoresFit, StoresStay, LeavesStores, RefusedCounts, AskedWithin, none_left}
-use Rattle.chunk_walk.specs.Walks.{Text, turns_in, pieces_in, IsTextOf, IsMessageAt, IsWalkRefused, WalkStands, IsOfHeld, Advances}
-use Rattle.chunk_walk.proofs.Stayed.{leaves_on}
+use Rattle.merge_walk.specs.declared.turns.Turn.{Turn}
+use Rattle.merge_walk.specs.declared.turns.WalkRefused.{WalkRefused}
+use Rattle.merge_walk.specs.declared.turns.WalkRefused.TheVariants as walks
+use Rattle.merge_walk.specs.declared.pieces.Piece.{Piece}
+use Rattle.merge_walk.specs.declared.walk.Walk.{Walk}
+use Rattle.merge_walk.specs.Cursors.{turn_of}
+use Rattle.mcap_scan.specs.Heads.{heads_in}
+use Rattle.merge_walk.specs.Pieces.{InputBytes}
+use Rattle.merge_walk.specs.Stores.{StoresFit, StoresStay, LeavesStores, RefusedCounts, AskedWithin, none_left}
+use Rattle.merge_walk.specs.Walks.{Text, turns_in, pieces_in, IsTextOf, IsMessageAt, IsWalkRefused, WalkStands, IsOfHeld, Advances}
+use Rattle.merge_walk.proofs.Stayed.{leaves_on}
 use Rattle.mcap_merge.specs.declared.answers.MergeRefused.{MergeRefused}
 use Rattle.mcap_merge.specs.declared.input.Input.{Input}
 use Rattle.mcap_merge.specs.declared.joining.Joiner.{Joiner}

@@ -15,10 +15,10 @@ use Rattle.mcap_model.specs.ReadBack.{IsReadBack, IsExtra}
 use Rattle.mcap_model.specs.Merged.{Sent, MergesBefore, IsMerged, MergeOf}
 use Rattle.mcap_model.proofs.Lists.{pairs_at, pairs_from}
 use Rattle.mcap_model.proofs.NamedTopics.{zip_front, zip_back}
-use Rattle.record_walk.specs.HeadTimes.{time_in}
-use Rattle.chunk_walk.specs.declared.answers.Turn.{Turn}
-use Rattle.chunk_walk.specs.Cursors.{TurnBefore}
-use Rattle.chunk_walk.specs.Walks.{Text}
+use Rattle.mcap_scan.specs.HeadTimes.{time_in}
+use Rattle.merge_walk.specs.declared.turns.Turn.{Turn}
+use Rattle.merge_walk.specs.Cursors.{TurnBefore}
+use Rattle.merge_walk.specs.Walks.{Text}
 use Rattle.mcap_merge.specs.Uses.{Use, history_of, IsUse, AreUses}
 use Rattle.mcap_merge.specs.Contents.{IdsSuffice}
 use Rattle.mcap_merge.specs.Turns.{IsUseOfTurn}

@@ -12,11 +12,11 @@ use Rattle.mcap_model.proofs.Places.{at_none, at_one, at_kept}
 use Rattle.mcap_model.proofs.Lists.{at_either, at_second}
 use Rattle.mcap_model.proofs.NamedTopics.{unmapped}
 use Rattle.mcap_model.proofs.Flat.{placed_tops, map-append}
-use Rattle.chunk_survey.specs.declared.spans.Span.{Span}
-use Rattle.record_walk.specs.HeadTimes.{time_in, is_headed}
-use Rattle.chunk_survey.specs.Times.{times_of}
-use Rattle.chunk_survey.specs.Spans.{spans_one, spans_from, spans_of}
-use Rattle.chunk_survey.proofs.Telling.{spans_tell_times}
+use Rattle.merge_walk.specs.declared.spans.Span.{Span}
+use Rattle.mcap_scan.specs.HeadTimes.{time_in, is_headed}
+use Rattle.merge_walk.specs.Times.{times_of}
+use Rattle.merge_walk.specs.Spans.{spans_one, spans_from, spans_of}
+use Rattle.merge_walk.proofs.Telling.{spans_tell_times}
 use Rattle.mcap_merge.specs.ReadInputs.{Read, read_tops}
 use Rattle.mcap_merge.proofs.Headed.{scan_headed}
 use Rattle.mcap_merge.proofs.Marking.{messages_flat}

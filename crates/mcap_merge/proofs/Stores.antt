@@ -7,7 +7,7 @@ use Rattle.mcap_io.specs.Outside.{RisesOnce}
 use Rattle.mcap_io.specs.Stores.{StoreState}
 use Rattle.mcap_io.specs.StoreAnswers.{StoreStays, Measures}
 use Rattle.mcap_io.specs.StoreSources.{front_left}
-use Rattle.store_front.specs.Fronts.{WasRead}
+use Rattle.mcap_io.specs.StoreFronts.{WasRead}
 use Rattle.mcap_model.specs.Places.{At}
 use Rattle.mcap_model.proofs.Places.{at_none, at_one, at_within, at_read, at_set_same, at_set_other}
 use Rattle.mcap_model.proofs.Lists.{at_taken}
@@ -16,7 +16,7 @@ use Rattle.mcap_model.proofs.OneMore.{taken_more, zip_push}
 use Rattle.mcap_model.specs.declared.refusals.ReadingRefused.{ReadingRefused}
 use Rattle.mcap_model.specs.declared.refusals.ReadingRefused.TheVariants as refusals
 use Rattle.mcap_model.specs.declared.rules.Rule.{Rule}
-use Rattle.chunk_survey.specs.declared.spans.Span.{Span}
+use Rattle.merge_walk.specs.declared.spans.Span.{Span}
 use Rattle.mcap_merge.specs.declared.answers.MergeRefused.{MergeRefused}
 use Rattle.mcap_merge.specs.declared.input.Input.{Input}
 use Rattle.mcap_merge.specs.Inputs.{HoldsInput, HoldInputs}

@@ -18,13 +18,13 @@ use Rattle.mcap_model.proofs.Lists.{cut_flat, pairs_at, pairs_from, has_taken, a
 use Rattle.mcap_model.proofs.Members.{has_second}
 use Rattle.mcap_model.proofs.NamedTopics.{unmapped, zip_front, zip_back}
 use Rattle.mcap_model.proofs.Maps.{message_once}
-use Rattle.chunk_walk.specs.declared.answers.Turn.{Turn}
-use Rattle.chunk_walk.specs.declared.pieces.Piece.{Piece}
-use Rattle.chunk_walk.specs.declared.walk.Walk.{Walk}
-use Rattle.chunk_walk.specs.Cursors.{TurnBefore}
-use Rattle.chunk_walk.specs.Stores.{files_of}
-use Rattle.chunk_walk.specs.Walks.{Text, turns_in, turns_of, pieces_in, pieces_loaded, pieces_ahead, IsTextOf, WalkStands, AllGiven}
-use Rattle.chunk_walk.proofs.Ordered.{before_each}
+use Rattle.merge_walk.specs.declared.turns.Turn.{Turn}
+use Rattle.merge_walk.specs.declared.pieces.Piece.{Piece}
+use Rattle.merge_walk.specs.declared.walk.Walk.{Walk}
+use Rattle.merge_walk.specs.Cursors.{TurnBefore}
+use Rattle.merge_walk.specs.Stores.{files_of}
+use Rattle.merge_walk.specs.Walks.{Text, turns_in, turns_of, pieces_in, pieces_loaded, pieces_ahead, IsTextOf, WalkStands, AllGiven}
+use Rattle.merge_walk.proofs.Ordered.{before_each}
 use Rattle.mcap_merge.specs.declared.input.Input.{Input}
 use Rattle.mcap_merge.specs.Inputs.{HoldsInput, HoldInputs}
 use Rattle.mcap_merge.specs.ReadInputs.{Read, read_tops}

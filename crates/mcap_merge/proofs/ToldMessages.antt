@@ -14,14 +14,14 @@ use Rattle.mcap_model.proofs.Members.{has_one}
 use Rattle.mcap_model.proofs.NamedTopics.{zip_front, zip_back}
 use Rattle.mcap_model.proofs.Flat.{at_mapped}
 use Rattle.mcap_model.proofs.OpenedChunks.{placed_at}
-use Rattle.chunk_survey.specs.declared.spans.Span.{Span}
-use Rattle.record_walk.specs.declared.heads.MessageHead.{MessageHead}
-use Rattle.record_walk.specs.Heads.{channel_id_in, head_of}
-use Rattle.record_walk.specs.HeadTimes.{time_in, is_headed}
-use Rattle.chunk_survey.specs.Heads.{set_at, heads_one, heads_from}
-use Rattle.chunk_survey.specs.Times.{times_of}
-use Rattle.chunk_survey.specs.Spans.{spans_one}
-use Rattle.chunk_survey.proofs.Telling.{silent_records_have_none}
+use Rattle.merge_walk.specs.declared.spans.Span.{Span}
+use Rattle.mcap_scan.specs.declared.message_heads.MessageHead.{MessageHead}
+use Rattle.mcap_scan.specs.Heads.{channel_id_in, head_of}
+use Rattle.mcap_scan.specs.HeadTimes.{time_in, is_headed}
+use Rattle.merge_walk.specs.SpanHeads.{set_at, heads_one, heads_from}
+use Rattle.merge_walk.specs.Times.{times_of}
+use Rattle.merge_walk.specs.Spans.{spans_one}
+use Rattle.merge_walk.proofs.Telling.{silent_records_have_none}
 use Rattle.mcap_merge.proofs.Headed.{message_headed, headed_message}
 use Rattle.mcap_merge.proofs.Marking.{channel_shown}
 use Rattle.mcap_merge.proofs.Sound.{time_shown}

@@ -19,11 +19,11 @@ use Rattle.mcap_model.proofs.Unpacking.{chunks_are_opened}
 use Rattle.mcap_model.proofs.Walks.{found_next, none_next}
 use Rattle.mcap_model.proofs.Flat.{named_or}
 use Rattle.mcap_model.proofs.PlacesApart.{pairs_joined, none_each, none_pairs}
-use Rattle.chunk_survey.specs.declared.spans.Span.{Span}
-use Rattle.chunk_survey.specs.Times.{times_of, extent_of}
-use Rattle.chunk_survey.specs.Surveys.{TimesSpan}
-use Rattle.chunk_survey.specs.Spans.{spans_made, spans_timed, spans_in_chunk, spans_alone, spans_one, spans_from, spans_of}
-use Rattle.chunk_survey.proofs.Telling.{spans_tell_times}
+use Rattle.merge_walk.specs.declared.spans.Span.{Span}
+use Rattle.merge_walk.specs.Times.{times_of, extent_of}
+use Rattle.merge_walk.specs.Surveys.{TimesSpan}
+use Rattle.merge_walk.specs.Spans.{spans_made, spans_timed, spans_in_chunk, spans_alone, spans_one, spans_from, spans_of}
+use Rattle.merge_walk.proofs.Telling.{spans_tell_times}
 use Rattle.mcap_merge.proofs.Laid.{laid}
 
 -- it stands behind some records which it fits

@@ -9,18 +9,18 @@ use Rattle.mcap_model.proofs.Places.{at_one}
 use Rattle.mcap_model.proofs.Lists.{pairs_at, pairs_from}
 use Rattle.mcap_model.proofs.NamedTopics.{unmapped}
 use Rattle.mcap_model.proofs.PlacesApart.{pairs_joined, none_pairs}
-use Rattle.chunk_survey.specs.declared.spans.Span.{Span}
-use Rattle.chunk_walk.specs.declared.pieces.Piece.{Piece}
-use Rattle.chunk_walk.specs.declared.walk.Walk.{Walk}
-use Rattle.chunk_walk.specs.declared.answers.Turn.{Turn}
-use Rattle.chunk_walk.specs.declared.answers.WalkRefused.TheVariants as walks
-use Rattle.record_walk.specs.Heads.{heads_in}
-use Rattle.chunk_walk.specs.Heads.{FitsSpan}
-use Rattle.chunk_walk.specs.Cursors.{turn_of}
-use Rattle.chunk_walk.specs.Pieces.{pieces_with, BeginTogether}
-use Rattle.chunk_walk.specs.Stores.{files_of}
-use Rattle.chunk_walk.specs.Walks.{pieces_in, IsWalkRefused}
-use Rattle.chunk_walk.specs.Laws.{BeginApart}
+use Rattle.merge_walk.specs.declared.spans.Span.{Span}
+use Rattle.merge_walk.specs.declared.pieces.Piece.{Piece}
+use Rattle.merge_walk.specs.declared.walk.Walk.{Walk}
+use Rattle.merge_walk.specs.declared.turns.Turn.{Turn}
+use Rattle.merge_walk.specs.declared.turns.WalkRefused.TheVariants as walks
+use Rattle.mcap_scan.specs.Heads.{heads_in}
+use Rattle.merge_walk.specs.Heads.{FitsSpan}
+use Rattle.merge_walk.specs.Cursors.{turn_of}
+use Rattle.merge_walk.specs.Pieces.{pieces_with, BeginTogether}
+use Rattle.merge_walk.specs.Stores.{files_of}
+use Rattle.merge_walk.specs.Walks.{pieces_in, IsWalkRefused}
+use Rattle.merge_walk.specs.WalkLaws.{BeginApart}
 use Rattle.mcap_merge.specs.declared.input.Input.{Input}
 use Rattle.mcap_merge.specs.Inputs.{HoldInputs}
 use Rattle.mcap_merge.specs.ReadInputs.{Read}

@@ -13,22 +13,22 @@ use Rattle.mcap_model.proofs.Places.{at_none, at_one, each_at, has_kept}
 use Rattle.mcap_model.proofs.Members.{has_either, has_second}
 use Rattle.mcap_model.proofs.NamedTopics.{contained, has_there, unmapped, zip_front, zip_back}
 use Rattle.mcap_model.proofs.Flat.{at_mapped}
-use Rattle.chunk_survey.specs.declared.spans.Span.{Span}
-use Rattle.chunk_survey.specs.Times.{times_of}
-use Rattle.chunk_survey.specs.Surveys.{TimesSpan}
-use Rattle.chunk_survey.specs.Spans.{spans_one, spans_from, spans_of}
-use Rattle.chunk_walk.specs.declared.answers.Turn.{Turn}
-use Rattle.record_walk.specs.declared.heads.MessageHead.{MessageHead}
-use Rattle.chunk_walk.specs.declared.pieces.Piece.{Piece}
-use Rattle.record_walk.specs.Heads.{heads_in}
-use Rattle.chunk_survey.specs.Heads.{heads_from}
-use Rattle.chunk_walk.specs.Heads.{FitsSpan}
-use Rattle.chunk_walk.proofs.Unchanged.{surveyed_fit}
-use Rattle.chunk_walk.specs.Pieces.{pieces_with}
-use Rattle.chunk_walk.specs.Cursors.{turn_of, TurnBefore}
-use Rattle.chunk_walk.specs.Stores.{files_of}
-use Rattle.chunk_walk.specs.Walks.{Text, turns_in, IsTextOf, IsMessageAt}
-use Rattle.chunk_walk.specs.Laws.{IsPieceTold}
+use Rattle.merge_walk.specs.declared.spans.Span.{Span}
+use Rattle.merge_walk.specs.Times.{times_of}
+use Rattle.merge_walk.specs.Surveys.{TimesSpan}
+use Rattle.merge_walk.specs.Spans.{spans_one, spans_from, spans_of}
+use Rattle.merge_walk.specs.declared.turns.Turn.{Turn}
+use Rattle.mcap_scan.specs.declared.message_heads.MessageHead.{MessageHead}
+use Rattle.merge_walk.specs.declared.pieces.Piece.{Piece}
+use Rattle.mcap_scan.specs.Heads.{heads_in}
+use Rattle.merge_walk.specs.SpanHeads.{heads_from}
+use Rattle.merge_walk.specs.Heads.{FitsSpan}
+use Rattle.merge_walk.proofs.Unchanged.{surveyed_fit}
+use Rattle.merge_walk.specs.Pieces.{pieces_with}
+use Rattle.merge_walk.specs.Cursors.{turn_of, TurnBefore}
+use Rattle.merge_walk.specs.Stores.{files_of}
+use Rattle.merge_walk.specs.Walks.{Text, turns_in, IsTextOf, IsMessageAt}
+use Rattle.merge_walk.specs.WalkLaws.{IsPieceTold}
 use Rattle.mcap_merge.specs.declared.input.Input.{Input}
 use Rattle.mcap_merge.specs.Inputs.{HoldsInput, HoldInputs}
 use Rattle.mcap_merge.specs.ReadInputs.{Read, read_tops}

@@ -14,9 +14,9 @@ use Rattle.mcap_model.proofs.Lists.{at_either, at_second}
 use Rattle.mcap_model.proofs.Readings.{length-top}
 use Rattle.mcap_model.proofs.Flaws.{left_size}
 use Rattle.mcap_model.proofs.Prefixes.{ends_there}
-use Rattle.chunk_survey.specs.declared.spans.Span.{Span}
-use Rattle.chunk_survey.specs.Times.{times_of, extent_of}
-use Rattle.chunk_survey.specs.Spans.{spans_made, spans_timed, spans_in_chunk, spans_alone, spans_one, spans_from, spans_of}
+use Rattle.merge_walk.specs.declared.spans.Span.{Span}
+use Rattle.merge_walk.specs.Times.{times_of, extent_of}
+use Rattle.merge_walk.specs.Spans.{spans_made, spans_timed, spans_in_chunk, spans_alone, spans_one, spans_from, spans_of}
 
 -- ---- one record
 

@@ -12,8 +12,8 @@ use Rattle.mcap_model.specs.Declarations.{TablesOf}
 use Rattle.mcap_model.specs.Repaired.{is_extra, ProfileIs}
 use Rattle.mcap_model.specs.declared.refusals.ReadingRefused.{ReadingRefused}
 use Rattle.mcap_scan.specs.RefusedReadings.{HaltsSo, RefusalStands}
-use Rattle.chunk_survey.specs.Heads.{heads_under}
-use Rattle.chunk_survey.specs.Spans.{spans_one, spans_of}
+use Rattle.merge_walk.specs.SpanHeads.{heads_under}
+use Rattle.merge_walk.specs.Spans.{spans_one, spans_of}
 use Rattle.mcap_merge.specs.declared.input.Extra.{Extra}
 use Rattle.mcap_merge.specs.declared.input.Holding.{Holding}
 use Rattle.mcap_merge.specs.declared.input.Input.{Input}

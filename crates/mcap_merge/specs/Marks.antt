@@ -4,9 +4,9 @@ use Rattle.std.specs.List.{flat_map}
 use Rattle.mcap_model.specs.Places.{At, Has}
 use Rattle.mcap_model.specs.Tops.{Top, unchunked}
 use Rattle.mcap_model.specs.Scan.{Seen}
-use Rattle.record_walk.specs.declared.heads.MessageHead.{MessageHead}
-use Rattle.record_walk.specs.Heads.{channel_id_in}
-use Rattle.record_walk.specs.HeadTimes.{is_headed}
+use Rattle.mcap_scan.specs.declared.message_heads.MessageHead.{MessageHead}
+use Rattle.mcap_scan.specs.Heads.{channel_id_in}
+use Rattle.mcap_scan.specs.HeadTimes.{is_headed}
 
 -- the channels of the Messages among some records whose contents meet their layout
 abbrev pub message_channels : List Top → List ℕ

@@ -4,8 +4,8 @@ use Rattle.std.specs.List.{sum_by}
 use Rattle.mcap_model.specs.Places.{Each}
 use Rattle.mcap_model.specs.Tops.{Top}
 use Rattle.mcap_model.specs.Merged.{Sent, IsFrom}
-use Rattle.chunk_survey.specs.declared.spans.Span.{Span}
-use Rattle.chunk_survey.specs.Spans.{spans_of}
+use Rattle.merge_walk.specs.declared.spans.Span.{Span}
+use Rattle.merge_walk.specs.Spans.{spans_of}
 
 -- the length of a span in whose times a time lies: of a chunk's records, or of a Message of the top level
 abbrev pub length_at : ℕ → Span → ℕ

@@ -1,7 +1,7 @@
 -- What a merge reads again.
 use Rattle.std.specs.Prelude.{ℕ, suc, List, [], ◌∷◌, ◌++◌}
-use Rattle.chunk_walk.specs.declared.pieces.Piece.{Piece}
-use Rattle.chunk_walk.specs.Pieces.{pieces_with}
+use Rattle.merge_walk.specs.declared.pieces.Piece.{Piece}
+use Rattle.merge_walk.specs.Pieces.{pieces_with}
 use Rattle.mcap_merge.specs.declared.input.Input.{Input}
 
 -- the pieces of the inputs from a number on

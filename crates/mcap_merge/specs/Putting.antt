@@ -7,10 +7,10 @@ use Rattle.mcap_model.specs.History.{is_message}
 use Rattle.chunk_writer.specs.declared.phase.Phase.{Phase}
 use Rattle.chunk_writer.specs.declared.phase.Phase.TheVariants as phases
 use Rattle.history_ids.specs.Tables.{HasSchemas}
-use Rattle.chunk_walk.specs.declared.answers.Turn.{Turn}
-use Rattle.chunk_walk.specs.declared.walk.Walk.{Walk}
-use Rattle.chunk_walk.specs.Pieces.{InputBytes}
-use Rattle.chunk_walk.specs.Walks.{Text, pieces_in, pieces_loaded, peak_of, WalkStands, AllGiven}
+use Rattle.merge_walk.specs.declared.turns.Turn.{Turn}
+use Rattle.merge_walk.specs.declared.walk.Walk.{Walk}
+use Rattle.merge_walk.specs.Pieces.{InputBytes}
+use Rattle.merge_walk.specs.Walks.{Text, pieces_in, pieces_loaded, peak_of, WalkStands, AllGiven}
 use Rattle.mcap_merge.specs.declared.answers.MergeRefused.{MergeRefused}
 use Rattle.mcap_merge.specs.declared.answers.MergeRefused.TheVariants as merges
 use Rattle.mcap_merge.specs.declared.answers.Merged.{Merged}

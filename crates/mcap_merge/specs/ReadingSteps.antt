@@ -4,14 +4,14 @@ use Rattle.std.specs.List.{AllZip}
 use Rattle.mcap_io.specs.Outside.{SourceState, RisesOnce}
 use Rattle.mcap_io.specs.Stores.{StoreState}
 use Rattle.mcap_io.specs.StoreSources.{front_left}
-use Rattle.store_front.specs.Fronts.{WasRead}
+use Rattle.mcap_io.specs.StoreFronts.{WasRead}
 use Rattle.mcap_model.specs.declared.ends.Stop.TheVariants as stops
 use Rattle.mcap_model.specs.Places.{Has, Each}
 use Rattle.mcap_model.specs.Tops.{Top}
 use Rattle.mcap_model.specs.Kept.{reading_limits, Halts, grammar, compressed, beyond}
 use Rattle.mcap_model.specs.declared.refusals.ReadingRefused.{ReadingRefused}
 use Rattle.mcap_model.specs.declared.refusals.ReadingRefused.TheVariants as refusals
-use Rattle.chunk_survey.specs.declared.spans.Span.{Span}
+use Rattle.merge_walk.specs.declared.spans.Span.{Span}
 use Rattle.mcap_merge.specs.declared.answers.MergeRefused.{MergeRefused}
 use Rattle.mcap_merge.specs.declared.answers.MergeRefused.TheVariants as merges
 use Rattle.mcap_merge.specs.declared.input.Input.{Input}

@@ -15,14 +15,14 @@ use Rattle.mcap_model.specs.Places.{At, Has}
 use Rattle.mcap_model.specs.Tops.{Top}
 use Rattle.mcap_model.specs.Merged.{Sent, IsFrom}
 use Rattle.chunk_writer.specs.Stops.{StopCause}
-use Rattle.chunk_walk.specs.declared.answers.Turn.{Turn}
-use Rattle.chunk_walk.specs.declared.answers.WalkRefused.{WalkRefused}
-use Rattle.chunk_walk.specs.declared.answers.WalkRefused.TheVariants as walks
-use Rattle.chunk_walk.specs.declared.pieces.Piece.{Piece}
-use Rattle.chunk_walk.specs.declared.walk.Walk.{Walk}
-use Rattle.chunk_walk.specs.Pieces.{InputBytes}
-use Rattle.chunk_walk.specs.Stores.{AllCountsStand, OneRose}
-use Rattle.chunk_walk.specs.Walks.{Text, turns_in, pieces_in, pieces_loaded, IsTextOf, IsMessageAt, IsWalkRefused, WalkStands, AllGiven}
+use Rattle.merge_walk.specs.declared.turns.Turn.{Turn}
+use Rattle.merge_walk.specs.declared.turns.WalkRefused.{WalkRefused}
+use Rattle.merge_walk.specs.declared.turns.WalkRefused.TheVariants as walks
+use Rattle.merge_walk.specs.declared.pieces.Piece.{Piece}
+use Rattle.merge_walk.specs.declared.walk.Walk.{Walk}
+use Rattle.merge_walk.specs.Pieces.{InputBytes}
+use Rattle.merge_walk.specs.Stores.{AllCountsStand, OneRose}
+use Rattle.merge_walk.specs.Walks.{Text, turns_in, pieces_in, pieces_loaded, IsTextOf, IsMessageAt, IsWalkRefused, WalkStands, AllGiven}
 use Rattle.mcap_merge.specs.declared.answers.MergeRefused.{MergeRefused}
 use Rattle.mcap_merge.specs.declared.answers.MergeRefused.TheVariants as merges
 use Rattle.mcap_merge.specs.declared.input.Input.{Input}

@@ -8,13 +8,12 @@ ghost use Rattle.mcap_scan.specs.Scanning.{content_of, tables_of};
 ghost use Rattle.mcap_merge.specs.Inputs.{extra_top, extra_tops, ReadsInput, KeepsExtra, ReadsProfile, KeepsProfile, HoldsRecord, HoldsNothing, IsInputOf};
 
 use crate::marks::{mark_channels, no_marks};
-use chunk_survey::{Span, note_spans};
 use mcap_io::Source;
 use mcap_model::{ReadingRefused, Tables};
-use mcap_scan::{Reader, Step};
+use mcap_scan::{MessageHead, Reader, Step};
 use mcap_wire::{Bytes, Memory, Text};
+use merge_walk::{Span, note_spans};
 use rec_data::{APPLICATION, ATTACHMENT, Header, METADATA};
-use record_walk::MessageHead;
 use std::alloc::Global;
 
 /// An Attachment, a Metadata or a record of an application, as it stands at top level of a file.

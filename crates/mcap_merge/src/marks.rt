@@ -2,8 +2,8 @@
 ghost use Rattle.std.specs.Prelude.{◌≡◌, length, IfOk};
 ghost use Rattle.mcap_merge.specs.Marks.{listed_channels, with_marks, AreUnmarked};
 
+use mcap_scan::MessageHead;
 use mcap_wire::Memory;
-use record_walk::MessageHead;
 use std::alloc::Global;
 
 // How many ids there are, with 0.

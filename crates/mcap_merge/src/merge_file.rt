@@ -1,8 +1,8 @@
 //! Writing the file of a merge.
 ghost use Rattle.std.specs.Prelude.{◌≡◌, ◌≤◌, ◌⊎◌, List, map, length, Ok, IfOk, IfErr};
 ghost use Rattle.chunk_writer.specs.declared.phase.Phase.TheVariants as phases;
-ghost use Rattle.chunk_walk.specs.Stores.{files_of, StoresFit, StoresStay, AskedWithin, unasked, none_left};
-ghost use Rattle.chunk_walk.specs.Walks.{pieces_in};
+ghost use Rattle.merge_walk.specs.Stores.{files_of, StoresFit, StoresStay, AskedWithin, unasked, none_left};
+ghost use Rattle.merge_walk.specs.Walks.{pieces_in};
 ghost use Rattle.mcap_merge.specs.Inputs.{HoldInputs};
 ghost use Rattle.mcap_merge.specs.ReadInputs.{Read};
 ghost use Rattle.mcap_merge.specs.Writing.{ExtrasMeet};

@@ -3,8 +3,8 @@ ghost use Rattle.std.specs.Prelude.{◌≡◌, ◌≤◌, length, IfOk};
 ghost use Rattle.mcap_merge.specs.Pieces.{pieces_from};
 
 use crate::input::Input;
-use chunk_walk::{Piece, pieces_of};
 use mcap_wire::Memory;
+use merge_walk::{Piece, pieces_of};
 use std::alloc::Global;
 
 /// The pieces of all inputs, in which their messages stand.

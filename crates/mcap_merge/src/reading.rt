@@ -7,11 +7,10 @@ ghost use Rattle.mcap_merge.specs.ReadingSteps.{FrontReads, HasLength, StoreKeep
 
 use crate::answers::MergeRefused;
 use crate::input::{Input, read_input};
-use chunk_survey::Span;
-use mcap_io::{Failed, Store};
+use mcap_io::{Failed, Store, StoreFront};
 use mcap_model::{ReadingRefused, Rule, Stop};
+use merge_walk::Span;
 use std::alloc::Global;
-use store_front::StoreFront;
 
 // Reads the first bytes of a store, by a source that counts its own failures.
 fn read_front<T: Store>(alloc: Global, store: &mut T, len: u64) -> Result<Input, ReadingRefused>

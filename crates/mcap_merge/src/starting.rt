@@ -5,8 +5,8 @@ ghost use Rattle.mcap_merge.specs.Putting.{IsBegun};
 use crate::input::Input;
 use crate::joining::Joiner;
 use crate::pieces::list_pieces;
-use chunk_walk::Walk;
 use mcap_wire::Memory;
+use merge_walk::Walk;
 use std::alloc::Global;
 
 /// The walk through the pieces of all inputs, and the ids of their channels.

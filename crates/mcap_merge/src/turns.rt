@@ -3,8 +3,8 @@ ghost use Rattle.std.specs.Prelude.{◌≡◌, ◌≤◌, ◌*◌, List, map, le
 ghost use Rattle.mcap_io.specs.Stores.{StoreState};
 ghost use Rattle.chunk_writer.specs.declared.phase.Phase.TheVariants as phases;
 ghost use Rattle.history_ids.specs.Tables.{HasSchemas};
-ghost use Rattle.chunk_walk.specs.Stores.{files_of, StoresFit, StoresStay, AskedWithin, unasked, none_left};
-ghost use Rattle.chunk_walk.specs.Walks.{pieces_in};
+ghost use Rattle.merge_walk.specs.Stores.{files_of, StoresFit, StoresStay, AskedWithin, unasked, none_left};
+ghost use Rattle.merge_walk.specs.Walks.{pieces_in};
 ghost use Rattle.mcap_merge.specs.Inputs.{HoldInputs};
 ghost use Rattle.mcap_merge.specs.ReadInputs.{Read};
 ghost use Rattle.mcap_merge.specs.Turns.{IsMessageOn, IsWalkRefusal, sources, PutSoFar, PutAll, PutSome, WhyNotAll, stop_of, PutCounts};
@@ -15,8 +15,8 @@ use crate::joining::Joiner;
 use crate::pen::Pen;
 use crate::reading::refusal_at;
 use crate::writing::write_message;
-use chunk_walk::{Walk, WalkRefused};
 use mcap_io::Store;
+use merge_walk::{Walk, WalkRefused};
 use rec_data::Message;
 use std::alloc::Global;
 

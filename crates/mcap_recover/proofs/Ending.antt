@@ -29,7 +29,7 @@ use Rattle.mcap_model.specs.declared.refusals.ReadingRefused.{ReadingRefused}
 use Rattle.mcap_model.specs.declared.refusals.ReadingRefused.TheVariants as scans
 use Rattle.mcap_model.specs.declared.rules.Rule.{Rule}
 use Rattle.mcap_scan.specs.RefusedReadings.{HaltsSo, RefusalStands}
-use Rattle.record_walk.specs.declared.flat_reader.FlatReader.{FlatReader}
+use Rattle.mcap_scan.specs.declared.flat_reader.FlatReader.{FlatReader}
 use Rattle.chunk_writer.specs.declared.tape.Written.{Written}
 use Rattle.chunk_writer.specs.Stops.{numbers, StopsAt, StopCause}
 use Rattle.chunk_writer.specs.Scribes.{phase_of, blocks_of, planned_bytes}

@@ -13,7 +13,7 @@ use Rattle.mcap_model.specs.History.{kept_with, schema_of, channel_of, message_o
 use Rattle.mcap_model.specs.Written.{IsRec}
 use Rattle.mcap_model.specs.Repaired.{is_extra, ProfileIs, Repairs}
 use Rattle.mcap_model.proofs.Repairs.{fold_more, zip_join}
-use Rattle.record_walk.proofs.Walked.{walked_flat_tops}
+use Rattle.mcap_scan.proofs.Walked.{walked_flat_tops}
 use Rattle.mcap_recover.specs.Keeping.{tops_at}
 use Rattle.mcap_recover.specs.Readings.{RepairsGiven}
 

@@ -44,9 +44,9 @@ use Rattle.mcap_recover.specs.Readings.{RepairsGiven, Repairing, origin, Reading
 use Rattle.mcap_recover.specs.Recovering.{lacks, HasMagic}
 use Rattle.mcap_recover.proofs.Given.{flat_given, repairs_whole, profile_given, given_none, tops_some, recs_ahead, recs_one, repairs_more, not_none}
 use Rattle.mcap_recover.proofs.Keepings.{stopped_more}
-use Rattle.record_walk.specs.declared.flat_reader.FlatReader.{FlatReader}
-use Rattle.record_walk.specs.Walking.{flat_content, flat_frame, IsHeldFrame, ahead_of, placed_at, FlatStands, FlatGives, FlatFinds, FlatRefuses, IsFlatDone}
-use Rattle.record_walk.proofs.Walked.{walked_v6}
+use Rattle.mcap_scan.specs.declared.flat_reader.FlatReader.{FlatReader}
+use Rattle.mcap_scan.specs.Walking.{flat_content, flat_frame, IsHeldFrame, ahead_of, placed_at, FlatStands, FlatGives, FlatFinds, FlatRefuses, IsFlatDone}
+use Rattle.mcap_scan.proofs.Walked.{walked_v6}
 use denote.Ref.{Bor}
 use Rattle.mcap_model.proofs.Places.{at_none}
 use Rattle.mcap_model.specs.declared.rules.Rule.{Rule}

@@ -18,8 +18,8 @@ use Rattle.mcap_model.specs.declared.rules.Rule.TheVariants as rules
 use Rattle.mcap_scan.specs.declared.reader.Reader.{Reader}
 use Rattle.mcap_scan.specs.declared.reader.Stage.TheVariants as stages
 use Rattle.mcap_scan.specs.RefusedReadings.{HaltsSo, RefusalStands, FaultStands}
-use Rattle.record_walk.specs.declared.flat_reader.FlatReader.{FlatReader}
-use Rattle.record_walk.specs.Walking.{FlatStands, IsFlatDone}
+use Rattle.mcap_scan.specs.declared.flat_reader.FlatReader.{FlatReader}
+use Rattle.mcap_scan.specs.Walking.{FlatStands, IsFlatDone}
 use Rattle.chunk_writer.specs.declared.phase.Phase.TheVariants as phases
 use Rattle.chunk_writer.specs.Scribes.{phase_of}
 use Rattle.mcap_recover.specs.declared.keeping.Keeping.{Keeping}

@@ -4,7 +4,7 @@ ghost use Rattle.mcap_wire.specs.Limits.{chunk_size_limit};
 ghost use Rattle.mcap_io.specs.Outside.{SourceState, LiveState};
 ghost use Rattle.rec_data.specs.Fields.{HeaderFields};
 ghost use Rattle.rec_data.specs.Records.{ShowsHeader};
-ghost use Rattle.record_walk.specs.Walking.{FlatAdvanced};
+ghost use Rattle.mcap_scan.specs.Walking.{FlatAdvanced};
 ghost use Rattle.chunk_writer.specs.declared.phase.Phase.TheVariants as phases;
 ghost use Rattle.chunk_writer.specs.Stops.{Cause};
 ghost use Rattle.chunk_writer.specs.Scribes.{store_of, phase_of};
@@ -20,9 +20,9 @@ use chunk_writer::Scribe;
 use indexmap::IndexSet;
 use mcap_io::{LiveStore, Source};
 use mcap_model::{FileOptions, ReadingRefused, Rule, Stop};
+use mcap_scan::{FlatReader, FlatStep};
 use mcap_wire::{Memory, Text};
 use rec_data::Header;
-use record_walk::{FlatReader, FlatStep};
 use std::alloc::Global;
 
 /// Where the reading came to its end: behind the Data End, or at a refusal that the reader keeps.

@@ -1,3 +1,7 @@
-mod Taking
-pub mod Scanning
+mod ChunkRecords
+mod Listed
 pub mod Refused
+pub mod Scanning
+mod Steps
+mod Taking
+pub mod Walked

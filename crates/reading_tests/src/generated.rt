@@ -1,7 +1,6 @@
 //! Sums of the messages of generated feeds.
 use crate::same::holds_at;
-use generated_feed::GeneratedFeed;
-use message_sums::sum_messages;
+use command_generate::{GeneratedFeed, sum_messages};
 use std::alloc::Global;
 
 // A seed, the number of a feed, how many messages it has, and by the generator's definition how many bytes of data these have and

@@ -1,17 +1,17 @@
-mod Draining
-mod Gathering
-mod Collecting
-mod Assembling
-mod Filing
-pub mod Inners
-pub mod ReadBack
-mod ShortFiles
-pub mod Validity
 mod AgreedFields
-pub mod OneHistory
-mod FeedsGiven
-pub mod Unfull
+mod Assembling
 mod BlockStretches
+mod Collecting
+mod Draining
 pub mod EntriesFollow
 pub mod EntriesGathered
+mod FeedsGiven
+mod Filing
 pub mod FrontsTold
+mod Gathering
+pub mod Inners
+pub mod OneHistory
+pub mod ReadBack
+mod ShortFiles
+pub mod Unfull
+pub mod Validity

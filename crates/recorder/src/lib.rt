@@ -2,6 +2,7 @@
 //! beside the lanes, and the report says what became of each message.
 #![tactic(auto)]
 
+mod findings;
 mod lanes;
 pub mod laws;
 mod recording;
@@ -10,8 +11,8 @@ mod rousing;
 mod unopened;
 mod writer;
 
-pub use feed_lane::{Accepted, DeclaredAt, FeedEnd, FeedReport, Refusals, Refused};
-pub use listing::Listing;
+pub use feed_lane::{Accepted, DeclaredAt, FeedEnd, FeedReport, Listing, Refusals, Refused};
+pub use findings::{has_limit, names_memory};
 pub use record_core::CallRefused;
 pub use recording::{
     Onto, Ran, Ready, Recording, Room, make_ready, make_room, record, record_onto,

@@ -1,12 +1,12 @@
 //! What is said of reports that no run brings about.
+use command_base::{FailedParts, complain_of_writing};
+use command_record::{Telling, print_report};
 use io_memory::MemorySink;
 use mcap_app::{
     CallRefused, End, FeedEnd, FeedReport, Listing, ReadingRefused, Refusals, Refused, Report,
     Stop, WriterReport,
 };
 use mcap_wire::Text;
-use output_base::{FailedParts, complain_of_writing};
-use record_command::{Telling, print_report};
 use std::alloc::{AllocError, Global};
 
 const NO_FAILURE: FailedParts<'static> = FailedParts {

@@ -34,9 +34,9 @@ use Rattle.mcap_model.proofs.Replays.{IsPut, replayed, asked_decided, range_deci
 use Rattle.mcap_io.specs.Outside.{SourceState}
 use Rattle.mcap_scan.specs.Scanning.{IsGoing}
 use Rattle.mcap_scan.proofs.Scanning.{tables_stand, good_stand, lacks_behind}
-use Rattle.record_walk.specs.declared.flat_reader.FlatReader.{FlatReader}
-use Rattle.record_walk.specs.Walking.{flat_content, flat_tables, ahead_of, placed_at, FlatStands, FlatGives, FlatFinds}
-use Rattle.record_walk.proofs.Walked.{walked_flat_tops, walked_messages}
+use Rattle.mcap_scan.specs.declared.flat_reader.FlatReader.{FlatReader}
+use Rattle.mcap_scan.specs.Walking.{flat_content, flat_tables, ahead_of, placed_at, FlatStands, FlatGives, FlatFinds}
+use Rattle.mcap_scan.proofs.Walked.{walked_flat_tops, walked_messages}
 use Rattle.time_player.specs.Asking.{is_topic, is_asked, Knows, KeepsAmong, KeepsAsked}
 use Rattle.time_player.specs.Replaying.{IsGoodScan, IsPlayed, KeepsAll}
 use Rattle.time_player.proofs.Chosen.{kept, kept_joined, zip_parts}

@@ -3,16 +3,16 @@ ghost use Rattle.std.specs.Prelude.{◌∷◌, [], OnOk};
 ghost use Rattle.rec_data.specs.Records.{message_opcode};
 ghost use Rattle.mcap_model.specs.Made.{top};
 ghost use Rattle.mcap_model.specs.Plain.{asked_topic};
-ghost use Rattle.record_walk.specs.Walking.{flat_content, flat_tables, placed_at};
+ghost use Rattle.mcap_scan.specs.Walking.{flat_content, flat_tables, placed_at};
 ghost use Rattle.time_player.specs.Asking.{KeepsAsked};
 ghost use Rattle.time_player.specs.Keeping.{kept_in};
 
 use crate::asking::is_on_topic;
 use crate::kept::Kept;
 use mcap_model::{Place, Range, Tables, is_within};
+use mcap_scan::FlatReader;
 use mcap_wire::{Memory, Text};
 use rec_data::{MESSAGE, Message};
-use record_walk::FlatReader;
 
 // Keeps the Message of that content, if it is asked for.
 fn keep_message(

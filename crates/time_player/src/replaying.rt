@@ -18,8 +18,8 @@ use crate::replay::KeptReplay;
 use crate::topics::topics_of_kept;
 use mcap_io::Source;
 use mcap_model::{Range, ReadingRefused, Replayed, Tables, put_in_order, topics_of};
+use mcap_scan::{FlatReader, FlatStep};
 use mcap_wire::{Memory, Text};
-use record_walk::{FlatReader, FlatStep};
 use std::alloc::Global;
 
 // Puts copies of the messages that were kept in order, with the topics of their channels.

@@ -7,7 +7,8 @@ use Rattle.command_base.specs.declared.file_reading.Reading.TheVariants as readi
 use Rattle.command_base.specs.Readings.{ending_of, SourceUnder, IsSourceRead}
 use Rattle.command_base.specs.ReadingSteps.{NameEnds}
 use Rattle.command_base.proofs.Opened.{source_keeping}
-use Rattle.command_base.proofs.OneFile.{source_input, same_back}
+use Rattle.command_base.specs.InputKinds.{source_input}
+use Rattle.command_base.proofs.OneFile.{same_back}
 use Rattle.command_base.proofs.ReadNames.{unopened_ends, opened_ends}
 use Rattle.command_base.proofs.source_reading.read_source_name.Goals as goal
 

@@ -6,7 +6,8 @@ use Rattle.command_base.specs.Ran.{failed_so}
 use Rattle.command_base.specs.declared.file_reading.Reading.TheVariants as readings
 use Rattle.command_base.specs.Readings.{ending_of, StoreUnder, IsStoreRead}
 use Rattle.command_base.specs.ReadingSteps.{use_of, NameEnds}
-use Rattle.command_base.proofs.OneFile.{store_input, store_keeping, same_back}
+use Rattle.command_base.specs.InputKinds.{store_input}
+use Rattle.command_base.proofs.OneFile.{store_keeping, same_back}
 use Rattle.command_base.proofs.ReadNames.{unopened_ends, opened_ends}
 use Rattle.command_base.proofs.store_reading.read_store_name.Goals as goal
 

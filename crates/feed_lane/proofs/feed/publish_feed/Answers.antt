@@ -3,7 +3,7 @@ use Rattle.mcap_model.specs.Tops.{Placed, flat}
 use Rattle.mcap_model.specs.Scan.{tops_of}
 use Rattle.mcap_scan.proofs.Scanning.{good_stand, lacks_behind}
 use Rattle.mcap_scan.proofs.Refused.{refusal_stands}
-use Rattle.record_walk.specs.Walking.{FlatStands, placed_at, ahead_of}
+use Rattle.mcap_scan.specs.Walking.{FlatStands, placed_at, ahead_of}
 use Rattle.feed_lane.specs.PassCalls.{no_calls}
 use Rattle.feed_lane.specs.Lanes.{messages}
 use Rattle.feed_lane.specs.Steps.{AreKnown, CountsUp, passed_among}

@@ -1,6 +1,6 @@
 use Rattle.std.proofs.Common.{ℕ, List}
 use Rattle.mcap_model.specs.Tops.{Top, Placed}
-use Rattle.record_walk.specs.Walking.{FlatStands, flat_left}
+use Rattle.mcap_scan.specs.Walking.{FlatStands, flat_left}
 use Rattle.feed_lane.specs.PassCalls.{no_calls}
 use Rattle.feed_lane.specs.Kept.{IsKnown}
 use Rattle.feed_lane.specs.Steps.{ThenShows, KeepsLists}

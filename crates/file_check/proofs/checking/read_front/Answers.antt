@@ -2,8 +2,8 @@
 use Rattle.std.proofs.Common.{◌≡◌, ◌∙◌, ℕ, ap, subst, rules}
 use Rattle.mcap_io.specs.Outside.{SourceState}
 use Rattle.mcap_io.specs.StoreSources.{front_left}
-use Rattle.store_front.specs.Fronts.{WasRead}
-use Rattle.store_front.proofs.Lent.{front_read}
+use Rattle.mcap_io.specs.StoreFronts.{WasRead}
+use Rattle.mcap_io.proofs.LentStores.{front_read}
 use Rattle.file_check.specs.Reading.{ReadsSection}
 use Rattle.file_check.specs.CheckSteps.{SectionAsks}
 use Rattle.file_check.proofs.Fronted.{front_asks}

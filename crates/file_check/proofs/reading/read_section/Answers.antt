@@ -7,7 +7,7 @@ use Rattle.mcap_model.specs.Rules.{V6}
 use Rattle.mcap_scan.specs.RefusedReadings.{RefusalStands}
 use Rattle.mcap_scan.proofs.Refused.{nothing_read}
 use Rattle.mcap_scan.proofs.Scanning.{good_stand, lacks_behind}
-use Rattle.record_walk.specs.Walking.{placed_at, ahead_of, flat_tables, FlatStands}
+use Rattle.mcap_scan.specs.Walking.{placed_at, ahead_of, flat_tables, FlatStands}
 use Rattle.file_check.specs.Gathering.{RecordGathered}
 use Rattle.file_check.proofs.ReadOut.{lacks_at_end, read_to_end, read_so_far}
 use Rattle.file_check.proofs.Taken.{is_next, stand_before, gathered_all, some_read}

@@ -1,6 +1,6 @@
 use Rattle.std.proofs.Common.{List}
 use Rattle.mcap_model.specs.Tops.{Top, Placed}
-use Rattle.record_walk.specs.Walking.{FlatStands, flat_left}
+use Rattle.mcap_scan.specs.Walking.{FlatStands, flat_left}
 use Rattle.file_check.specs.Gathering.{GatheredTo}
 use Rattle.file_check.proofs.reading.read_section.Given as goal
 

@@ -1,6 +1,6 @@
 use Rattle.std.proofs.Common.{◌+◌, get_or, refl, subst, rules, arith}
 use Rattle.std.proofs.lemmas.List.Sorted.{answers_always}
-use Rattle.record_walk.specs.declared.heads.MessageHead.{MessageHead}
+use Rattle.mcap_scan.specs.declared.message_heads.MessageHead.{MessageHead}
 use Rattle.index_check.specs.Messages.{MessagesRise}
 use Rattle.index_check.proofs.Runs.{all_rise, not_less}
 use Rattle.index_check.proofs.chunk_messages.put_in_order.Goals as goal

@@ -1,7 +1,7 @@
 use Rattle.std.proofs.Common.{[], map, refl, inl, inr}
 use Rattle.mcap_io.specs.Stores.{StoreState}
-use Rattle.chunk_walk.specs.Stores.{files_of}
-use Rattle.chunk_walk.proofs.Stayed.{stay_so, counts_so}
+use Rattle.merge_walk.specs.Stores.{files_of}
+use Rattle.merge_walk.proofs.Stayed.{stay_so, counts_so}
 use Rattle.mcap_merge.specs.declared.answers.Merged.{Merged}
 use Rattle.mcap_merge.specs.Putting.{MergeStart}
 use Rattle.mcap_merge.proofs.Begun.{put_none, extras_stop, part_stands, whole_stands}

@@ -3,7 +3,7 @@ use Rattle.std.specs.Prelude.{Ok, IfOk, IfErr}
 use Rattle.std.proofs.lemmas.List.{length-map}
 use Rattle.mcap_io.specs.Outside.{LiveState}
 use Rattle.mcap_io.specs.Stores.{StoreState}
-use Rattle.chunk_walk.specs.Stores.{files_of}
+use Rattle.merge_walk.specs.Stores.{files_of}
 use Rattle.mcap_merge.specs.declared.input.Input.{Input}
 use Rattle.mcap_merge.specs.Turns.{WhyNotAll}
 use Rattle.mcap_merge.specs.Writing.{ExtrasMeet}

@@ -3,8 +3,8 @@ use Rattle.std.specs.Prelude.{Ok}
 use Rattle.std.proofs.lemmas.Result.{IfOk-weaker, IfErr-weaker}
 use Rattle.mcap_io.specs.Outside.{LiveState}
 use Rattle.mcap_io.specs.Stores.{StoreState}
-use Rattle.chunk_walk.specs.Stores.{files_of}
-use Rattle.chunk_walk.proofs.Stayed.{stay_so, counts_so}
+use Rattle.merge_walk.specs.Stores.{files_of}
+use Rattle.merge_walk.proofs.Stayed.{stay_so, counts_so}
 use Rattle.mcap_merge.specs.declared.answers.Merged.{Merged}
 use Rattle.mcap_merge.specs.declared.answers.MergeRefused.{MergeRefused}
 use Rattle.mcap_merge.specs.Turns.{PutCounts}

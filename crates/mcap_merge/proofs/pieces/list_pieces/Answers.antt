@@ -1,7 +1,7 @@
 use Rattle.std.proofs.Common.{◌++◌, List, get_or, sym, ap, ◌∙◌, arith}
-use Rattle.chunk_survey.specs.declared.spans.Span.{Span}
-use Rattle.chunk_walk.specs.declared.pieces.Piece.{Piece}
-use Rattle.chunk_walk.specs.Pieces.{pieces_with}
+use Rattle.merge_walk.specs.declared.spans.Span.{Span}
+use Rattle.merge_walk.specs.declared.pieces.Piece.{Piece}
+use Rattle.merge_walk.specs.Pieces.{pieces_with}
 use Rattle.mcap_model.specs.Places.{At}
 use Rattle.mcap_model.proofs.Places.{at_read}
 use Rattle.mcap_merge.proofs.ListedPieces.{pieces_next}

@@ -2,7 +2,7 @@ use Rattle.std.proofs.Common.{ℕ, ◌+◌, ◌-◌, ◌<◌, ◌≤◌, List, l
 use Rattle.mcap_model.proofs.Places.{at_read}
 use Rattle.mcap_model.proofs.OneMore.{each_last, taken_more}
 use Rattle.mcap_model.proofs.NamedTopics.{take_past}
-use Rattle.chunk_survey.specs.declared.spans.Span.{Span}
+use Rattle.merge_walk.specs.declared.spans.Span.{Span}
 use Rattle.mcap_merge.specs.ReadingSteps.{EndWithin}
 use Rattle.mcap_merge.proofs.reading.first_outside.Goals as goal
 

@@ -2,7 +2,7 @@ use Rattle.std.proofs.Common.{rules, subst}
 use Rattle.mcap_io.specs.Outside.{SourceState}
 use Rattle.mcap_io.specs.Stores.{StoreState}
 use Rattle.mcap_io.specs.StoreSources.{front_left}
-use Rattle.store_front.proofs.Lent.{front_read}
+use Rattle.mcap_io.proofs.LentStores.{front_read}
 use Rattle.mcap_merge.specs.Inputs.{ReadsInput}
 use Rattle.mcap_merge.specs.ReadingSteps.{FrontReads}
 use Rattle.mcap_merge.proofs.reading.read_front.Goals as goal

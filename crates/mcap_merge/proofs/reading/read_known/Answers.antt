@@ -1,5 +1,5 @@
 use Rattle.std.proofs.Common.{List, Some, subst}
-use Rattle.chunk_survey.specs.declared.spans.Span.{Span}
+use Rattle.merge_walk.specs.declared.spans.Span.{Span}
 use Rattle.mcap_merge.specs.ReadingSteps.{FindsOutside}
 use Rattle.mcap_merge.proofs.Stores.{front_whole, front_refused, outside_refused}
 use Rattle.mcap_merge.proofs.reading.read_known.Goals as goal

@@ -5,10 +5,10 @@ use Rattle.rec_data.specs.Parsed.{message_fields}
 use Rattle.mcap_model.specs.Places.{At}
 use Rattle.mcap_model.specs.Walk.{inner_top}
 use Rattle.mcap_model.proofs.Places.{at_read}
-use Rattle.chunk_walk.specs.Pieces.{InputBytes}
-use Rattle.chunk_walk.specs.Stores.{files_of, StoresFit, unasked}
-use Rattle.chunk_walk.specs.Walks.{WalkStands}
-use Rattle.chunk_walk.proofs.Stayed.{stay_on, fit_on, files_stay, leaves_so, leaves_on}
+use Rattle.merge_walk.specs.Pieces.{InputBytes}
+use Rattle.merge_walk.specs.Stores.{files_of, StoresFit, unasked}
+use Rattle.merge_walk.specs.Walks.{WalkStands}
+use Rattle.merge_walk.proofs.Stayed.{stay_on, fit_on, files_stay, leaves_so, leaves_on}
 use Rattle.mcap_merge.proofs.Sources.{used_sized}
 use Rattle.mcap_merge.proofs.Putting.{turn_given, none_given, store_count, input_there, put_more, put_all, stopped_at, stopped_before, leaves_more, asked_in_all, why_refused, counts_refused, stop_refused, why_other}
 use Rattle.mcap_model.specs.declared.ends.Stop.{Stop}

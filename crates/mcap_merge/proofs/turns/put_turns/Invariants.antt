@@ -1,7 +1,7 @@
 use Rattle.std.proofs.Common.{◌≡◌, ◌*◌, length, map, Ok}
 use Rattle.history_ids.specs.Tables.{HasSchemas}
 use Rattle.chunk_writer.specs.declared.phase.Phase.TheVariants as phases
-use Rattle.chunk_walk.specs.Stores.{files_of, StoresFit, LeavesStores}
+use Rattle.merge_walk.specs.Stores.{files_of, StoresFit, LeavesStores}
 use Rattle.mcap_merge.specs.Turns.{sources, PutSoFar}
 use Rattle.mcap_merge.proofs.turns.put_turns.Given as goal
 

@@ -1,8 +1,8 @@
 -- The first record is a Header, or it was refused.
 use Rattle.std.proofs.Common.{List, ℕ, [], sym, subst}
 use Rattle.rec_data.specs.Records.{ShowsHeader}
-use Rattle.record_walk.specs.declared.flat_reader.FlatStep.{FlatStep}
-use Rattle.record_walk.specs.Walking.{FlatAdvanced}
+use Rattle.mcap_scan.specs.declared.flat_reader.FlatStep.{FlatStep}
+use Rattle.mcap_scan.specs.Walking.{FlatAdvanced}
 use Rattle.mcap_recover.proofs.Reading.{begun_header, refused_begun}
 use Rattle.mcap_recover.proofs.recovering.profile_of.Goals as goal
 

@@ -1,7 +1,7 @@
 use Rattle.std.proofs.Common.{◌≡◌}
 use Rattle.mcap_io.specs.Outside.{SourceState, LiveState}
 use Rattle.mcap_model.specs.declared.options.FileOptions.{FileOptions}
-use Rattle.record_walk.specs.Walking.{flat_left}
+use Rattle.mcap_scan.specs.Walking.{flat_left}
 use Rattle.chunk_writer.specs.declared.phase.Phase.TheVariants as phases
 use Rattle.mcap_recover.specs.Readings.{Repairing}
 use Rattle.mcap_recover.proofs.recovering.read_on.Given as goal

@@ -2,7 +2,7 @@ use Rattle.std.proofs.Common.{◌∷◌, [], ℕ, List, sym, subst}
 use Rattle.mcap_model.specs.declared.tables.Tables.{Tables}
 use Rattle.mcap_model.specs.Plain.{asked_topic}
 use Rattle.mcap_model.proofs.ShownMessages.{ok_then}
-use Rattle.record_walk.specs.Walking.{flat_content, flat_tables, placed_at}
+use Rattle.mcap_scan.specs.Walking.{flat_content, flat_tables, placed_at}
 use Rattle.time_player.specs.Keeping.{kept_in}
 use Rattle.time_player.specs.Asking.{KeepsAsked}
 use Rattle.time_player.proofs.Chosen.{other_kind}

@@ -1,5 +1,5 @@
 use Rattle.mcap_model.specs.Plain.{asked_topic}
-use Rattle.record_walk.specs.Walking.{flat_left}
+use Rattle.mcap_scan.specs.Walking.{flat_left}
 use Rattle.time_player.specs.Keeping.{kept_in}
 use Rattle.time_player.proofs.Played.{PlaysSoFar}
 use Rattle.time_player.proofs.replaying.read_kept.Given as goal

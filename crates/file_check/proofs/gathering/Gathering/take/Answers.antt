@@ -2,7 +2,7 @@ use Rattle.std.proofs.Common.{List, refl, sym, subst}
 use Rattle.mcap_model.specs.Kept.{reading_limits, Fits, Good}
 use Rattle.mcap_model.specs.Tops.{Top, Placed}
 use Rattle.mcap_model.proofs.Places.{each_at}
-use Rattle.record_walk.specs.Walking.{placed_at}
+use Rattle.mcap_scan.specs.Walking.{placed_at}
 use Rattle.file_check.specs.Givens.{flat_given}
 use Rattle.file_check.specs.RecordCounts.{CountsOf}
 use Rattle.file_check.proofs.Given.{few_given, flat_last}

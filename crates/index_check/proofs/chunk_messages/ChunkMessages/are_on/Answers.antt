@@ -2,7 +2,7 @@ use Rattle.std.proofs.Common.{◌<◌, List, length, false, refl, sym, subst, �
 use Rattle.std.proofs.lemmas.Bool.{both_ways}
 use Rattle.mcap_model.specs.Places.{At, Has}
 use Rattle.mcap_model.proofs.Places.{at_within}
-use Rattle.record_walk.specs.declared.heads.MessageHead.{MessageHead}
+use Rattle.mcap_scan.specs.declared.message_heads.MessageHead.{MessageHead}
 use Rattle.index_check.proofs.Apart.{front_more, at_index, inside}
 use Rattle.index_check.proofs.chunk_messages.ChunkMessages.are_on.Goals as goal
 

@@ -1,6 +1,6 @@
 use Rattle.std.proofs.Common.{ℕ, ◌<◌}
 use Rattle.mcap_model.specs.Places.{At, Has}
-use Rattle.record_walk.specs.declared.heads.MessageHead.{MessageHead}
+use Rattle.mcap_scan.specs.declared.message_heads.MessageHead.{MessageHead}
 use Rattle.index_check.proofs.chunk_messages.ChunkMessages.are_on.Given as goal
 
 abbrev pub invariant-messages : goal.invariant-messages

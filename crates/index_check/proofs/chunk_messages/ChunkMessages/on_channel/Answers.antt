@@ -1,6 +1,6 @@
 use Rattle.std.proofs.Common.{◌≡◌, List, sym, subst, ◌∙◌}
 use Rattle.std.specs.Prelude.{◌==◌, filter}
-use Rattle.record_walk.specs.declared.heads.MessageHead.{MessageHead}
+use Rattle.mcap_scan.specs.declared.message_heads.MessageHead.{MessageHead}
 use Rattle.index_check.specs.Messages.{MessagesRise}
 use Rattle.index_check.proofs.Runs.{run_still_rises}
 use Rattle.index_check.proofs.chunk_messages.ChunkMessages.on_channel.Goals as goal

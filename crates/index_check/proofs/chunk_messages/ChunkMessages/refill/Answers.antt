@@ -1,8 +1,8 @@
 use Rattle.std.proofs.Common.{List, ◌++◌, sym, ap, subst, ◌∙◌, rules}
 use Rattle.mcap_wire.proofs.Numbers.{AreBytes}
 use Rattle.mcap_model.specs.Tops.{records_in}
-use Rattle.record_walk.specs.declared.heads.MessageHead.{MessageHead}
-use Rattle.record_walk.specs.Heads.{heads_in}
+use Rattle.mcap_scan.specs.declared.message_heads.MessageHead.{MessageHead}
+use Rattle.mcap_scan.specs.Heads.{heads_in}
 use Rattle.index_check.specs.Messages.{HoldsMessages}
 use Rattle.index_check.proofs.Walked.{heads_hold}
 use Rattle.index_check.proofs.Runs.{holds_moved}

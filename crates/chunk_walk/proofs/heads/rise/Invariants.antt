@@ -1,6 +1,0 @@
-use Rattle.std.specs.List.{AllAdjacentBelow}
-use Rattle.chunk_walk.specs.Heads.{HeadBefore}
-use Rattle.chunk_walk.proofs.heads.rise.Given as goal
-
-abbrev pub invariant-messages : goal.invariant-messages
-invariant-messages l = AllAdjacentBelow HeadBefore l.heads l.i

@@ -1,0 +1,22 @@
+use Rattle.std.proofs.Common.{ℕ, List, sym, subst}
+use Rattle.mcap_model.specs.Fields.{IsSchema}
+use Rattle.mcap_model.proofs.Maps.{schema_once}
+use Rattle.command_read.specs.IdTables.{ArePlaces}
+use Rattle.command_read.proofs.Shown.{places_within, firsts_are}
+use Rattle.command_read.proofs.schemas.put_schemas.Goals as goal
+
+pub put_places-requires : goal.put_places-requires
+put_places-requires c =
+    let first : ArePlaces c.in_ok-ids.ids.items c.deref-2.result.now =
+    subst (ArePlaces c.in_ok-ids.ids.items) (sym c.deref-2.ensures.value) (subst (λ (l : List ℕ). ArePlaces l c.in_ok-places.places.items) c.deref.ensures.value (c.in_ok-places.ensures)) in
+    places_within IsSchema c.args.loaded.now.schemas c.in_ok-ids.ids.items c.deref-2.result.now c.in_ok-ids.ensures first
+
+pub returns : goal.returns
+returns c =
+    let first : ArePlaces c.in_ok-ids.ids.items c.deref-2.result.now =
+    subst (ArePlaces c.in_ok-ids.ids.items) (sym c.deref-2.ensures.value) (subst (λ (l : List ℕ). ArePlaces l c.in_ok-places.places.items) c.deref.ensures.value (c.in_ok-places.ensures)) in
+    let (shown, zip, adds) = c.in_ok-put_places.ensures in (
+      shown,
+      firsts_are IsSchema c.args.loaded.now.schemas schema_once c.in_ok-ids.ids.items c.deref-2.result.now shown c.in_ok-ids.ensures first zip,
+      adds,
+    )

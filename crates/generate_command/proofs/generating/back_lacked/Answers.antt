@@ -1,7 +1,0 @@
--- Memory lacked for the reading back, where it has an ending.
-use Rattle.std.proofs.Common.{sym, ap, ◌∙◌}
-use Rattle.generate_command.specs.Generating.{is_lack_after}
-use Rattle.generate_command.proofs.generating.back_lacked.Goals as goal
-
-pub returns-in-Some : goal.returns-in-Some
-returns-in-Some c = λ out. c.has_lacked.ensures out ∙ ap (is_lack_after c.args.what.now.feeds out) (sym c.in-Some.is)

@@ -1,8 +1,0 @@
--- What `Runs` of mcap_app reaches, in the order to read it.
-pub mod Lines
-pub mod Back
-pub mod Making
-pub mod Generating
--- What the functions of this crate and its proofs say besides.
-pub mod Allowed
-pub mod Laws

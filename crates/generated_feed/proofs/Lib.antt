@@ -1,2 +1,0 @@
-mod Made
-pub mod Reading

@@ -1,0 +1,193 @@
+-- What a recording beside a directory came to, and what was told of it.
+use Rattle.std.proofs.Common.{◌≡◌, ℕ, ◌≤◌, List, [], ◌++◌, length, Option, Some, None, Result, Ok, Err, refl, sym, ap, subst, ◌∙◌, inl, inr, append-nil, arith}
+use Rattle.std.specs.Prelude.{Bool, true, false, IfSome, MatchResult}
+use Rattle.std.specs.Result.{result_ok}
+use Rattle.std.proofs.lemmas.Option.{none-some}
+use Rattle.mcap_wire.specs.Layout.{content_limit}
+use Rattle.mcap_wire.specs.Limits.{file_limit}
+use Rattle.rec_data.specs.declared.owned.Rec.{Rec}
+use Rattle.mcap_io.specs.Outside.{SourceState, LiveState}
+use Rattle.mcap_model.specs.declared.ends.End.{End}
+use Rattle.mcap_model.specs.declared.ends.End.TheVariants as ends
+use Rattle.mcap_model.specs.declared.ends.Stop.{Stop}
+use Rattle.mcap_model.specs.declared.options.FileOptions.{FileOptions}
+use Rattle.mcap_model.specs.File.{front}
+use Rattle.mcap_model.proofs.Places.{at_none}
+use Rattle.live_entry.specs.declared.entry.Entry.{Entry}
+use Rattle.live_directory.specs.declared.front.Added.{Added}
+use Rattle.live_directory.specs.Published.{entries_of, end_of, at_most_one}
+use Rattle.live_directory.specs.Writing.{DirectoryState, Seals, StaysUnsealed, empty_directory}
+use Rattle.chunk_writer.specs.declared.phase.Phase.{Phase}
+use Rattle.chunk_writer.specs.declared.phase.Phase.TheVariants as phases
+use Rattle.chunk_writer.specs.declared.scribe.Scribe.{Scribe}
+use Rattle.chunk_writer.specs.Limits.{Holds}
+use Rattle.chunk_writer.specs.Stops.{numbers, StopsAt, StopCause, Cause}
+use Rattle.chunk_writer.specs.Scribes.{WritesHistory, store_of, phase_of, blocks_of, planned_bytes}
+use Rattle.chunk_writer.specs.Tapes.{KeepsCause, seen_store}
+use Rattle.chunk_writer.proofs.Planned.{length-front}
+use Rattle.mcap_model.specs.declared.options.RecordOptions.{RecordOptions}
+use Rattle.recorder.specs.declared.report.Report.{Report}
+use Rattle.recorder.specs.declared.report.WriterReport.{WriterReport}
+use Rattle.recorder.specs.Recorded.{answer_of, sides, WriterRecorded}
+use Rattle.recorder.specs.Onto.{IsAll, IsReported, written_numbers}
+use Rattle.live_recording.specs.Publishing.{GivesTo, Publishing, PublishesOn, PublishesEnd, empty_board, entries_held, gives_on}
+use Rattle.live_recording.specs.WatchedSteps.{AreBlockEntries, RecordedBeside}
+use Rattle.live_recording.proofs.Follows.{held_since}
+use Rattle.live_recording.proofs.Given.{board}
+use Rattle.live_recording.proofs.FirstBlocks.{first_blocks_are}
+
+told_of : {A : Type 0} (told : Option A) (n : A) (P : A → Type 0) → told ≡ Some n → IfSome told P → P n
+told_of told n P is it = subst (λ (o : Option _). IfSome o P) is it
+
+is_false : (b : Bool) → (b ≡ true → ⊥) → b ≡ false
+is_false true other = absurd (other refl)
+is_false false other = refl
+
+-- ---- a note
+
+-- of a directory without blocks the note of a seal has the end alone
+pub told_at_seal : {X E : Type 0} (before now : DirectoryState X) (end : End) (r : Result (List (Added X)) E) (told : Option (List (Added X))) → told ≡ result_ok r → before ≡ empty_directory
+    → MatchResult r (λ n. Seals before now end n) (λ e. StaysUnsealed before now) → IfSome told (λ n. (entries_of n ≡ []) × (end_of n ≡ Some end))
+told_at_seal before now end (Ok n) told is empty seals =
+    subst (λ (o : Option (List (Added _))). IfSome o (λ n. (entries_of n ≡ []) × (end_of n ≡ Some end))) (sym is) (
+      ap (λ (h : List (Added _)). entries_of h) seals.note_is ∙ seals.entries ∙ ap (λ (d : DirectoryState _). entries_held d) empty,
+      ap (λ (h : List (Added _)). end_of h) seals.note_is ∙ seals.sealed,
+    )
+told_at_seal before now end (Err why) told is empty seals = subst (λ (o : Option (List (Added _))). IfSome o (λ n. (entries_of n ≡ []) × (end_of n ≡ Some end))) (sym is) tt
+
+pub end_told : {X : Type 0} (note : Option (List (Added X))) (entries : List (Entry X)) (end : End) → IfSome note (λ n. (entries_of n ≡ entries) × (end_of n ≡ Some end)) → IfSome note (λ n. (e : End) × (end_of n ≡ Some e))
+end_told None entries end told = tt
+end_told (Some n) entries end told = (end, told.1)
+
+-- ---- before the first record
+
+pub begun_empty : {X : Type 0} (d : DirectoryState X) → d ≡ empty_directory → board d false false ≡ empty_board
+begun_empty d is = ap (λ (x : DirectoryState _). board x false false) is
+
+-- a front is within the limit of a file
+front_within : (options : FileOptions) → length options.profile ≤ content_limit → length (front options.profile ++ []) ≤ file_limit
+front_within options short = omega (arith, short, length-front options.profile, ap (λ (l : List ℕ). length l) (append-nil (front options.profile)))
+
+-- what was reported of lanes with that limit, which wait for room or don't
+pub reported_by : (options : RecordOptions) (limit : ℕ) (lossless : Bool) (sources now : List SourceState) (history : List Rec) (r : Report) → limit ≡ options.limit → lossless ≡ options.lossless
+    → IsReported limit lossless sources now history r → IsReported options.limit options.lossless sources now history r
+reported_by options limit lossless sources now history r limits losses it =
+    subst (λ (n : ℕ). IsReported n options.lossless sources now history r) limits (subst (λ (b : Bool). IsReported limit b sources now history r) losses it)
+
+-- ---- a scribe
+
+module _ {L : Type 0} (state : L → LiveState) where
+  -- a store's count has the cause, over the calls and the end
+  cause_since : (mid last : Scribe L) (before : ℕ) (p : Phase) (end : Result Unit Stop) → phase_of mid ≡ p → KeepsCause p before (state (store_of mid)).faults
+      → (phase_of mid ≡ phases.Going → Cause (state (store_of mid)).faults (state (store_of last)).faults end) → ((stop : Stop) → phase_of mid ≡ phases.Stopped stop → (end ≡ Err stop) × (last ≡ mid))
+      → Cause before (state (store_of last)).faults end
+  cause_since mid last before phases.Going end is kept goes stays = subst (λ (n : ℕ). Cause n (state (store_of last)).faults end) kept (goes is)
+  cause_since mid last before (phases.Stopped stop) end is kept goes stays =
+      let (same, still) = stays stop is in
+      subst (λ (a : Result Unit Stop). Cause before (state (store_of last)).faults a) (sym same)
+      (subst (λ (s : Scribe L). StopCause before (state (store_of s)).faults stop) (sym still) kept)
+  cause_since mid last before phases.Ended end is kept goes stays = absurd kept
+
+  -- a scribe that has taken nothing has the bytes of the front
+  front_holds : (options : FileOptions) (live : LiveState) (first : Scribe L) → length options.profile ≤ content_limit → WritesHistory state options [] live [] first → phase_of first ≡ phases.Going
+      → Holds (blocks_of first) (planned_bytes first)
+  front_holds options live first short stands going =
+      let plans = (stands.0.going going).0 in
+      let none : blocks_of first ≡ 0 = plans.blocks in
+      let bytes : planned_bytes first ≡ length (front options.profile ++ []) = plans.bytes in
+      let within = front_within options short in
+      record { few = omega (arith, none); small = omega (arith, bytes, within) }
+
+-- ---- a tape that was new
+
+module _ {L X : Type 0} (state : L → LiveState) (tells : X → Option (List ℕ)) (size : X → ℕ) (first mid last : Publishing L X) (history : List Rec) (given : List (Entry X)) (closing : Option (Entry X)) (w : WriterReport)
+    (empty : first.board ≡ empty_board) (grown : PublishesOn (seen_store state tells size) first mid history given) (ended : PublishesEnd (seen_store state tells size) mid last closing (written_numbers w) (answer_of w.end)) where
+  gives_all : GivesTo first.board last.board (grown.given ++ at_most_one ended.given)
+  gives_all = gives_on first.board mid.board last.board grown.given (at_most_one ended.given) grown.published ended.published
+
+  module _ (options : RecordOptions) (live : LiveState) (stands : WritesHistory state options.file [] live [] first.scribe) (going : phase_of first.scribe ≡ phases.Going) where
+    scribe_recorded : (state (store_of first.scribe)).faults ≡ live.faults → IsAll history w → WriterRecorded options.file live (state (store_of last.scribe)) history w
+    scribe_recorded still all =
+        let took = grown.took in
+        let closed = ended.ended in
+        let file = closed.file options.file [] live history (took.grown options.file [] live [] stands) in
+        let cause = cause_since state mid.scribe last.scribe (state (store_of first.scribe)).faults (phase_of mid.scribe) (answer_of w.end) refl (took.cause going) closed.cause
+        (λ stop is. let kept = closed.kept stop is in (kept.0, kept.2)) in
+        record {
+          records = all.records;
+          wrote = file.0;
+          within = closed.within;
+          begun = inl file.1;
+          through = file.2;
+          cause = subst (λ (n : ℕ). Cause {X = Unit {0}} n (state (store_of last.scribe)).faults (answer_of w.end)) still cause;
+        }
+
+    -- a note of the seal tells the first blocks, since none were lost
+    told_blocks : length options.file.profile ≤ content_limit → (n : List (Added X)) → entries_of n ≡ entries_held last.board.directory → last.board.lost ≡ false → AreBlockEntries tells options.file live history w (entries_of n)
+    told_blocks short n entries whole =
+        let holds = grown.within (front_holds state options.file live first.scribe short stands going) in
+        let held = held_since first.board last.board (grown.given ++ at_most_one ended.given) empty gives_all whole in
+        subst (λ (l : List (Entry X)). AreBlockEntries tells options.file live history w l) (sym (entries ∙ held))
+        (first_blocks_are state tells size options.file live first.scribe mid.scribe last.scribe history grown.given w stands going grown.took grown.counted holds ended.given ended.ended)
+
+module _ {L X : Type 0} (state : L → LiveState) (tells : X → Option (List ℕ)) (options : RecordOptions) (sources now : List SourceState) (live : LiveState) (store : L) (report : Report) (note : Option (List (Added X))) where
+  -- the writer took a history, and the directory told its blocks at the seal
+  pub tape_beside : (size : X → ℕ) (first mid last : Publishing L X) (history : List Rec) (given : List (Entry X)) (closing : Option (Entry X)) → first.board ≡ empty_board
+      → PublishesOn (seen_store state tells size) first mid history given → PublishesEnd (seen_store state tells size) mid last closing (written_numbers report.writer) (answer_of report.writer.end)
+      → WritesHistory state options.file [] live [] first.scribe → phase_of first.scribe ≡ phases.Going → (state (store_of first.scribe)).faults ≡ live.faults → length options.file.profile ≤ content_limit
+      → IsReported options.limit options.lossless sources now history report → IsAll history report.writer → store ≡ store_of last.scribe
+      → IfSome note (λ n. (entries_of n ≡ entries_held last.board.directory) × (end_of n ≡ Some report.writer.end)) → (last.board.lost ≡ true → note ≡ None)
+      → RecordedBeside tells options (sides sources live) (sides now (state store)) report note
+  tape_beside size first mid last history given closing empty grown ended stands going still short reported all stored told lost = record {
+    recorded = record {
+      history = history;
+      feeds = reported.feeds;
+      are = reported.are;
+      assembled = reported.assembled;
+      unfull = reported.unfull;
+      kept = all.kept;
+      writer = subst (λ (l : L). WriterRecorded options.file live (state l) history report.writer) (sym stored)
+          (scribe_recorded state tells size first mid last history given closing report.writer empty grown ended options live stands going still all);
+    };
+    end_is = λ n is. (told_of note n _ is told).1;
+    blocks_are = λ n is.
+        let whole = is_false last.board.lost (λ gone. none-some n (sym (lost gone) ∙ is)) in
+        told_blocks state tells size first mid last history given closing report.writer empty grown ended options live stands going short n (told_of note n _ is told).0 whole;
+  }
+
+  -- nothing was begun, and the directory told no block
+  pub nothing_beside : (stop : Stop) → length options.file.profile ≤ content_limit → IsReported options.limit options.lossless sources now [] report
+      → report.writer ≡ record { records = 0; blocks = 0; bytes = 0; end = ends.Stopped stop } → StopsAt options.file [] [] live.held (state store).held stop (numbers 0 0)
+      → StopCause live.faults (state store).faults stop → IfSome note (λ n. (entries_of n ≡ []) × (end_of n ≡ Some (ends.Stopped stop)))
+      → RecordedBeside tells options (sides sources live) (sides now (state store)) report note
+  nothing_beside stop short reported written stops cause told =
+      let none : WriterReport = record { records = 0; blocks = 0; bytes = 0; end = ends.Stopped stop } in
+      record {
+        recorded = record {
+          history = [];
+          feeds = reported.feeds;
+          are = reported.are;
+          assembled = reported.assembled;
+          unfull = reported.unfull;
+          kept = λ n x at. absurd (at_none n x at);
+          writer = subst (λ (w : WriterReport). WriterRecorded options.file live (state store) [] w) (sym written) (record {
+            records = refl;
+            wrote = stops;
+            within = record { few = omega arith; small = omega arith };
+            begun = inr (refl, refl);
+            through = tt;
+            cause = cause;
+          });
+        };
+        end_is = λ n is. (told_of note n _ is told).1 ∙ ap (λ (w : WriterReport). Some w.end) (sym written);
+        blocks_are = λ n is.
+            subst (λ (l : List (Entry X)). AreBlockEntries tells options.file live [] report.writer l) (sym (told_of note n _ is told).0)
+            (subst (λ (w : WriterReport). AreBlockEntries tells options.file live [] w []) (sym written) (record {
+              pieces = [];
+              first = record { more = []; first = refl; within = front_within options.file short };
+              each = tt;
+              tell = λ held is. ([], tt);
+              many = refl;
+              all = λ closed. refl;
+            }));
+      }

@@ -1,0 +1,12 @@
+use Rattle.live_recording.proofs.Watchers.{zip_same}
+use Rattle.live_recording.proofs.recording.record_over.Goals as goal
+
+-- nothing was read
+pub returns-in-Err-clause-stays : goal.returns-in-Err-clause-stays
+returns-in-Err-clause-stays g c = rw c.unread.ensures.same.0 (zip_same g.S.Source.stays g.S.Source.stays_so _)
+
+pub returns-in-Err-make_room-clause-stays : goal.returns-in-Err-make_room-clause-stays
+returns-in-Err-make_room-clause-stays g c = rw c.unread-in-Err-make_room.ensures.same.0 (zip_same g.S.Source.stays g.S.Source.stays_so _)
+
+pub returns-in-Err-make_ready-clause-stays : goal.returns-in-Err-make_ready-clause-stays
+returns-in-Err-make_ready-clause-stays g c = rw c.unread-in-Err-make_ready.ensures.same.0 (zip_same g.S.Source.stays g.S.Source.stays_so _)

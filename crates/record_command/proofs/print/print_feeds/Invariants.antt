@@ -1,8 +1,0 @@
--- So far the lines of the feeds below the index were printed.
-use Rattle.std.proofs.Common.{take}
-use Rattle.command_base.specs.Printing.{TellsAll}
-use Rattle.record_command.specs.ReportTexts.{feed_lines}
-use Rattle.record_command.proofs.print.print_feeds.Given as goal
-
-abbrev pub invariant-feeds : goal.invariant-feeds
-invariant-feeds g l = TellsAll (g.K.Sink.state l.fn.out) (g.K.Sink.state l.out) (feed_lines 1 (take l.i l.feeds))

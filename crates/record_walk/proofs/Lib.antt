@@ -1,4 +1,0 @@
-pub mod Walked
-mod Steps
-mod Chunks
-mod Listed

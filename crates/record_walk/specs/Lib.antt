@@ -1,5 +1,0 @@
--- What `Runs` of mcap_app reaches, in the order to read it.
-pub mod HeadTimes
--- What the functions of this crate and its proofs say besides.
-pub mod Walking
-pub mod Heads
