@@ -20,7 +20,8 @@ use Rattle.command_base.specs.Ran.{Wanted, refused, input_faults, output_faults,
 use Rattle.command_base.proofs.Counting.{added_none, kept_adds}
 use Rattle.command_base.proofs.Opened.{tells_more}
 use Rattle.command_record.specs.Record.{FeedKept, feed_entry, live_entry}
-use Rattle.command_record.specs.Sources.{feed_given, with_feed_openings, FeedsKept}
+use Rattle.command_base.specs.InputsSteps.{input_given, with_openings}
+use Rattle.command_record.specs.Sources.{FeedsKept}
 use Rattle.command_record.specs.Sinks.{SinkKept, sink_entry, sink_names, back_sinks, watch_faults, SinkHolds}
 use Rattle.command_record.specs.SinkSteps.{given_sink, AreOnce, SinksOpened, SinksKept, ViewsLetGo, OutOpened}
 use Rattle.command_record.proofs.Runs.{world_faults-append, input_faults-append, output_faults-append, sources_write_nothing, refusal_of}
@@ -220,14 +221,14 @@ module _ (out : List ℕ) (feeds names : List (List ℕ)) (b : AllSeen out feeds
 
   pub told_since : (told : Told) → b.w0.told ≡ Some told → (now : Told) × (b.w8.told ≡ Some now) × (now.log ≡ told.log ++ seen_entries) × NamesHold out names seen_sinks b.live_now b.live_kept told.names now.names
   told_since told here =
-      let t1 = with_feed_openings told (map feed_given feeds) in
+      let t1 = with_openings told (map (input_given kinds.Source) feeds) in
       let t2 = with_opening t1 (opened kinds.Live out true) in
-      let t3 = with_feed_openings t2 (map given_sink names) in
+      let t3 = with_openings t2 (map given_sink names) in
       let here2 = tells_more b.opens.between.told b.w2.told (opened kinds.Live out true) t1 b.opens.opens (b.opens.feeds_opened.told told here) in
       let t4 = b.refuses.told t3 (b.opens_sinks.told t2 here2) in
       let t6 = b.keeps_sinks.told t4.0 t2.log b.behind (b.lets_go.told ∙ t4.1) (t4.3 ∙ append_assoc t2.log (map given_sink names) b.behind) (λ name. b.refuses.none_out kinds.Sink name) in
-      let fronts : t6.0.log ≡ told.log ++ (map feed_given feeds ++ opened kinds.Live out true ∷ sinks_behind) =
-      t6.2 ∙ append_assoc (told.log ++ map feed_given feeds) (opened kinds.Live out true ∷ []) sinks_behind ∙ append_assoc told.log (map feed_given feeds) (opened kinds.Live out true ∷ sinks_behind) in
+      let fronts : t6.0.log ≡ told.log ++ (map (input_given kinds.Source) feeds ++ opened kinds.Live out true ∷ sinks_behind) =
+      t6.2 ∙ append_assoc (told.log ++ map (input_given kinds.Source) feeds) (opened kinds.Live out true ∷ []) sinks_behind ∙ append_assoc told.log (map (input_given kinds.Source) feeds) (opened kinds.Live out true ∷ sinks_behind) in
       let t7 = b.keeps.told t6.0 told.log (opened kinds.Live out true ∷ sinks_behind) t6.1 fronts (λ name. store_first out sinks_behind name (sinks_not_out seen_sinks b.behind kinds.Source name (b.refuses.none_out kinds.Source name))) in
       let t8 = b.keeps_out t7.0 t7.1 in
       let noted = noted_in t7.0.log t8.0.log (told.log ++ map feed_entry seen_feeds) sinks_behind (opened kinds.Live out true) kinds.Live out (record { well = went_well b.live_kept; faults = b.live_now.faults; left = None; asked = 0 }) (record {
@@ -259,11 +260,11 @@ module _ (out : List ℕ) (feeds names : List (List ℕ)) (b : AllSeen out feeds
       subst (λ (n : Told). NamesHold out names seen_sinks b.live_now b.live_kept told.names n.names) (same_Some t.0 now (sym t.1 ∙ here_now)) t.3
 
   pub nothing_yet : (told : Told) → b.w0.told ≡ Some told → b.live.held ≡ Some []
-  nothing_yet told here = b.opens.nothing (with_feed_openings told (map feed_given feeds)) (b.opens.feeds_opened.told told here)
+  nothing_yet told here = b.opens.nothing (with_openings told (map (input_given kinds.Source) feeds)) (b.opens.feeds_opened.told told here)
 
   pub sinks_yet : (told : Told) → b.w0.told ≡ Some told → Each (λ (s : SinkState). s.took ≡ Some []) b.ks
   sinks_yet told here =
-      let t1 = with_feed_openings told (map feed_given feeds) in
+      let t1 = with_openings told (map (input_given kinds.Source) feeds) in
       b.opens_sinks.empty (with_opening t1 (opened kinds.Live out true)) (tells_more b.opens.between.told b.w2.told (opened kinds.Live out true) t1 b.opens.opens (b.opens.feeds_opened.told told here))
 
   pub world_since : b.w8.faults ≡ added b.w0.faults (world_faults seen_entries)

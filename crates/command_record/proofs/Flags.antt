@@ -1,19 +1,14 @@
 -- Which of the feeds are blamed.
-use Rattle.std.proofs.Common.{◌≡◌, ◌⊎◌, ℕ, zero, suc, ◌+◌, ◌-◌, ◌^◌, ◌<◌, ◌≤◌, not, Bool, true, false, ◌||◌, Option, Some, None, List, [], ◌∷◌, length, map, drop, refl, sym, ap, subst, inl, inr, ◌∙◌, if◌then◌else◌, arith}
+use Rattle.std.proofs.Common.{◌≡◌, ◌⊎◌, ℕ, zero, suc, ◌+◌, ◌≤◌, not, Bool, true, false, ◌||◌, Option, Some, None, List, [], ◌∷◌, length, map, drop, refl, sym, ap, subst, inl, inr, if◌then◌else◌, arith}
 use Rattle.std.specs.List.{list_any}
 use Rattle.std.proofs.lemmas.List.{length-map}
-use Rattle.std.proofs.lemmas.Option.{same_Some}
-use Rattle.mcap_io.specs.Outside.{Rose, WorldState, Opening, Keeping}
+use Rattle.mcap_io.specs.Outside.{Opening, Keeping}
 use Rattle.mcap_io.specs.declared.outside.ObjectKind.{ObjectKind}
 use Rattle.mcap_io.specs.declared.outside.ObjectKind.TheVariants as kinds
-use Rattle.mcap_model.specs.Places.{Has, Each}
-use Rattle.mcap_model.specs.declared.options.RecordOptions.{RecordOptions}
-use Rattle.command_base.specs.Ran.{first_failed, has_failed, failed_so, kept_failed, failures_keeping, failures_opening, object_faults, source_faults, live_faults, world_faults, input_faults, output_faults, blamed_among}
+use Rattle.mcap_model.specs.Places.{Each}
+use Rattle.command_base.specs.Ran.{first_failed, has_failed, failed_so, kept_failed, failures_keeping, failures_opening, object_faults, source_faults, live_faults, world_faults, input_faults, output_faults}
 use Rattle.command_base.proofs.Counting.{failed_often}
 use Rattle.command_base.specs.declared.blaming.FailedParts.{FailedParts}
-use Rattle.command_record.specs.declared.answering.Outcome.{Outcome}
-use Rattle.command_record.specs.RecordSteps.{NamesRecorded}
-use Rattle.command_record.proofs.Runs.{world_faults-append, input_faults-append, output_faults-append}
 use Rattle.command_base.specs.Outputs.{some_failed}
 use Rattle.command_base.specs.OutputSteps.{flags_of}
 
@@ -164,37 +159,3 @@ feeds_write_nothing (x ∷ xs) are = let more = feeds_write_nothing xs (rest_kin
 pub any_flag : (xs : List Opening) → some_failed (map has_failed xs) ≡ list_any has_failed xs
 any_flag [] = refl
 any_flag (x ∷ xs) = ap (λ (b : Bool). has_failed x || b) (any_flag xs)
-
--- what an outcome tells of failures shows in the counts, and the other way round
-pub record Showing (old new : WorldState) (feeds : List Bool) (out : Bool) : Type 0 where
-  pub feed_cause : some_failed feeds ≡ true → Rose old.faults new.faults ⊎ Rose old.input_faults new.input_faults
-  pub out_cause : out ≡ true → Rose old.faults new.faults ⊎ Rose old.output_faults new.output_faults
-  pub inputs_told : old.input_faults < 2 ^ 64 - 1 → Rose old.input_faults new.input_faults → some_failed feeds ≡ true
-  pub outputs_told : old.output_faults < 2 ^ 64 - 1 → Rose old.output_faults new.output_faults → out ≡ true
-  pub world_told : old.faults < 2 ^ 64 - 1 → Rose old.faults new.faults → (some_failed feeds ≡ true) ⊎ (out ≡ true)
-
-pub outcomes_show : (options : RecordOptions) (out : List ℕ) (feeds : List (List ℕ)) (old new : WorldState) (outcome : Outcome) → NamesRecorded options out feeds old new outcome → old.faults < 2 ^ 64 → old.input_faults < 2 ^ 64 → old.output_faults < 2 ^ 64
-    → Showing old new outcome.feeds_failed.items outcome.out_failed
-outcomes_show options out feeds old new outcome made world_fits inputs_fit outputs_fit =
-    let world : world_faults made.entries ≡ world_faults made.inputs + world_faults made.outputs = ap world_faults made.parts ∙ world_faults-append made.inputs made.outputs in
-    let inputs : input_faults made.entries ≡ input_faults made.inputs + input_faults made.outputs = ap input_faults made.parts ∙ input_faults-append made.inputs made.outputs in
-    let outputs : output_faults made.entries ≡ output_faults made.inputs + output_faults made.outputs = ap output_faults made.parts ∙ output_faults-append made.inputs made.outputs in
-    let no_inputs = stores_read_nothing made.outputs made.stores in
-    let no_outputs = feeds_write_nothing made.inputs made.sources in
-    let flags : some_failed outcome.feeds_failed.items ≡ list_any has_failed made.inputs = ap some_failed made.feeds_failed ∙ any_flag made.inputs in
-    record {
-      feed_cause = λ is. elim (some_has_input made.inputs made.sources (ap some_failed (sym made.feeds_failed) ∙ is)) [
-        | inl some ↦ inl (omega (arith, made.counts.world, world, some, world_fits))
-        | inr some ↦ inr (omega (arith, made.counts.inputs, inputs, some, inputs_fit))
-      ];
-      out_cause = λ is. elim (some_has_output made.outputs made.stores (sym made.out_failed ∙ is)) [
-        | inl some ↦ inl (omega (arith, made.counts.world, world, some, world_fits))
-        | inr some ↦ inr (omega (arith, made.counts.outputs, outputs, some, outputs_fit))
-      ];
-      inputs_told = λ on rose. flags ∙ inputs_have made.inputs made.sources (omega (arith, on, made.counts.inputs, inputs, no_inputs, rose));
-      outputs_told = λ on rose. made.out_failed ∙ outputs_have made.outputs made.stores (omega (arith, on, made.counts.outputs, outputs, no_outputs, rose));
-      world_told = λ on rose. elim (some_more (world_faults made.inputs) (world_faults made.outputs) (omega (arith, on, made.counts.world, world, rose))) [
-        | inl some ↦ inl (flags ∙ world_has made.inputs some)
-        | inr some ↦ inr (made.out_failed ∙ world_has made.outputs some)
-      ];
-    }

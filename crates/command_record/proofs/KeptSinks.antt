@@ -12,15 +12,18 @@ use Rattle.mcap_io.specs.declared.outside.ObjectKind.TheVariants as kinds
 use Rattle.mcap_io.proofs.Notes.{noted_in}
 use Rattle.mcap_model.specs.Places.{At, Has, Each}
 use Rattle.mcap_model.proofs.Places.{at_none}
+use Rattle.mcap_model.proofs.OneMore.{each_last}
 use Rattle.command_base.specs.Ran.{failed_so}
 use Rattle.command_base.proofs.Counting.{kept_adds}
 use Rattle.command_base.proofs.Opened.{tells_more}
-use Rattle.command_record.specs.Sources.{with_feed_openings}
+use Rattle.command_base.specs.InputsSteps.{with_openings}
 use Rattle.command_record.specs.Sinks.{SinkKept, sink_keeping, sink_entry, sink_names, SinkHolds}
 use Rattle.command_record.specs.SinkSteps.{AreOnce, given_sink, NoSinkOut, SinksOpened, PlacesSink, OneSinkKept, SinksKept, ViewsLetGo}
-use Rattle.command_record.proofs.Sources.{each_push, some_told}
 
 -- ---- openings
+
+abbrev some_told : Told → Option Told
+some_told t = Some t
 
 pub no_sink_opened : (w : WorldState) → SinksOpened w w [] []
 no_sink_opened w = record {
@@ -36,13 +39,13 @@ pub one_sink_opened : (w0 w1 w2 : WorldState) (ns : List (List ℕ)) (ss : List 
     → CountsStand w1 w2 → w2.faults ≡ w1.faults → TookNothingYet w1 s → s.faults ≡ 0 → SinksOpened w0 w2 (ns ++ n ∷ []) (ss ++ s ∷ [])
 one_sink_opened w0 w1 w2 ns ss n s it opens stands still nothing unused = record {
   told = λ told here.
-      tells_more w1.told w2.told (given_sink n) (with_feed_openings told (map given_sink ns)) opens (it.told told here)
+      tells_more w1.told w2.told (given_sink n) (with_openings told (map given_sink ns)) opens (it.told told here)
       ∙ ap (λ (l : List Opening). some_told (record { names = told.names; log = l })) (append_assoc told.log (map given_sink ns) (given_sink n ∷ []) ∙ ap (λ (l : List Opening). told.log ++ l) (sym (map-append given_sink ns (n ∷ []))));
   stands = record { inputs = stands.inputs ∙ it.stands.inputs; outputs = stands.outputs ∙ it.stands.outputs; watches = stands.watches ∙ it.stands.watches };
   still = still ∙ it.still;
   many = length-append ss (s ∷ []) ∙ ap (λ (k : ℕ). k + 1) it.many ∙ sym (length-append ns (n ∷ []));
-  empty = λ told here. each_push (λ (x : SinkState). x.took ≡ Some []) ss s (it.empty told here) (nothing (with_feed_openings told (map given_sink ns)) (it.told told here));
-  unused = each_push (λ (x : SinkState). x.faults ≡ 0) ss s it.unused unused;
+  empty = λ told here. each_last (λ (x : SinkState). x.took ≡ Some []) ss s (it.empty told here) (nothing (with_openings told (map given_sink ns)) (it.told told here));
+  unused = each_last (λ (x : SinkState). x.faults ≡ 0) ss s it.unused unused;
 }
 
 -- ---- keepings

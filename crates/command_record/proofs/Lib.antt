@@ -18,3 +18,4 @@ mod WatchedFlags
 mod WatchedDue
 mod WatchedStatuses
 pub mod WatchedAnswered
+mod Unwatched

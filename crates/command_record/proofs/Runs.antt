@@ -1,33 +1,28 @@
 -- What the openings, the recording and the keepings of all names come to.
-use Rattle.std.proofs.Common.{◌≡◌, ℕ, zero, suc, ◌+◌, ◌^◌, ◌<◌, ◌≤◌, Bool, true, false, ◌||◌, List, [], ◌∷◌, ◌++◌, length, map, take, append_assoc, length-append, Option, Some, None, Result, Err, refl, sym, ap, subst, inl, inr, ◌∙◌, arith}
+use Rattle.std.proofs.Common.{◌≡◌, ℕ, zero, suc, ◌+◌, ◌^◌, ◌<◌, ◌≤◌, Bool, true, false, ◌||◌, List, [], ◌∷◌, ◌++◌, length, map, take, append_assoc, length-append, Option, Some, None, Err, refl, sym, ap, subst, inl, inr, ◌∙◌, arith}
 use Rattle.std.specs.List.{AllZip, list_any}
-use Rattle.std.specs.Option.{option_map}
 use Rattle.std.proofs.lemmas.Option.{same_Some}
 use Rattle.std.proofs.lemmas.List.{append-nil, map-append, length-map}
 use Rattle.std.proofs.lemmas.Grind.{flat_map-append}
-use Rattle.mcap_io.specs.Outside.{added, Opening, Keeping, Told, opened, SourceState, LiveState, WorldState, TellsName, Names}
-use Rattle.mcap_io.specs.OutsideCalls.{HasCause, Opens, OpenCause, CountsStand, with_opening, went_well, TellsNothingYet, KeepsLive, KeepsName, NoneIsOut}
-use Rattle.mcap_io.specs.declared.outside.Failed.{Failed}
+use Rattle.mcap_io.specs.Outside.{added, Opening, Keeping, Told, SourceState, WorldState, TellsName}
+use Rattle.mcap_io.specs.OutsideCalls.{Opens, OpenCause, CountsStand, with_opening, NoneIsOut}
 use Rattle.mcap_io.specs.declared.outside.ObjectKind.{ObjectKind}
 use Rattle.mcap_io.specs.declared.outside.ObjectKind.TheVariants as kinds
 use Rattle.mcap_io.specs.declared.outside.OutsideRefused.{OutsideRefused}
 use Rattle.mcap_io.specs.declared.outside.OutsideRefused.TheVariants as outside_refusals
-use Rattle.mcap_io.proofs.Notes.{noted_in}
-use Rattle.mcap_model.specs.Places.{At, Has, Each}
+use Rattle.mcap_model.specs.Places.{At, Each}
 use Rattle.mcap_model.proofs.Places.{at_none}
 use Rattle.mcap_model.proofs.Lists.{at_either, cut_at}
-use Rattle.mcap_model.specs.declared.options.RecordOptions.{RecordOptions}
 use Rattle.recorder.specs.declared.report.Report.{Report}
-use Rattle.recorder.specs.Recorded.{sides, Recorded}
 use Rattle.command_base.specs.Outputs.{inputs_and_output, failed_of, LeftUnderName}
-use Rattle.command_record.specs.declared.answering.Outcome.{Outcome}
-use Rattle.command_base.specs.Ran.{Wanted, wanted, kept, refused, has_failed, failed_so, failed_names, blamed_among, blamed_names, named_when, input_faults, output_faults, world_faults, AreOpened, IsGivenLive}
-use Rattle.command_record.specs.Record.{FeedKept, feed_entry, live_entry, feed_names_kept, back_sources, Reported, Unreported}
-use Rattle.command_record.specs.RecordSteps.{NamesRecorded}
-use Rattle.command_record.specs.Sources.{feed_given, with_feed_openings, FeedsOpened, FeedRefused, NoSourceOut, FeedsKept, feed_flags_with}
-use Rattle.command_base.proofs.Counting.{added_none, kept_adds}
-use Rattle.command_base.proofs.Opened.{tells_more, not_missing, SameNames, leaves_same, holds_same, same_told}
-use Rattle.command_record.proofs.Held.{Holds, holds, placed_holds, placed_nothing}
+use Rattle.command_record.specs.declared.watched_names.WatchedOutcome.{WatchedOutcome}
+use Rattle.command_base.specs.Ran.{Wanted, wanted, AreOpened, Leaves, CountsKept, kept, refused, has_failed, failed_names, blamed_among, blamed_names, named_when, input_faults, output_faults, world_faults}
+use Rattle.command_record.specs.Record.{FeedKept, feed_entry, feed_names_kept, back_sources, Unreported, SparesOutput}
+use Rattle.command_base.specs.InputsSteps.{input_given, with_openings, NoneOut, flags_with}
+use Rattle.command_record.specs.Sources.{FeedsOpened, FeedRefused, FeedsKept}
+use Rattle.command_record.proofs.Sources.{feeds_tell, feeds_unused}
+use Rattle.command_base.proofs.Counting.{added_none}
+use Rattle.command_base.proofs.Opened.{tells_more, not_missing, SameNames, leaves_same, holds_same}
 
 -- ---- lists of entries
 
@@ -107,7 +102,7 @@ record Refusal (old new : WorldState) (behind : List Opening) : Type 0 where
   world : old.faults < 2 ^ 64 → new.faults ≡ added old.faults (world_faults behind)
   inputs : input_faults behind ≡ 0
   outputs : output_faults behind ≡ 0
-  out : NoSourceOut behind
+  out : NoneOut kinds.Source behind
   left : (told : Told) → Each (LeftUnderName told) behind
   failed : map has_failed behind ≡ map (λ (entry : Opening). true) behind
 
@@ -140,7 +135,27 @@ refused_so kind name old new outside_refusals.Memory no_inputs no_outputs opens 
 
 -- ---- nothing was recorded
 
-abbrev pub unmade : List Bool → Bool → Outcome → Type 0
+-- What became of all names where the output or a feed wasn't given, or memory lacked before: nothing was recorded.
+pub record NamesUnrecorded (out : List ℕ) (feeds : List (List ℕ)) (old new : WorldState) (outcome : WatchedOutcome) : Type 0 where
+  pub entries : List Opening
+  pub opened : AreOpened (wanted (inputs_and_output kinds.Source feeds out)) entries
+  pub leaves : Leaves old new entries
+  pub counts : CountsKept old new entries
+  pub none : outcome.report ≡ None
+  pub unreported : Unreported out old new entries
+  pub spares : SparesOutput out feeds old new
+  -- the entries of the feeds failed so, and then that of the output, if it was reached
+  pub inputs : List Opening
+  pub outputs : List Opening
+  pub few : length inputs ≤ length feeds
+  pub parts : entries ≡ inputs ++ outputs
+  pub sources : Each (λ (entry : Opening). entry.kind ≡ kinds.Source) inputs
+  pub stores : Each (λ (entry : Opening). entry.kind ≡ kinds.Live) outputs
+  pub feeds_failed : outcome.feeds_failed.items ≡ map has_failed inputs
+  pub out_failed : outcome.out_failed ≡ list_any has_failed outputs
+  pub failed : failed_names entries ≡ blamed_names (inputs_and_output kinds.Source feeds out) (failed_of outcome.feeds_failed.items outcome.out_failed)
+
+abbrev pub unmade : List Bool → Bool → WatchedOutcome → Type 0
 unmade flags out_failed outcome = (outcome.report ≡ None) × (outcome.feeds_failed.items ≡ flags) × (outcome.out_failed ≡ out_failed)
 
 pub none_some : (r : Report) → None ≡ Some r → ⊥
@@ -161,26 +176,26 @@ module _ (w0 w1 w2 w3 : WorldState) (fs : List (List ℕ)) (ss : List SourceStat
 
   same : SameNames w0 w3 entries
   same told here =
-      let second = it.refusal.told (with_feed_openings told (map feed_given fs)) (it.opened.told told here) in
-      let third = it.kept.told second.0 told.log behind second.1 (second.3 ∙ append_assoc told.log (map feed_given fs) behind) it.refusal.out in
+      let second = it.refusal.told (with_openings told (map (input_given kinds.Source) fs)) (it.opened.told told here) in
+      let third = it.kept.told second.0 told.log behind second.1 (second.3 ∙ append_assoc told.log (map (input_given kinds.Source) fs) behind) it.refusal.out in
       (third.0, third.1, third.3, third.2 ∙ second.2)
 
   back_tells : AllZip (TellsName w0) (feed_names_kept it.kept.kept) (back_sources it.kept.kept)
-  back_tells = subst (λ (l : List SourceState). AllZip (TellsName w0) (feed_names_kept it.kept.kept) l) it.kept.sources_are (subst (λ (l : List (List ℕ)). AllZip (TellsName w0) l ss) it.kept.names_are it.opened.tells)
+  back_tells = subst (λ (l : List SourceState). AllZip (TellsName w0) (feed_names_kept it.kept.kept) l) it.kept.backs_are (subst (λ (l : List (List ℕ)). AllZip (TellsName w0) l ss) it.kept.names_are (feeds_tell w0 w1 fs ss it.opened))
 
   no_inputs : input_faults entries ≡ 0
   no_inputs =
-      let first = unused_count_nothing it.kept.kept (subst (Each (λ (s : SourceState). s.faults ≡ 0)) it.kept.sources_are it.opened.unused) in
+      let first = unused_count_nothing it.kept.kept (subst (Each (λ (s : SourceState). s.faults ≡ 0)) it.kept.backs_are (feeds_unused w0 w1 fs ss it.opened)) in
       omega (arith, input_faults-append (map feed_entry it.kept.kept) behind, first, it.refusal.inputs)
 
   no_outputs : output_faults entries ≡ 0
   no_outputs = omega (arith, output_faults-append (map feed_entry it.kept.kept) behind, sources_write_nothing it.kept.kept, it.refusal.outputs)
 
-  unrecorded : (options : RecordOptions) (out : List ℕ) (feeds : List (List ℕ)) (outcome : Outcome) (inputs outputs : List Opening) → AreOpened (wanted (inputs_and_output kinds.Source feeds out)) entries → entries ≡ inputs ++ outputs → length inputs ≤ length feeds
+  unrecorded : (out : List ℕ) (feeds : List (List ℕ)) (outcome : WatchedOutcome) (inputs outputs : List Opening) → AreOpened (wanted (inputs_and_output kinds.Source feeds out)) entries → entries ≡ inputs ++ outputs → length inputs ≤ length feeds
       → Each (λ (entry : Opening). entry.kind ≡ kinds.Source) inputs → Each (λ (entry : Opening). entry.kind ≡ kinds.Live) outputs
       → outcome.report ≡ None → outcome.feeds_failed.items ≡ map has_failed inputs → outcome.out_failed ≡ list_any has_failed outputs
-      → failed_names entries ≡ blamed_names (inputs_and_output kinds.Source feeds out) (failed_of outcome.feeds_failed.items outcome.out_failed) → NamesRecorded options out feeds w0 w3 outcome
-  unrecorded options out feeds outcome inputs outputs opens parts few sources stores none flags_are out_is names =
+      → failed_names entries ≡ blamed_names (inputs_and_output kinds.Source feeds out) (failed_of outcome.feeds_failed.items outcome.out_failed) → NamesUnrecorded out feeds w0 w3 outcome
+  unrecorded out feeds outcome inputs outputs opens parts few sources stores none flags_are out_is names =
       let second = it.refusal.world (omega (arith, it.opened.still, it.world_fits)) in
       let third = it.kept.world (omega (arith, second)) in
       let rest = it.kept.inputs (omega (arith, it.refusal.stands.inputs, it.opened.stands.inputs, it.inputs_fit)) in
@@ -193,8 +208,8 @@ module _ (w0 w1 w2 w3 : WorldState) (fs : List (List ℕ)) (ss : List SourceStat
           inputs = omega (arith, input_faults-append (map feed_entry it.kept.kept) behind, it.refusal.inputs, rest, it.refusal.stands.inputs, it.opened.stands.inputs);
           outputs = omega (arith, no_outputs, it.kept.outputs, it.refusal.stands.outputs, it.opened.stands.outputs, it.outputs_fit);
         };
-        reported = λ r here. absurd (none_some r (sym none ∙ here));
-        unreported = λ is. record {
+        none = none;
+        unreported = record {
           inputs = no_inputs;
           outputs = no_outputs;
           left = λ told here. each_both (LeftUnderName told) (map feed_entry it.kept.kept) behind (left_all w0 told it.kept.kept here back_tells) (it.refusal.left told);
@@ -235,13 +250,13 @@ names_same out feeds more ks behind flags o all feeds_are all_are behind_are =
 
 -- ---- the output wasn't given
 
-pub out_refused : (options : RecordOptions) (out : List ℕ) (feeds : List (List ℕ)) (w0 w1 w2 w3 : WorldState) (ss : List SourceState) (flags : List Bool) (why : OutsideRefused) (failed : Bool) (outcome : Outcome) → FeedsOpened w0 w1 feeds ss
+pub out_refused : (out : List ℕ) (feeds : List (List ℕ)) (w0 w1 w2 w3 : WorldState) (ss : List SourceState) (flags : List Bool) (why : OutsideRefused) (failed : Bool) (outcome : WatchedOutcome) → FeedsOpened w0 w1 feeds ss
     → Opens {T = Unit} w1 w2 kinds.Live out (Err why) → CountsStand w1 w2 → OpenCause {T = Unit} w1.faults w2.faults (Err why) → FeedsKept w2 w3 feeds ss flags
     → w0.faults < 2 ^ 64 → w0.input_faults < 2 ^ 64 → w0.output_faults < 2 ^ 64
-    → (failed ≡ true → why ≡ outside_refusals.Failed) → (failed ≡ false → why ≡ outside_refusals.Memory) → unmade flags failed outcome → NamesRecorded options out feeds w0 w3 outcome
-out_refused options out feeds w0 w1 w2 w3 ss flags why failed outcome opened opens stands cause kept world_fits inputs_fit outputs_fit is_failed is_memory made =
+    → (failed ≡ true → why ≡ outside_refusals.Failed) → (failed ≡ false → why ≡ outside_refusals.Memory) → unmade flags failed outcome → NamesUnrecorded out feeds w0 w3 outcome
+out_refused out feeds w0 w1 w2 w3 ss flags why failed outcome opened opens stands cause kept world_fits inputs_fit outputs_fit is_failed is_memory made =
     let it : Unread w0 w1 w2 w3 feeds ss (refusal_of kinds.Live out why) flags = record { opened = opened; refusal = refused_so kinds.Live out w1 w2 why (λ n. refl) (λ n. refl) opens stands cause; kept = kept; world_fits = world_fits; inputs_fit = inputs_fit; outputs_fit = outputs_fit } in
-    unrecorded w0 w1 w2 w3 feeds ss (refusal_of kinds.Live out why) flags it options out feeds outcome (map feed_entry kept.kept) (refusal_of kinds.Live out why)
+    unrecorded w0 w1 w2 w3 feeds ss (refusal_of kinds.Live out why) flags it out feeds outcome (map feed_entry kept.kept) (refusal_of kinds.Live out why)
     (subst (λ (l : List (List ℕ)). AreOpened (wanted (inputs_and_output kinds.Source l out)) (map feed_entry kept.kept ++ refusal_of kinds.Live out why)) (sym kept.names_are) (opened_all kept.kept ((kinds.Live, out) ∷ []) (refusal_of kinds.Live out why) (opens_out why)))
     refl
     (omega (arith, length-map kept.kept feed_entry, length-map kept.kept (λ (k : FeedKept). k.name), ap length kept.names_are))
@@ -275,10 +290,10 @@ out_refused options out feeds w0 w1 w2 w3 ss flags why failed outcome opened ope
 
 -- ---- a feed wasn't given
 
-pub feed_refused : (options : RecordOptions) (out : List ℕ) (feeds : List (List ℕ)) (w0 w2 w3 : WorldState) (ss : List SourceState) (flags : List Bool) (why : OutsideRefused) (failed : Bool) (outcome : Outcome) → FeedRefused w0 w2 feeds ss why → FeedsKept w2 w3 (take (length ss) feeds) ss flags
+pub feed_refused : (out : List ℕ) (feeds : List (List ℕ)) (w0 w2 w3 : WorldState) (ss : List SourceState) (flags : List Bool) (why : OutsideRefused) (failed : Bool) (outcome : WatchedOutcome) → FeedRefused w0 w2 feeds ss why → FeedsKept w2 w3 (take (length ss) feeds) ss flags
     → w0.faults < 2 ^ 64 → w0.input_faults < 2 ^ 64 → w0.output_faults < 2 ^ 64
-    → (failed ≡ true → why ≡ outside_refusals.Failed) → (failed ≡ false → why ≡ outside_refusals.Memory) → unmade (feed_flags_with flags failed) false outcome → NamesRecorded options out feeds w0 w3 outcome
-feed_refused options out feeds w0 w2 w3 ss flags why failed outcome refuses kept world_fits inputs_fit outputs_fit is_failed is_memory made =
+    → (failed ≡ true → why ≡ outside_refusals.Failed) → (failed ≡ false → why ≡ outside_refusals.Memory) → unmade (flags_with flags failed) false outcome → NamesUnrecorded out feeds w0 w3 outcome
+feed_refused out feeds w0 w2 w3 ss flags why failed outcome refuses kept world_fits inputs_fit outputs_fit is_failed is_memory made =
     let name = refuses.name in
     let behind = refusal_of kinds.Source name why in
     let cut = cut_at feeds (length ss) name refuses.next in
@@ -289,7 +304,7 @@ feed_refused options out feeds w0 w2 w3 ss flags why failed outcome refuses kept
     ∙ ap (λ (l : List Wanted). l ++ (kinds.Live, out) ∷ []) (sym (map-append (λ (n : List ℕ). (kinds.Source, n)) (feed_names_kept kept.kept) (name ∷ cut.0)))
     ∙ ap (λ (l : List (List ℕ)). wanted (inputs_and_output kinds.Source l out)) (sym split) in
     let lengths : length feeds ≡ length kept.kept + suc (length cut.0) = ap length split ∙ length-append (feed_names_kept kept.kept) (name ∷ cut.0) ∙ ap (λ (n : ℕ). n + suc (length cut.0)) (length-map kept.kept (λ (k : FeedKept). k.name)) in
-    unrecorded w0 refuses.between w2 w3 (take (length ss) feeds) ss behind flags it options out feeds outcome (map feed_entry kept.kept ++ behind) []
+    unrecorded w0 refuses.between w2 w3 (take (length ss) feeds) ss behind flags it out feeds outcome (map feed_entry kept.kept ++ behind) []
     (subst (λ (l : List Wanted). AreOpened l (map feed_entry kept.kept ++ behind)) wanted_are (opened_all kept.kept (map (λ (n : List ℕ). (kinds.Source, n)) (name ∷ cut.0) ++ (kinds.Live, out) ∷ []) behind (opens_next why name (map (λ (n : List ℕ). (kinds.Source, n)) cut.0 ++ (kinds.Live, out) ∷ []))))
     (sym (append-nil (map feed_entry kept.kept ++ behind)))
     (omega (arith, lengths, length-append (map feed_entry kept.kept) behind, length-map kept.kept feed_entry, at_most_one why name))
@@ -309,7 +324,7 @@ feed_refused options out feeds w0 w2 w3 ss flags why failed outcome refuses kept
     none_more [] behind = refl
     none_more (n ∷ more) behind = refl
 
-    flags_so : (failed : Bool) (flags : List Bool) (ks : List FeedKept) → flags ≡ map (λ (k : FeedKept). has_failed (feed_entry k)) ks → feed_flags_with flags failed ≡ map has_failed (map feed_entry ks) ++ flag_of failed
+    flags_so : (failed : Bool) (flags : List Bool) (ks : List FeedKept) → flags ≡ map (λ (k : FeedKept). has_failed (feed_entry k)) ks → flags_with flags failed ≡ map has_failed (map feed_entry ks) ++ flag_of failed
     flags_so true flags ks are = ap (λ (l : List Bool). l ++ true ∷ []) (are ∙ sym (map_kept ks))
     flags_so false flags ks are = are ∙ sym (map_kept ks) ∙ sym (append-nil (map has_failed (map feed_entry ks)))
 
@@ -332,7 +347,7 @@ feed_refused options out feeds w0 w2 w3 ss flags why failed outcome refuses kept
     is_source outside_refusals.Memory name = each_none (λ (entry : Opening). entry.kind ≡ kinds.Source)
 
     told_so : (why : OutsideRefused) (failed : Bool) (name : List ℕ) → (failed ≡ true → why ≡ outside_refusals.Failed) → (failed ≡ false → why ≡ outside_refusals.Memory) → (ks : List FeedKept) (flags : List Bool) → flags ≡ map (λ (k : FeedKept). has_failed (feed_entry k)) ks
-        → feed_flags_with flags failed ≡ map has_failed (map feed_entry ks ++ refusal_of kinds.Source name why)
+        → flags_with flags failed ≡ map has_failed (map feed_entry ks ++ refusal_of kinds.Source name why)
     told_so outside_refusals.Failed true name a b ks flags are = ap (λ (l : List Bool). l ++ true ∷ []) (are ∙ sym (map_kept ks)) ∙ sym (map-append has_failed (map feed_entry ks) (refused kinds.Source name ∷ []))
     told_so outside_refusals.Failed false name a b ks flags are = absurd (let e = b refl in cc)
     told_so outside_refusals.Memory true name a b ks flags are = absurd (let e = a refl in cc)
@@ -340,17 +355,17 @@ feed_refused options out feeds w0 w2 w3 ss flags why failed outcome refuses kept
 
 -- ---- memory lacked before anything was opened
 
-pub nothing_opened : (options : RecordOptions) (out : List ℕ) (feeds : List (List ℕ)) (w : WorldState) (outcome : Outcome) → 1 ≤ length feeds → w.faults < 2 ^ 64 → w.input_faults < 2 ^ 64 → w.output_faults < 2 ^ 64 → unmade [] false outcome → NamesRecorded options out feeds w w outcome
-nothing_opened options out [] w outcome some world_fits inputs_fit outputs_fit made = absurd (omega (arith, some))
-nothing_opened options out (feed ∷ feeds) w outcome some world_fits inputs_fit outputs_fit made =
+pub nothing_opened : (out : List ℕ) (feeds : List (List ℕ)) (w : WorldState) (outcome : WatchedOutcome) → 1 ≤ length feeds → w.faults < 2 ^ 64 → w.input_faults < 2 ^ 64 → w.output_faults < 2 ^ 64 → unmade [] false outcome → NamesUnrecorded out feeds w w outcome
+nothing_opened out [] w outcome some world_fits inputs_fit outputs_fit made = absurd (omega (arith, some))
+nothing_opened out (feed ∷ feeds) w outcome some world_fits inputs_fit outputs_fit made =
     let same : SameNames w w [] = λ told here. (told, here, sym (append-nil told.log), refl) in
     record {
       entries = [];
       opened = tt;
       leaves = leaves_same w w [] same;
       counts = record { world = added_none w.faults w.faults world_fits refl; inputs = added_none w.input_faults w.input_faults inputs_fit refl; outputs = added_none w.output_faults w.output_faults outputs_fit refl };
-      reported = λ r here. absurd (none_some r (sym made.0 ∙ here));
-      unreported = λ is. record { inputs = refl; outputs = refl; left = λ told here. each_none (LeftUnderName told); file = λ told now here here_now. inl (holds_same out w w [] same told now here here_now) };
+      none = made.0;
+      unreported = record { inputs = refl; outputs = refl; left = λ told here. each_none (LeftUnderName told); file = λ told now here here_now. inl (holds_same out w w [] same told now here here_now) };
       spares = λ told now here here_now other has missing. holds_same out w w [] same told now here here_now;
       inputs = [];
       outputs = [];
@@ -363,35 +378,11 @@ nothing_opened options out (feed ∷ feeds) w outcome some world_fits inputs_fit
       failed = ap (λ (b : Bool). named_when b out ++ []) (sym made.2) ∙ ap (λ (l : List Bool). blamed_among (feed ∷ feeds) l (named_when outcome.out_failed out ++ [])) (sym made.1);
     }
 
--- ---- all were given
-
--- what was seen of the world, of the sources and of the store at each of the calls
-pub record AllGiven (out : List ℕ) (feeds : List (List ℕ)) (w0 w1 w2 w3 w4 : WorldState) (ss ss_now : List SourceState) (live live_now : LiveState) (flags : List Bool) (live_kept : Result Unit Failed) : Type 0 where
-  pub opens : FeedsOpened w0 w1 feeds ss
-  pub opens_out : w2.told ≡ option_map (λ (t : Told). with_opening t (opened kinds.Live out true)) w1.told
-  pub stands_out : CountsStand w1 w2
-  pub still_out : w2.faults ≡ w1.faults
-  pub nothing : TellsNothingYet w1 live
-  pub new : live.faults ≡ 0
-  pub keeps : FeedsKept w2 w3 feeds ss_now flags
-  pub keeps_out : KeepsLive w3 w4 out live_now live_kept
-  pub inputs_now : w4.input_faults ≡ w3.input_faults
-  pub outputs_now : w4.output_faults ≡ added w3.output_faults live_now.faults
-  pub cause_out : HasCause w3.faults w4.faults live_kept
-  pub world_fits : w0.faults < 2 ^ 64
-  pub inputs_fit : w0.input_faults < 2 ^ 64
-  pub outputs_fit : w0.output_faults < 2 ^ 64
+-- ---- for recordings that are made
 
 pub or_nothing : (a : Bool) → a ≡ (a || false)
 or_nothing true = refl
 or_nothing false = refl
-
-store_alone : (out : List ℕ) (name : List ℕ) → NoneIsOut kinds.Source name (opened kinds.Live out true ∷ [])
-store_alone out name zero d within = λ is. let kind = is.kind_is in absurd cc
-store_alone out name (suc n) d within = absurd (omega (arith, within))
-
-pub none_behind : (name : List ℕ) → NoneIsOut kinds.Live name []
-none_behind name k d within = absurd (omega (arith, within))
 
 -- a name that is told is there
 pub has_there : (w : WorldState) (told : Told) (feeds : List (List ℕ)) (ss : List SourceState) (n : ℕ) (feed : List ℕ) (A : Type 0) → w.told ≡ Some told → AllZip (TellsName w) feeds ss → At feeds n feed → told.names feed ≡ None → A
@@ -399,123 +390,3 @@ has_there w told [] ss n feed A here tells at missing = absurd (at_none n feed a
 has_there w told (f ∷ fs) [] n feed A here tells at missing = absurd tells
 has_there w told (f ∷ fs) (s ∷ ss) zero feed A here tells at missing = not_missing (told.names f) A (tells.0 told here).1 (ap told.names (same_Some f feed at) ∙ missing)
 has_there w told (f ∷ fs) (s ∷ ss) (suc n) feed A here tells at missing = has_there w told fs ss n feed A here tells.1 at missing
-
-module _ (options : RecordOptions) (out : List ℕ) (feeds : List (List ℕ)) (w0 w1 w2 w3 w4 : WorldState) (ss ss_now : List SourceState) (live live_now : LiveState) (flags : List Bool) (live_kept : Result Unit Failed) (b : AllGiven out feeds w0 w1 w2 w3 w4 ss ss_now live live_now flags live_kept) where
-  abbrev ks : List FeedKept
-  ks = b.keeps.kept
-
-  abbrev store : Opening
-  store = live_entry out live_now (went_well live_kept)
-
-  abbrev all_entries : List Opening
-  all_entries = map feed_entry ks ++ store ∷ []
-
-  all_told : (told : Told) → w0.told ≡ Some told → (now : Told) × (w4.told ≡ Some now) × KeepsName told.names now.names out live_now.held live_kept × (now.log ≡ told.log ++ all_entries)
-  all_told told here =
-      let first = with_feed_openings told (map feed_given feeds) in
-      let second = with_opening first (opened kinds.Live out true) in
-      let here2 = tells_more w1.told w2.told (opened kinds.Live out true) first b.opens_out (b.opens.told told here) in
-      let back = b.keeps.told second told.log (opened kinds.Live out true ∷ []) here2 (append_assoc told.log (map feed_given feeds) (opened kinds.Live out true ∷ [])) (store_alone out) in
-      let placed = b.keeps_out back.0 back.1 in
-      let noted = noted_in back.0.log placed.0.log (told.log ++ map feed_entry ks) [] (opened kinds.Live out true) kinds.Live out (record { well = went_well live_kept; faults = live_now.faults; left = None; asked = 0 }) (record {
-        there = back.3 ∙ sym (append_assoc told.log (map feed_entry ks) (opened kinds.Live out true ∷ []));
-        out = record { kind_is = refl; name_is = refl; given = refl; out = refl };
-        newest = none_behind out;
-      }) placed.3 in (
-        placed.0,
-        placed.1,
-        subst (λ (n : Names). KeepsName n placed.0.names out live_now.held live_kept) back.2 placed.2,
-        noted ∙ append_assoc told.log (map feed_entry ks) (store ∷ []),
-      )
-
-  all_placed : (told now : Told) → w0.told ≡ Some told → w4.told ≡ Some now → KeepsName told.names now.names out live_now.held live_kept
-  all_placed told now here here_now =
-      let t = all_told told here in
-      subst (λ (n : Told). KeepsName told.names n.names out live_now.held live_kept) (same_told t.0 now (sym t.1 ∙ here_now)) t.2
-
-  nothing_yet : (told : Told) → w0.told ≡ Some told → live.held ≡ Some []
-  nothing_yet told here = b.nothing (with_feed_openings told (map feed_given feeds)) (b.opens.told told here)
-
-  all_world : w4.faults ≡ added w0.faults (world_faults all_entries)
-  all_world =
-      let first = b.keeps.world (omega (arith, b.still_out, b.opens.still, b.world_fits)) in
-      let second = kept_adds w3.faults w4.faults live_kept (omega (arith, first)) b.cause_out in
-      omega (arith, world_faults-append (map feed_entry ks) (store ∷ []), b.still_out, b.opens.still, first, second)
-
-  all_inputs : w4.input_faults ≡ added w0.input_faults (input_faults all_entries)
-  all_inputs =
-      let first = b.keeps.inputs (omega (arith, b.stands_out.inputs, b.opens.stands.inputs, b.inputs_fit)) in
-      omega (arith, input_faults-append (map feed_entry ks) (store ∷ []), b.stands_out.inputs, b.opens.stands.inputs, first, b.inputs_now)
-
-  all_outputs : w4.output_faults ≡ added w0.output_faults (output_faults all_entries)
-  all_outputs = omega (arith, output_faults-append (map feed_entry ks) (store ∷ []), sources_write_nothing ks, b.stands_out.outputs, b.opens.stands.outputs, b.keeps.outputs, b.outputs_now)
-
-  unwritten_others : (all now : Names) → ((other : List ℕ) → (other ≡ out → ⊥) → now other ≡ all other) → (name : List ℕ) → (IsGivenLive all_entries name → ⊥) → now name ≡ all name
-  unwritten_others all now same name unwritten = same name (λ is. unwritten (record { entry = store; there = has_end (map feed_entry ks) store; live = refl; given = refl; named = sym is }))
-    where
-      has_end : (xs : List Opening) (x : Opening) → Has (xs ++ x ∷ []) x
-      has_end [] x = (0, refl)
-      has_end (y ∷ xs) x = let more = has_end xs x in (suc more.0, more.1)
-
-  all_recorded : (outcome : Outcome) → outcome.feeds_failed.items ≡ flags → outcome.out_failed ≡ failed_so (went_well live_kept) live_now.faults
-      → ((r : Report) → outcome.report ≡ Some r → Reported options out feeds w0 w4 all_entries r) → (outcome.report ≡ None → Unreported out w0 w4 all_entries) → NamesRecorded options out feeds w0 w4 outcome
-  all_recorded outcome flags_are out_is reported unreported = record {
-    entries = all_entries;
-    opened = subst (λ (l : List (List ℕ)). AreOpened (wanted (inputs_and_output kinds.Source l out)) all_entries) (sym b.keeps.names_are) (opened_all ks ((kinds.Live, out) ∷ []) (store ∷ []) (inr (record { well = went_well live_kept; faults = live_now.faults; left = None; asked = 0 }, refl, refl)));
-    leaves = λ told here. let t = all_told told here in (t.0, t.1, t.3, unwritten_others told.names t.0.names t.2.others);
-    counts = record { world = all_world; inputs = all_inputs; outputs = all_outputs };
-    reported = reported;
-    unreported = unreported;
-    spares = λ told now here here_now feed has missing. has_there w0 told feeds ss has.0 feed (now.names out ≡ told.names out) here b.opens.tells has.1 missing;
-    inputs = map feed_entry ks;
-    outputs = store ∷ [];
-    few = omega (arith, length-map ks feed_entry, length-map ks (λ (k : FeedKept). k.name), ap length b.keeps.names_are);
-    parts = refl;
-    sources = are_sources ks;
-    stores = each_alone (λ (entry : Opening). entry.kind ≡ kinds.Live) store refl;
-    feeds_failed = flags_are ∙ b.keeps.failed_are ∙ sym (map_kept ks);
-    out_failed = out_is ∙ or_nothing (failed_so (went_well live_kept) live_now.faults);
-    failed = names_same out feeds [] ks (store ∷ []) [] outcome.out_failed outcome.feeds_failed.items (b.keeps.names_are ∙ sym (append-nil (feed_names_kept ks))) (flags_are ∙ b.keeps.failed_are ∙ sym (map_kept ks) ∙ sym (append-nil (map has_failed (map feed_entry ks))))
-        (ap (λ (x : Bool). named_when x out ++ []) (sym out_is));
-  }
-
-  all_reported : (r : Report) → Recorded options (sides ss live) (sides ss_now live_now) r → Reported options out feeds w0 w4 all_entries r
-  all_reported r made =
-      let there : Recorded options (sides ss live) (sides (back_sources ks) live_now) r = subst (λ (l : List SourceState). Recorded options (sides ss live) (sides l live_now) r) b.keeps.sources_are made in
-      record {
-        given = ss;
-        kept_feeds = ks;
-        names_are = b.keeps.names_are;
-        live = live;
-        live_now = live_now;
-        live_kept = went_well live_kept;
-        recorded = there;
-        tells = b.opens.tells;
-        unused = b.opens.unused;
-        live_unused = b.new;
-        file = λ told now here here_now.
-            let h : Holds options.file there.history r.writer live_now.held = holds options.file live.held live_now.held there.history r.writer there.writer.wrote there.writer.begun (nothing_yet told here) in
-            placed_holds options.file told.names now.names out there.history r.writer live_now.held live_kept h ((all_placed told now here here_now).placed h.text h.is);
-        kept_are = refl;
-      }
-
-  all_unreported : ss_now ≡ ss → live_now ≡ live → Unreported out w0 w4 all_entries
-  all_unreported sources lives =
-      let back_are : ss ≡ back_sources ks = sym sources ∙ b.keeps.sources_are in
-      record {
-        inputs = (let first = unused_count_nothing ks (subst (Each (λ (s : SourceState). s.faults ≡ 0)) back_are b.opens.unused) in omega (arith, input_faults-append (map feed_entry ks) (store ∷ []), first));
-        outputs = omega (arith, output_faults-append (map feed_entry ks) (store ∷ []), sources_write_nothing ks, ap (λ (l : LiveState). l.faults) lives, b.new);
-        left = λ told here. each_both (LeftUnderName told) (map feed_entry ks) (store ∷ []) (left_all w0 told ks here (subst (λ (l : List SourceState). AllZip (TellsName w0) (feed_names_kept ks) l) back_are (subst (λ (l : List (List ℕ)). AllZip (TellsName w0) l ss) b.keeps.names_are b.opens.tells)))
-            (each_alone (LeftUnderName told) store (λ feed keeping is. let kind : kinds.Live ≡ kinds.Source = ap (λ (e : Opening). e.kind) is in absurd cc));
-        file = λ told now here here_now. placed_nothing told.names now.names out live_kept ((all_placed told now here here_now).placed [] (ap (λ (l : LiveState). l.held) lives ∙ nothing_yet told here));
-      }
-
-  all_given : (outcome : Outcome) → (report : Option Report) → outcome.report ≡ report → outcome.feeds_failed.items ≡ flags → outcome.out_failed ≡ failed_so (went_well live_kept) live_now.faults → (report ≡ None → (ss_now ≡ ss) × (live_now ≡ live))
-      → ((r : Report) → report ≡ Some r → Recorded options (sides ss live) (sides ss_now live_now) r) → NamesRecorded options out feeds w0 w4 outcome
-  all_given outcome None is flags_are out_is same made = let s = same refl in all_recorded outcome flags_are out_is (λ r here. absurd (none_some r (sym is ∙ here))) (λ none. all_unreported s.0 s.1)
-  all_given outcome (Some r) is flags_are out_is same made =
-      all_recorded outcome flags_are out_is (λ s here. subst (λ (x : Report). Reported options out feeds w0 w4 all_entries x) (same_Some r s (sym is ∙ here)) (all_reported r (made r refl))) (λ none. absurd (none_some r (sym none ∙ is)))
-
-  pub both : (outcome : Outcome) → outcome.feeds_failed.items ≡ flags → outcome.out_failed ≡ failed_so (went_well live_kept) live_now.faults → (outcome.report ≡ None → (ss_now ≡ ss) × (live_now ≡ live))
-      → ((r : Report) → outcome.report ≡ Some r → Recorded options (sides ss live) (sides ss_now live_now) r) → NamesRecorded options out feeds w0 w4 outcome
-  both outcome flags_are out_is same made = all_given outcome outcome.report refl flags_are out_is same made

@@ -9,10 +9,9 @@ use Rattle.mcap_model.specs.declared.refusals.ReadingRefused.TheVariants as refu
 use Rattle.command_base.specs.declared.statuses.Status.{Status}
 use Rattle.command_base.specs.declared.statuses.Status.TheVariants as statuses
 use Rattle.command_base.specs.OneFile.{refusal_ending, troubles_in}
-use Rattle.command_base.specs.Texts.{is_status, status_is_asked, status_of}
-use Rattle.command_base.proofs.Asking.{both_asked, halts_ask, none_halts, status_picks}
-use Rattle.command_base.specs.Endings.{all_halts}
-use Rattle.command_record.specs.Record.{end_troubles, refusal_status, end_status, ends_of, worst}
+use Rattle.command_base.specs.Texts.{is_status, status_is_asked}
+use Rattle.command_base.proofs.Asking.{halts_ask, none_halts}
+use Rattle.command_record.specs.Record.{end_troubles, refusal_status, end_status, ends_of}
 
 pub or_nothing : (a : Bool) → (a || false) ≡ a
 or_nothing true = refl
@@ -68,23 +67,6 @@ pub no_memory_asked : (reports : List FeedReport) → list_any (is_status status
 no_memory_asked reports = none_asks statuses.Memory reports (λ end. (ends_calmly end).1)
 
 -- ---- the status
-
--- together they ask for what each does
-ends_joined : (s : Status) (feeds : List (List ℕ)) (reports : List FeedReport) → is_status s statuses.Done ≡ false → length reports ≤ length feeds → status_is_asked (all_halts (ends_of feeds reports)) s ≡ list_any (is_status s) (asked_ends reports)
-ends_joined s [] [] undone few = refl
-ends_joined s [] (report ∷ reports) undone few = absurd (omega (arith, few))
-ends_joined s (feed ∷ feeds) [] undone few = refl
-ends_joined s (feed ∷ feeds) (report ∷ reports) undone few =
-    both_asked s (end_troubles feed report.end) (all_halts (ends_of feeds reports))
-    ∙ ap (λ (b : Bool). b || status_is_asked (all_halts (ends_of feeds reports)) s) (end_asks s feed report.end undone)
-    ∙ ap (λ (b : Bool). is_status s (end_status report.end) || b) (ends_joined s feeds reports undone (omega (arith, few)))
-
--- and give the worst of their statuses
-pub worst_joined : (feeds : List (List ℕ)) (reports : List FeedReport) → length reports ≤ length feeds → status_of (all_halts (ends_of feeds reports)) ≡ worst (asked_ends reports)
-worst_joined feeds reports few =
-    status_picks (all_halts (ends_of feeds reports)) false false (list_any (is_status statuses.Limit) (asked_ends reports)) (list_any (is_status statuses.Refused) (asked_ends reports))
-    (ends_joined statuses.Memory feeds reports refl few ∙ no_memory_asked reports) (ends_joined statuses.Fault feeds reports refl few ∙ no_fault_asked reports)
-    (ends_joined statuses.Limit feeds reports refl few) (ends_joined statuses.Refused feeds reports refl few)
 
 -- a want of memory is answered by that, and nothing else
 pub where_lacked : (lacked : Bool) (other answer : Status) → answer ≡ cond lacked statuses.Memory other → lacked ≡ true → answer ≡ statuses.Memory

@@ -3,9 +3,10 @@ use Rattle.std.proofs.Common.{◌≡◌, ◌⊎◌, ℕ, ◌^◌, ◌<◌, ◌�
 use Rattle.std.specs.List.{list_any, AllZip}
 use Rattle.std.proofs.lemmas.Bool.{both_ways, false_from_ne_true}
 use Rattle.std.proofs.lemmas.List.{length-map}
-use Rattle.mcap_io.specs.Outside.{WorldState, SinkState, Told, Opening, added}
+use Rattle.mcap_io.specs.Outside.{Rose, WorldState, SinkState, Told, Opening, added}
 use Rattle.mcap_model.specs.declared.replay.Range.{Range}
 use Rattle.mcap_model.specs.Places.{At, Each}
+use Rattle.mcap_model.proofs.Places.{at_within}
 use Rattle.mcap_model.specs.Kept.{Halt}
 use Rattle.mcap_model.specs.declared.options.RecordOptions.{RecordOptions}
 use Rattle.recorder.specs.declared.report.Report.{Report}
@@ -17,25 +18,26 @@ use Rattle.command_base.specs.Printing.{Takes}
 use Rattle.command_base.specs.declared.statuses.Status.{Status}
 use Rattle.command_base.specs.declared.statuses.Status.TheVariants as statuses
 use Rattle.command_base.specs.Texts.{halt_status}
-use Rattle.command_base.specs.Ran.{Scene, has_failed, input_faults, output_faults}
+use Rattle.command_base.specs.Ran.{Scene, has_failed, blamed_names, input_faults, output_faults}
 use Rattle.command_record.specs.declared.watched_names.WatchedOutcome.{WatchedOutcome}
 use Rattle.command_record.specs.declared.watched_answer.WatchedCounts.{WatchedCounts}
 use Rattle.command_record.specs.declared.watched_answer.WatchedFailures.{WatchedFailures}
 use Rattle.recorder.specs.Findings.{limit_passed, passes_limit, lacks_memory}
 use Rattle.command_record.specs.Record.{feed_entry, live_entry, reports_in, worst, report_text, FeedHalts}
-use Rattle.command_base.specs.Outputs.{some_failed}
+use Rattle.mcap_io.specs.declared.outside.ObjectKind.TheVariants as kinds
+use Rattle.command_base.specs.Outputs.{inputs_and_output, failed_of, some_failed}
 use Rattle.command_base.specs.OutputSteps.{flags_of}
 use Rattle.command_record.specs.Sinks.{SinkKept, sink_entry}
 use Rattle.command_record.specs.Watched.{named, requested, reported_with, CountsBeside, ReportedBeside, is_watch_fault, is_flaw}
 use Rattle.command_record.specs.WatchedSteps.{NamesWatched, some_flaw, watch_flags_of, blamed_in, AnyPartFailed, WatchedPartsShow, LacksMemoryBeside, AnswersBeside}
-use Rattle.command_record.specs.WatchedAnswer.{watched_counts_in, AnyCountRose, is_memory_watch, lacks_beside, LackIsToldBeside, BlamesExactly, ends_status_beside, EndsBeside, RecordsAllBeside, RecordsWatched}
+use Rattle.command_record.specs.WatchedAnswer.{watched_counts_in, AnyCountRose, is_memory_watch, lacks_beside, LackIsToldBeside, BlamesExactly, ends_status_beside, EndsBeside, RecordsAllBeside, Records}
 use Rattle.command_record.proofs.Runs.{input_faults-append, output_faults-append}
 use Rattle.command_base.proofs.BlamedNames.{flags_long}
 use Rattle.command_record.proofs.Flags.{every_caused}
-use Rattle.command_record.proofs.Parts.{shown_every, shown_some}
+use Rattle.command_record.proofs.Parts.{on_or_off, shown_same}
 use Rattle.command_record.proofs.Statuses.{where_lacked, where_enough}
 use Rattle.command_record.proofs.Whole.{Read, as_many, ends_decided, all_recorded, any_at, map_long, at_map, sources_write_nothing, unlimited, unlimited_status, limit_kept, undone_memory, undone_fault}
-use Rattle.command_record.proofs.WatchedFlags.{watch_flags_long, blamed_long, ShowingBeside}
+use Rattle.command_record.proofs.WatchedFlags.{watch_flags_long, blamed_long, counted_rose, rose_some, ShowingBeside}
 use Rattle.command_record.proofs.WatchedStatuses.{any_part, watched_status, worst_unflawed, none_flawed}
 
 -- ---- what was read
@@ -92,7 +94,7 @@ module _ (options : RecordOptions) (range : Range) (out : List ℕ) (watches fee
 
 -- ---- what failed
 
-module _ (before now : WatchedCounts) (watches feeds : List (List ℕ)) (outcome : WatchedOutcome) (failed : WatchedFailures) (many_watches : 1 ≤ length watches) (many : 1 ≤ length feeds) (shows : WatchedPartsShow before now watches feeds outcome failed) where
+module _ (before now : WatchedCounts) (watches feeds : List (List ℕ)) (outcome : WatchedOutcome) (failed : WatchedFailures) (many_watches : Rose before.watches now.watches → 1 ≤ length watches) (many : 1 ≤ length feeds) (shows : WatchedPartsShow before now watches feeds outcome failed) where
   feed_rose : (failed.parts.every_input ≡ true) ⊎ (some_failed failed.parts.inputs.now ≡ true) → AnyCountRose before now
   feed_rose some = elim (shows.causes.feed_cause (every_caused feeds failed.parts some many)) [ inl world ↦ inl (inl world) | inr inputs ↦ inl (inr (inl inputs)) ]
 
@@ -112,8 +114,11 @@ module _ (before now : WatchedCounts) (watches feeds : List (List ℕ)) (outcome
     | inl (inr (inl feed)) ↦ feed_rose (inr feed)
     | inl (inr (inr (inl own))) ↦ out_rose own
     | inl (inr (inr (inr own))) ↦ printing_rose own
-    | inr (inl every) ↦ watch_rose (shown_every watches failed.every_watch failed.watches.now many_watches every)
-    | inr (inr one) ↦ watch_rose (shown_some watches failed.every_watch failed.watches.now many_watches one)
+    | inr (inl every) ↦ inr (shows.every every)
+    | inr (inr one) ↦ elim (on_or_off failed.every_watch) [
+      | inl every ↦ inr (shows.every every)
+      | inr off ↦ watch_rose (ap some_failed (shown_same watches failed.every_watch failed.watches.now off) ∙ one)
+    ]
   ]
 
   lacks : (report : Option Report) (sealed : Bool) (reports : List WatchReport) (lacked : Bool) → LacksMemoryBeside report sealed reports failed lacked → LackIsToldBeside before now report sealed reports lacked
@@ -212,10 +217,10 @@ whole_or watch_ends.Memory no_fault no_flaw no_lack no_other = absurd (no_lack r
 module _ (options : RecordOptions) (range : Range) (out : List ℕ) (watches feeds : List (List ℕ)) (old new : Scene) (outcome : WatchedOutcome) (made : NamesWatched (requested options range out watches feeds) old.world new.world outcome)
     (inputs_fit : old.world.input_faults < 2 ^ 64) (outputs_fit : old.world.output_faults < 2 ^ 64) (lacked : Bool) (answer : Status) where
   abbrev before : WatchedCounts
-  before = watched_counts_in old
+  before = watched_counts_in watches old
 
   abbrev after : WatchedCounts
-  after = watched_counts_in new
+  after = watched_counts_in watches new
 
   module _ (report : Option Report) (here : outcome.report ≡ report) (lacking : LackIsToldBeside before after report outcome.sealed outcome.watches.items lacked) (came : EndsBeside before after report outcome.watches.items lacked answer) where
     decided_in : (r : Report) → report ≡ Some r → (told : Told) (halts : List Halt) → old.world.told ≡ Some told → AllZip (FeedHalts told) feeds halts
@@ -249,9 +254,12 @@ module _ (options : RecordOptions) (range : Range) (out : List ℕ) (watches fee
           sealed_is = none.1.0;
           whole = λ n w at.
               let seen = at_map (λ (x : Watch). x.report) it.seen n w (subst (λ (l : List WatchReport). At l n w) it.reports_are at) in
+              let within = at_within reports n w at in
+              let long = as_many_watches options range out watches feeds old.world new.world made.entries made.failures r outcome.sealed reports it in
+              let some : 1 ≤ length watches = omega (arith, within, long) in
               let same : w.end ≡ seen.0.report.end = ap (λ (x : WatchReport). x.end) seen.2 in
               whole_or w.end
-              (λ fault. elim (it.fault_cause n seen.0 seen.1 (ap is_watch_fault (sym same) ∙ fault)) [ inl outputs ↦ quiet (inl (inr (inr (inl outputs)))) | inr sinks ↦ quiet (inr sinks) ])
+              (λ fault. elim (it.fault_cause n seen.0 seen.1 (ap is_watch_fault (sym same) ∙ fault)) [ inl outputs ↦ quiet (inl (inr (inr (inl outputs)))) | inr sinks ↦ quiet (inr (counted_rose watches old.world.watch_faults new.world.watch_faults some sinks)) ])
               (λ flaw. both_ways (some_flaw reports) unflawed (any_at (λ (x : WatchReport). is_flaw x.end) reports n w at flaw))
               (λ lack. both_ways (list_any (λ (x : WatchReport). is_memory_watch x.end) reports) none.1.1 (any_at (λ (x : WatchReport). is_memory_watch x.end) reports n w at lack))
               (λ unsealed. it.sealed_ends none.1.0 n seen.0 seen.1 (sym same ∙ unsealed));
@@ -276,7 +284,7 @@ module _ (options : RecordOptions) (range : Range) (out : List ℕ) (watches fee
 
 -- which names are blamed
 blames : (options : RecordOptions) (range : Range) (out : List ℕ) (watches feeds : List (List ℕ)) (old new : Scene) (outcome : WatchedOutcome) (failed : WatchedFailures) → (made : NamesWatched (requested options range out watches feeds) old.world new.world outcome)
-    → WatchedPartsShow (watched_counts_in old) (watched_counts_in new) watches feeds outcome failed → ShowingBeside old.world new.world outcome → BlamesExactly old.world watches feeds made.entries outcome.watches.items (blamed_in watches feeds failed)
+    → WatchedPartsShow (watched_counts_in watches old) (watched_counts_in watches new) watches feeds outcome failed → ShowingBeside watches old.world new.world outcome → BlamesExactly old.world (named out watches feeds) made.entries outcome.watches.items (blamed_in watches feeds failed)
 blames options range out watches feeds old new outcome failed made shows showing = record {
   inputs = made.inputs;
   outputs = made.outputs;
@@ -289,16 +297,23 @@ blames options range out watches feeds old new outcome failed made shows showing
   few_watches = blamed_long watches failed (omega (arith, ap length (shows.watches_told ∙ made.watches_failed), watch_flags_long made.sinks outcome.watches.items, made.few_sinks));
   feeds_are = λ on. shows.feeds_are (showing.inputs_told on.seen.inputs) ∙ made.feeds_failed;
   out_is = λ on. shows.out_is (showing.outputs_told on.seen.outputs) (showing.world_told on.seen.world) ∙ made.out_failed;
-  watches_are = λ on. shows.watches_are (showing.watches_told on.watches) ∙ made.watches_failed;
+  watches_are = λ on. shows.watches_are (showing.watches_told on.watching) ∙ made.watches_failed;
+  named = λ on.
+      let first = shows.feeds_are (showing.inputs_told on.seen.inputs) in
+      let second = shows.out_is (showing.outputs_told on.seen.outputs) (showing.world_told on.seen.world) in
+      made.failed
+      ∙ ap (λ (l : List Bool). blamed_names (inputs_and_output kinds.Source feeds out) (failed_of l outcome.out_failed)) (sym first)
+      ∙ ap (λ (b : Bool). blamed_names (inputs_and_output kinds.Source feeds out) (failed_of (flags_of feeds failed.parts) b)) (sym second);
 }
 
 -- all that the program promises of a recording with watchers
-pub watched_recorded : (options : RecordOptions) (range : Range) (out : List ℕ) (watches feeds : List (List ℕ)) (old new : Scene) (outcome : WatchedOutcome) (failed : WatchedFailures) (answer : Status) → 1 ≤ length watches → 1 ≤ length feeds
-    → old.world.input_faults < 2 ^ 64 → old.world.output_faults < 2 ^ 64 → NamesWatched (requested options range out watches feeds) old.world new.world outcome → ShowingBeside old.world new.world outcome → Takes old.out new.out (report_text outcome.report)
-    → AnswersBeside (named out watches feeds) outcome failed old.err new.err answer → WatchedPartsShow (watched_counts_in old) (watched_counts_in new) watches feeds outcome failed → RecordsWatched (requested options range out watches feeds) old new outcome.report answer
-watched_recorded options range out watches feeds old new outcome failed answer many_watches many inputs_fit outputs_fit made showing prints a shows =
-    let before = watched_counts_in old in
-    let now = watched_counts_in new in
+pub watched_recorded : (options : RecordOptions) (range : Range) (out : List ℕ) (watches feeds : List (List ℕ)) (old new : Scene) (outcome : WatchedOutcome) (failed : WatchedFailures) (answer : Status) → 1 ≤ length feeds
+    → old.world.input_faults < 2 ^ 64 → old.world.output_faults < 2 ^ 64 → NamesWatched (requested options range out watches feeds) old.world new.world outcome → ShowingBeside watches old.world new.world outcome → Takes old.out new.out (report_text outcome.report)
+    → AnswersBeside (named out watches feeds) outcome failed old.err new.err answer → WatchedPartsShow (watched_counts_in watches old) (watched_counts_in watches new) watches feeds outcome failed → Records (requested options range out watches feeds) old new outcome.report answer
+watched_recorded options range out watches feeds old new outcome failed answer many inputs_fit outputs_fit made showing prints a shows =
+    let before = watched_counts_in watches old in
+    let now = watched_counts_in watches new in
+    let many_watches = rose_some watches old.world.watch_faults new.world.watch_faults in
     let exact = blames options range out watches feeds old new outcome failed made shows showing in
     let few = few_reports options range out watches feeds old.world new.world outcome made inputs_fit outputs_fit outcome.report refl in
     let few_ends = few_watched options range out watches feeds old.world new.world outcome made inputs_fit outputs_fit outcome.report refl in
@@ -337,3 +352,6 @@ watched_shows_in b before n now watches feeds outcome failed same same_now shows
 
 pub watched_counts_same : (P : WatchedCounts → WatchedCounts → Type 0) (b before n now : WatchedCounts) → b ≡ before → n ≡ now → P before now → P b n
 watched_counts_same P b before n now same same_now holds = subst (λ (x : WatchedCounts). P x n) (sym same) (subst (P before) (sym same_now) holds)
+
+pub some_counted : (b before n now : WatchedCounts) (watches : List (List ℕ)) → b ≡ before → n ≡ now → (Rose before.watches now.watches → 1 ≤ length watches) → Rose b.watches n.watches → 1 ≤ length watches
+some_counted b before n now watches same same_now some = watched_counts_same (λ (x y : WatchedCounts). Rose x.watches y.watches → 1 ≤ length watches) b before n now same same_now some

@@ -13,6 +13,7 @@ use Rattle.command_record.specs.declared.watched_names.WatchedOutcome.{WatchedOu
 use Rattle.command_record.specs.declared.watched_answer.WatchedFailures.{WatchedFailures}
 use Rattle.command_base.specs.Outputs.{some_failed}
 use Rattle.command_record.specs.Watched.{requested, with_ends, watch_flags, is_watch_fault}
+use Rattle.command_record.specs.WatchedAnswer.{counted_watches}
 use Rattle.command_record.specs.WatchedSteps.{NamesWatched, watch_flags_of}
 use Rattle.command_record.proofs.Runs.{world_faults-append, input_faults-append, output_faults-append}
 use Rattle.command_record.proofs.Flags.{AreKind, rest_kind, long_of, some_has_input, some_has_output, world_has, inputs_have, outputs_have, stores_read_nothing, feeds_write_nothing, any_flag, some_more}
@@ -62,19 +63,42 @@ watch_flags_long xs reports = flags_long_with (map has_failed xs) reports ∙ le
 pub blamed_long : (watches : List (List ℕ)) (failed : WatchedFailures) → length failed.watches.now ≤ length watches → length (watch_flags_of watches failed) ≤ length watches
 blamed_long watches failed few = long_of watches failed.every_watch failed.watches.now few
 
+-- some watcher is blamed only where there are some
+pub some_sinks : (xs : List Opening) (reports : List WatchReport) → some_failed (watch_flags xs reports) ≡ true → (n : ℕ) → length xs ≤ n → 1 ≤ n
+some_sinks [] reports some n few = absurd cc
+some_sinks (x ∷ xs) reports some n few = omega (arith, few)
+
+-- ---- the count of watchers' sinks and views
+
+pub counted_rose : (watches : List (List ℕ)) (old new : ℕ) → 1 ≤ length watches → Rose old new → Rose (counted_watches watches old) (counted_watches watches new)
+counted_rose [] old new some rose = absurd (omega (arith, some))
+counted_rose (w ∷ ws) old new some rose = rose
+
+pub rose_counted : (watches : List (List ℕ)) (old new : ℕ) → Rose (counted_watches watches old) (counted_watches watches new) → Rose old new
+rose_counted [] old new rose = absurd (omega (arith, rose))
+rose_counted (w ∷ ws) old new rose = rose
+
+pub rose_some : (watches : List (List ℕ)) (old new : ℕ) → Rose (counted_watches watches old) (counted_watches watches new) → 1 ≤ length watches
+rose_some [] old new rose = absurd (omega (arith, rose))
+rose_some (w ∷ ws) old new rose = omega arith
+
+count_on : (watches : List (List ℕ)) (old new : ℕ) → counted_watches watches old < 2 ^ 64 - 1 → Rose (counted_watches watches old) (counted_watches watches new) → old < 2 ^ 64 - 1
+count_on [] old new on rose = absurd (omega (arith, rose))
+count_on (w ∷ ws) old new on rose = on
+
 -- ---- the whole
 
-pub record ShowingBeside (old new : WorldState) (outcome : WatchedOutcome) : Type 0 where
+pub record ShowingBeside (watches : List (List ℕ)) (old new : WorldState) (outcome : WatchedOutcome) : Type 0 where
   pub feed_cause : some_failed outcome.feeds_failed.items ≡ true → Rose old.faults new.faults ⊎ Rose old.input_faults new.input_faults
   pub out_cause : outcome.out_failed ≡ true → Rose old.faults new.faults ⊎ Rose old.output_faults new.output_faults
-  pub watch_cause : some_failed outcome.watches_failed.items ≡ true → Rose old.faults new.faults ⊎ (Rose old.output_faults new.output_faults ⊎ Rose old.watch_faults new.watch_faults)
+  pub watch_cause : some_failed outcome.watches_failed.items ≡ true → Rose old.faults new.faults ⊎ (Rose old.output_faults new.output_faults ⊎ Rose (counted_watches watches old.watch_faults) (counted_watches watches new.watch_faults))
   pub inputs_told : old.input_faults < 2 ^ 64 - 1 → Rose old.input_faults new.input_faults → some_failed outcome.feeds_failed.items ≡ true
   pub outputs_told : old.output_faults < 2 ^ 64 - 1 → Rose old.output_faults new.output_faults → outcome.out_failed ≡ true
-  pub watches_told : old.watch_faults < 2 ^ 64 - 1 → Rose old.watch_faults new.watch_faults → some_failed outcome.watches_failed.items ≡ true
+  pub watches_told : counted_watches watches old.watch_faults < 2 ^ 64 - 1 → Rose (counted_watches watches old.watch_faults) (counted_watches watches new.watch_faults) → some_failed outcome.watches_failed.items ≡ true
   pub world_told : old.faults < 2 ^ 64 - 1 → Rose old.faults new.faults → (some_failed outcome.feeds_failed.items ≡ true) ⊎ ((outcome.out_failed ≡ true) ⊎ (some_failed outcome.watches_failed.items ≡ true))
 
 pub watched_outcomes_show : (options : RecordOptions) (range : Range) (out : List ℕ) (watches feeds : List (List ℕ)) (old new : WorldState) (outcome : WatchedOutcome) → NamesWatched (requested options range out watches feeds) old new outcome
-    → old.faults < 2 ^ 64 → old.input_faults < 2 ^ 64 → old.output_faults < 2 ^ 64 → ShowingBeside old new outcome
+    → old.faults < 2 ^ 64 → old.input_faults < 2 ^ 64 → old.output_faults < 2 ^ 64 → ShowingBeside watches old new outcome
 watched_outcomes_show options range out watches feeds old new outcome made world_fits inputs_fit outputs_fit =
     let behind = made.outputs ++ made.sinks in
     let world : world_faults made.entries ≡ world_faults made.inputs + (world_faults made.outputs + world_faults made.sinks) =
@@ -97,10 +121,14 @@ watched_outcomes_show options range out watches feeds old new outcome made world
         | inl some ↦ inl (omega (arith, made.counts.kept.world, world, some, world_fits))
         | inr some ↦ inr (omega (arith, made.counts.kept.outputs, outputs, some, outputs_fit))
       ];
-      watch_cause = made.watch_cause;
+      watch_cause = λ is. elim (made.watch_cause is) [
+        | inl risen ↦ inl risen
+        | inr (inl outputs_rose) ↦ inr (inl outputs_rose)
+        | inr (inr sinks_rose) ↦ inr (inr (counted_rose watches old.watch_faults new.watch_faults (some_sinks made.sinks outcome.watches.items (ap some_failed (sym made.watches_failed) ∙ is) (length watches) made.few_sinks) sinks_rose))
+      ];
       inputs_told = λ on rose. flags ∙ inputs_have made.inputs made.sources (omega (arith, on, made.counts.kept.inputs, inputs, no_inputs, no_reads, rose));
       outputs_told = λ on rose. made.out_failed ∙ outputs_have made.outputs made.stores (omega (arith, on, made.counts.kept.outputs, outputs, no_outputs, no_holds, rose));
-      watches_told = made.watch_told;
+      watches_told = λ on rose. made.watch_told (count_on watches old.watch_faults new.watch_faults on rose) (rose_counted watches old.watch_faults new.watch_faults rose);
       world_told = λ on rose. elim (some_more (world_faults made.inputs) (world_faults made.outputs + world_faults made.sinks) (omega (arith, on, made.counts.kept.world, world, rose))) [
         | inl some ↦ inl (flags ∙ world_has made.inputs some)
         | inr some ↦ elim (some_more (world_faults made.outputs) (world_faults made.sinks) some) [

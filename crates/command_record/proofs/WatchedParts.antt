@@ -8,7 +8,7 @@ use Rattle.command_record.specs.declared.watched_answer.WatchedFailures.{Watched
 use Rattle.command_record.specs.declared.watched_names.WatchedOutcome.{WatchedOutcome}
 use Rattle.command_base.specs.Outputs.{some_failed}
 use Rattle.command_record.specs.WatchedSteps.{WatchedPartsShow}
-use Rattle.command_record.proofs.Parts.{but, on_or_off, but_both, but_first, but_second, three, three_second, three_third, three_which, three_none, shown_every, shown_some, shown_which, shown_same}
+use Rattle.command_record.proofs.Parts.{but, on_or_off, but_both, but_first, but_second, three, three_second, three_third, three_which, three_none, shown, shown_every, shown_some, shown_which, shown_same}
 
 -- so every name is blamed, or none that the recording didn't tell of
 every_off : (rose some every shown : Bool) → every ≡ but rose some → some ≡ shown → (rose ≡ true → shown ≡ true) → every ≡ false
@@ -27,7 +27,7 @@ which_of true b both is on = inl refl
 which_of false b both is on = inr (sym is ∙ on)
 
 -- what the parts are, from what the counts and the outcome say
-pub watched_parts_show : (before now : WatchedCounts) (watches feeds : List (List ℕ)) (outcome : WatchedOutcome) (failed : WatchedFailures) (some some_watch told world inputs outputs sinks : Bool) → 1 ≤ length watches → 1 ≤ length feeds
+pub watched_parts_show : (before now : WatchedCounts) (watches feeds : List (List ℕ)) (outcome : WatchedOutcome) (failed : WatchedFailures) (some some_watch told world inputs outputs sinks : Bool) → (Rose before.watches now.watches → 1 ≤ length watches) → 1 ≤ length feeds
     → some ≡ some_failed outcome.feeds_failed.items → some_watch ≡ some_failed outcome.watches_failed.items → told ≡ (some || some_watch)
     → ((world ≡ true) ↔ Rose before.seen.world now.seen.world) → ((inputs ≡ true) ↔ Rose before.seen.inputs now.seen.inputs) → ((outputs ≡ true) ↔ Rose before.seen.outputs now.seen.outputs) → ((sinks ≡ true) ↔ Rose before.watches now.watches)
     → ((failed.parts.printing ≡ true) ↔ Rose before.seen.printing now.seen.printing)
@@ -48,6 +48,11 @@ watched_parts_show before now watches feeds outcome failed some some_watch told 
       | inl yes_it ↦ elim (which_of some some_watch told told_is yes_it) [ inl feed ↦ inl feed | inr watch ↦ inr (inr watch) ]
       | inr off ↦ inr (inl (three_third outcome.out_failed outputs (but world told) out out_is (but_both world told (but world told) refl on off)))
     ] in
+    let every_rose : failed.every_watch ≡ true → Rose before.watches now.watches = λ all. is_sinks.0 (but_first sinks some_watch failed.every_watch every_watch_is all) in
+    let blames : some_failed failed.watches.now ≡ true → some_failed (shown watches failed.every_watch failed.watches.now) ≡ true = λ one. elim (on_or_off failed.every_watch) [
+      | inl all ↦ shown_every watches failed.every_watch failed.watches.now (many_watches (every_rose all)) all
+      | inr off ↦ ap some_failed (shown_same watches failed.every_watch failed.watches.now off) ∙ one
+    ] in
     let outputs_on : outputs ≡ true → out ≡ true = λ on. three_second outcome.out_failed outputs (but world told) out out_is on in
     record {
       causes = record {
@@ -61,19 +66,19 @@ watched_parts_show before now watches feeds outcome failed some some_watch told 
           | inr (inr left) ↦ inl (is_world.0 (but_first world told (but world told) refl left))
         ];
         watch_cause = λ on. elim (shown_which watches failed.every_watch failed.watches.now on) [
-          | inl all ↦ inr (inr (is_sinks.0 (but_first sinks some_watch failed.every_watch every_watch_is all)))
+          | inl all ↦ inr (inr (every_rose all))
           | inr one ↦ watch_cause (sym watch_is ∙ sym same_watch ∙ one)
         ];
         inputs_told = λ rose. elim (inputs_on (is_inputs.1 rose)) [ inl all ↦ shown_every feeds every flags many all | inr one ↦ shown_some feeds every flags many (same_some ∙ one) ];
         outputs_told = λ rose. outputs_on (is_outputs.1 rose);
         watches_told = λ rose. elim (sinks_on (is_sinks.1 rose)) [
-          | inl all ↦ shown_every watches failed.every_watch failed.watches.now many_watches all
-          | inr one ↦ shown_some watches failed.every_watch failed.watches.now many_watches (same_watch ∙ one)
+          | inl all ↦ shown_every watches failed.every_watch failed.watches.now (many_watches rose) all
+          | inr one ↦ blames (same_watch ∙ one)
         ];
         world_told = λ rose. elim (world_on (is_world.1 rose)) [
           | inl one ↦ inl (shown_some feeds every flags many (same_some ∙ one))
           | inr (inl it) ↦ inr (inl it)
-          | inr (inr one) ↦ inr (inr (shown_some watches failed.every_watch failed.watches.now many_watches (same_watch ∙ one)))
+          | inr (inr one) ↦ inr (inr (blames (same_watch ∙ one)))
         ];
       };
       printing = is_printing;
@@ -88,6 +93,7 @@ watched_parts_show before now watches feeds outcome failed some some_watch told 
         | inl (inr (inr (inr rose))) ↦ inl (inr (inr (inr (is_printing.1 rose))))
         | inr rose ↦ elim (sinks_on (is_sinks.1 rose)) [ inl all ↦ inr (inl all) | inr one ↦ inr (inr (same_watch ∙ one)) ]
       ];
+      every = every_rose;
       feeds_told = feeds_told;
       watches_told = watches_told;
       feeds_are = λ shows. shown_same feeds every flags (every_off inputs some every (some_failed outcome.feeds_failed.items) every_is some_is (λ on. shows (is_inputs.0 on))) ∙ feeds_told;

@@ -32,17 +32,16 @@ use Rattle.command_words.specs.Commands.{NamesDiffer}
 use Rattle.command_base.specs.Ran.{Wanted, wanted, has_failed, failed_so, failed_names, named_when, object_faults, output_faults, world_faults, AreOpened, IsGivenLive}
 use Rattle.command_base.proofs.Counting.{not_risen}
 use Rattle.command_base.specs.Outputs.{inputs_and_output, some_failed, LeftUnderName}
-use Rattle.command_record.specs.declared.answering.Outcome.{Outcome}
 use Rattle.command_record.specs.declared.watched_names.WatchedOutcome.{WatchedOutcome}
 use Rattle.command_record.specs.Record.{FeedKept, feed_entry, feed_names_kept, back_sources}
-use Rattle.command_record.specs.RecordSteps.{NamesRecorded}
-use Rattle.command_record.specs.Sources.{feed_flags_with}
+use Rattle.command_base.specs.InputsSteps.{flags_with}
 use Rattle.command_record.specs.Sinks.{SinkKept, sink_entry, sink_names, back_sinks, sink_faults, watch_faults}
 use Rattle.command_record.specs.Watched.{requested, reported_with, wanted_names, IsWrittenBeside, EndsSo, view_faults, is_flaw, IsWatchedAlone, with_ends, watch_flags, ReportedBeside, UnreportedBeside}
 use Rattle.command_record.specs.WatchedSteps.{NamesWatched}
+use Rattle.command_record.proofs.Sources.{feeds_tell, feeds_unused}
 use Rattle.command_record.proofs.Held.{Holds, holds, placed_holds, placed_nothing}
 use Rattle.command_record.proofs.Flags.{some_more, AreKind, rest_kind}
-use Rattle.command_record.proofs.Runs.{world_faults-append, input_faults-append, output_faults-append, sources_write_nothing, unused_count_nothing, each_both, each_none, each_alone, are_sources, left_all, opened_all, none_some, map_kept, names_same, or_nothing, has_there, refusal_of}
+use Rattle.command_record.proofs.Runs.{NamesUnrecorded, world_faults-append, input_faults-append, output_faults-append, sources_write_nothing, unused_count_nothing, each_both, each_none, each_alone, are_sources, left_all, opened_all, none_some, map_kept, names_same, or_nothing, has_there, refusal_of}
 use Rattle.command_record.proofs.Beside.{watch_faults-append, sinks_read_nothing, sinks_write_nothing, feeds_watch_nothing, unused_sinks_count, are_sinks, opened_sinks, names_once, out_apart, AllSeen, seen_feeds, seen_sinks, store, sinks_behind, seen_entries, told_since, names_since, nothing_yet, sinks_yet, world_since, inputs_since, outputs_since, watches_since}
 use Rattle.command_record.proofs.Alone.{watched_alone}
 use Rattle.command_record.proofs.WatchEnds.{ended_so, ends_nothing, ends_why, ends_first, ends_second, some_has_sink, sinks_have, sinks_total, sinks_watched, fault_shows, faults_show, views_told, views_hold, asked_for, ended, unflawed}
@@ -79,13 +78,10 @@ watch_nothing kind (x ∷ xs) none are =
     let first : sink_faults x.kind (object_faults x.kept) ≡ 0 = ap (λ (k : ObjectKind). sink_faults k (object_faults x.kept)) (are 0 x refl) ∙ none (object_faults x.kept) in
     omega (arith, more, first)
 
--- the outcome of a recording without watchers
-abbrev pub alone : WatchedOutcome → Outcome
-alone outcome = record { report = None; feeds_failed = outcome.feeds_failed; out_failed = outcome.out_failed }
-
-pub unreached : (options : RecordOptions) (range : Range) (out : List ℕ) (watches feeds : List (List ℕ)) (w0 w3 : WorldState) (outcome : WatchedOutcome) → NamesDiffer out watches → NamesRecorded options out feeds w0 w3 (alone outcome)
-    → w3.watch_faults ≡ w0.watch_faults → w0.watch_faults < 2 ^ 64 → outcome.report ≡ None → outcome.watches.items ≡ [] → outcome.watches_failed.items ≡ [] → NamesWatched (requested options range out watches feeds) w0 w3 outcome
-unreached options range out watches feeds w0 w3 outcome apart made still fits none no_reports no_flags =
+-- where the output or a feed wasn't given, no watch file was reached
+pub unreached : (options : RecordOptions) (range : Range) (out : List ℕ) (watches feeds : List (List ℕ)) (w0 w3 : WorldState) (outcome : WatchedOutcome) → NamesDiffer out watches → NamesUnrecorded out feeds w0 w3 outcome
+    → w3.watch_faults ≡ w0.watch_faults → w0.watch_faults < 2 ^ 64 → outcome.watches.items ≡ [] → outcome.watches_failed.items ≡ [] → NamesWatched (requested options range out watches feeds) w0 w3 outcome
+unreached options range out watches feeds w0 w3 outcome apart made still fits no_reports no_flags =
     let first = watch_nothing kinds.Source made.inputs (λ n. refl) made.sources in
     let second = watch_nothing kinds.Live made.outputs (λ n. refl) made.stores in
     let no_faults : watch_faults made.entries ≡ 0 = omega (arith, ap watch_faults made.parts, watch_faults-append made.inputs made.outputs, first, second) in
@@ -97,9 +93,9 @@ unreached options range out watches feeds w0 w3 outcome apart made still fits no
       leaves = λ told here. let l = made.leaves told here in (l.0, l.1, l.2, λ name unwritten. l.3 name (λ is. unwritten (record { entry = is.entry; there = is.there; written = inl is.live; given = is.given; named = is.named })));
       failures = 0;
       counts = record { kept = made.counts; watches = omega (arith, still, fits, no_faults) };
-      reported = λ r here. absurd (none_some r (sym none ∙ here));
+      reported = λ r here. absurd (none_some r (sym made.none ∙ here));
       unreported = λ is. record {
-        same = made.unreported refl;
+        same = made.unreported;
         sinks = no_faults;
         views = refl;
         watch_files = λ told now here here_now n name at.
@@ -183,7 +179,7 @@ refused_names : (why : OutsideRefused) (name : List ℕ) (cut : List (List ℕ))
 refused_names outside_refusals.Failed name cut = refl
 refused_names outside_refusals.Memory name cut = refl
 
-refused_flags : (flags : List Bool) (why : OutsideRefused) (failed : Bool) (name : List ℕ) → (failed ≡ true → why ≡ outside_refusals.Failed) → (failed ≡ false → why ≡ outside_refusals.Memory) → feed_flags_with flags failed ≡ flags ++ map has_failed (refusal_of kinds.Sink name why)
+refused_flags : (flags : List Bool) (why : OutsideRefused) (failed : Bool) (name : List ℕ) → (failed ≡ true → why ≡ outside_refusals.Failed) → (failed ≡ false → why ≡ outside_refusals.Memory) → flags_with flags failed ≡ flags ++ map has_failed (refusal_of kinds.Sink name why)
 refused_flags flags outside_refusals.Failed true name a b = refl
 refused_flags flags outside_refusals.Failed false name a b = absurd (let e = b refl in cc)
 refused_flags flags outside_refusals.Memory true name a b = absurd (let e = a refl in cc)
@@ -218,6 +214,19 @@ unsealed_so true seal ks sealed some none = elim (sealed refl) [
   | inl is ↦ absurd (some is)
   | inr there ↦ not_some _ seal there none
 ]
+
+-- without watchers none is told as unsealed
+sealed_for_none : {X : Type 0} (s : Bool) (seal : Option X) (ks : List SinkState) → (s ≡ false → (ks ≡ [] → ⊥) × (seal ≡ None)) → ks ≡ [] → s ≡ true
+sealed_for_none true seal ks unsealed none = refl
+sealed_for_none false seal ks unsealed none = absurd ((unsealed refl).0 none)
+
+none_named : (watches names more : List (List ℕ)) → watches ≡ names ++ more → watches ≡ [] → names ≡ []
+none_named watches [] more split none = refl
+none_named watches (name ∷ names) more split none = absurd (let same : name ∷ names ++ more ≡ [] = sym split ∙ none in cc)
+
+none_given : (names : List (List ℕ)) (ks : List SinkState) → names ≡ [] → length ks ≡ length names → ks ≡ []
+none_given names [] none many = refl
+none_given names (k ∷ ks) none many = absurd (let long = ap length none in omega (arith, many, long))
 
 before_some : (ws : List Watch) (n : ℕ) (w : Watch) → At ws n w → map (λ (x : Watch). x.before) ws ≡ [] → ⊥
 before_some [] n w at is = at_none n w at
@@ -309,7 +318,7 @@ module _ (options : RecordOptions) (range : Range) (out : List ℕ) (watches fee
         reported = reported;
         unreported = unreported;
         none = none;
-        spares = λ told now here here_now feed has missing. has_there b.w0 told feeds b.ss has.0 feed (now.names out ≡ told.names out) here b.opens.feeds_opened.tells has.1 missing;
+        spares = λ told now here here_now feed has missing. has_there b.w0 told feeds b.ss has.0 feed (now.names out ≡ told.names out) here (feeds_tell b.w0 b.opens.between feeds b.ss b.opens.feeds_opened) has.1 missing;
         inputs = map feed_entry fs;
         outputs = file ∷ [];
         sinks = behind;
@@ -337,15 +346,15 @@ module _ (options : RecordOptions) (range : Range) (out : List ℕ) (watches fee
 
   seen_unreported : b.ss_now ≡ b.ss → b.live_now ≡ b.live → b.ks_now ≡ b.ks → sum b.views ≡ 0 → UnreportedBeside out watches b.w0 b.w8 all (sum b.views)
   seen_unreported sources lives sinks_same no_views =
-      let back_are : b.ss ≡ back_sources fs = sym sources ∙ b.keeps.sources_are in
+      let back_are : b.ss ≡ back_sources fs = sym sources ∙ b.keeps.backs_are in
       let back_sinks_are : b.ks ≡ back_sinks sinks = sym sinks_same ∙ b.keeps_sinks.sinks_are in
-      let no_inputs = unused_count_nothing fs (subst (Each (λ (s : SourceState). s.faults ≡ 0)) back_are b.opens.feeds_opened.unused) in
+      let no_inputs = unused_count_nothing fs (subst (Each (λ (s : SourceState). s.faults ≡ 0)) back_are (feeds_unused b.w0 b.opens.between feeds b.ss b.opens.feeds_opened)) in
       let no_faults = unused_sinks_count sinks (subst (Each (λ (s : SinkState). s.faults ≡ 0)) back_sinks_are b.opens_sinks.unused) in
       record {
         same = record {
           inputs = omega (arith, input_faults-append (map feed_entry fs) (file ∷ behind), input_faults-append (map sink_entry sinks) b.behind, no_inputs, sinks_read_nothing sinks, b.refuses.inputs);
           outputs = omega (arith, output_faults-append (map feed_entry fs) (file ∷ behind), output_faults-append (map sink_entry sinks) b.behind, sources_write_nothing fs, sinks_write_nothing sinks, b.refuses.outputs, ap (λ (l : LiveState). l.faults) lives, b.opens.unused);
-          left = λ told here. each_both (LeftUnderName told) (map feed_entry fs) (file ∷ behind) (left_all b.w0 told fs here (subst (λ (l : List SourceState). AllZip (TellsName b.w0) (feed_names_kept fs) l) back_are (subst (λ (l : List (List ℕ)). AllZip (TellsName b.w0) l b.ss) b.keeps.names_are b.opens.feeds_opened.tells)))
+          left = λ told here. each_both (LeftUnderName told) (map feed_entry fs) (file ∷ behind) (left_all b.w0 told fs here (subst (λ (l : List SourceState). AllZip (TellsName b.w0) (feed_names_kept fs) l) back_are (subst (λ (l : List (List ℕ)). AllZip (TellsName b.w0) l b.ss) b.keeps.names_are (feeds_tell b.w0 b.opens.between feeds b.ss b.opens.feeds_opened))))
               (not_left told (file ∷ behind) (each_cons (λ (e : Opening). e.kind ≡ kinds.Source → ⊥) file behind (λ kind. absurd (let other : kinds.Live ≡ kinds.Source = kind in cc)) (sinks_other behind writers_are)));
           file = λ told now here here_now. placed_nothing told.names now.names out b.live_kept ((names_since out feeds names b told now here here_now).output [] (ap (λ (l : LiveState). l.held) lives ∙ nothing_yet out feeds names b told here));
         };
@@ -412,10 +421,10 @@ module _ (options : RecordOptions) (range : Range) (out : List ℕ) (watches fee
 
   pub sink_refused_so : (outcome : WatchedOutcome) (name : List ℕ) (cut : List (List ℕ)) (why : OutsideRefused) (failed : Bool) → more ≡ name ∷ cut → b.behind ≡ refusal_of kinds.Sink name why → (failed ≡ true → why ≡ outside_refusals.Failed) → (failed ≡ false → why ≡ outside_refusals.Memory)
       → b.ss_now ≡ b.ss → b.live_now ≡ b.live → b.ks_now ≡ b.ks → sum b.views ≡ 0
-      → outcome.report ≡ None → outcome.watches.items ≡ [] → outcome.feeds_failed.items ≡ b.flags → outcome.out_failed ≡ failed_so (went_well b.live_kept) b.live_now.faults → outcome.watches_failed.items ≡ feed_flags_with b.sink_flags failed
+      → outcome.report ≡ None → outcome.watches.items ≡ [] → outcome.feeds_failed.items ≡ b.flags → outcome.out_failed ≡ failed_so (went_well b.live_kept) b.live_now.faults → outcome.watches_failed.items ≡ flags_with b.sink_flags failed
       → NamesWatched (requested options range out watches feeds) b.w0 b.w8 outcome
   sink_refused_so outcome name cut why failed more_is behind_is is_failed is_memory sources lives sinks_same no_views none no_reports flags_are out_is watch_flags_are =
-      let refusal : feed_flags_with b.sink_flags failed ≡ b.sink_flags ++ map has_failed b.behind = refused_flags b.sink_flags why failed name is_failed is_memory ∙ ap (λ (l : List Opening). b.sink_flags ++ map has_failed l) (sym behind_is) in
+      let refusal : flags_with b.sink_flags failed ≡ b.sink_flags ++ map has_failed b.behind = refused_flags b.sink_flags why failed name is_failed is_memory ∙ ap (λ (l : List Opening). b.sink_flags ++ map has_failed l) (sym behind_is) in
       let all_flags : outcome.watches_failed.items ≡ watch_flags behind outcome.watches.items =
       watch_flags_are ∙ refusal ∙ sym flags_behind ∙ sym (ends_nothing (map has_failed behind)) ∙ ap (λ (l : List WatchReport). watch_flags behind l) (sym no_reports) in
       seen_watched outcome flags_are out_is all_flags
@@ -469,7 +478,7 @@ module _ (options : RecordOptions) (range : Range) (out : List ℕ) (watches fee
       → ((told : Told) → b.w0.told ≡ Some told → AreReadable options.file → sealed ≡ true → Each (IsWatchedFile options.file range it.recorded.recorded.history r.writer) it.watches)
       → ReportedBeside (requested options range out watches feeds) b.w0 b.w8 all (sum b.views) (reported_with r sealed reports)
   seen_reported tells r reports sealed it whole none texts =
-      let there = moved options (sides b.ss it.viewed) b.ss_now (back_sources fs) b.live_now r b.keeps.sources_are it.recorded.recorded in
+      let there = moved options (sides b.ss it.viewed) b.ss_now (back_sources fs) b.live_now r b.keeps.backs_are it.recorded.recorded in
       let ends = ends_are tells r reports sealed it in
       let total = totals_are tells r reports sealed it in
       let faults : watch_faults all ≡ watch_faults (map feed_entry fs) + (watch_faults (map sink_entry sinks) + watch_faults b.behind) = omega (arith, watch_faults-append (map feed_entry fs) (file ∷ behind), watch_faults-append (map sink_entry sinks) b.behind) in
@@ -482,8 +491,8 @@ module _ (options : RecordOptions) (range : Range) (out : List ℕ) (watches fee
         live_now = b.live_now;
         live_kept = went_well b.live_kept;
         recorded = there;
-        tells = b.opens.feeds_opened.tells;
-        unused = b.opens.feeds_opened.unused;
+        tells = (feeds_tell b.w0 b.opens.between feeds b.ss b.opens.feeds_opened);
+        unused = (feeds_unused b.w0 b.opens.between feeds b.ss b.opens.feeds_opened);
         live_unused = b.opens.unused;
         kept_sinks = sinks;
         watches_are = watches_split ∙ ap (λ (l : List (List ℕ)). sink_names sinks ++ l) whole ∙ append-nil (sink_names sinks);
@@ -495,6 +504,7 @@ module _ (options : RecordOptions) (range : Range) (out : List ℕ) (watches fee
         sinks_unused = unused_before tells r reports sealed it;
         sinks_empty = λ told here. each_of (λ (w : Watch). w.before) (λ (s : SinkState). s.took ≡ Some []) it.watches (subst (Each (λ (s : SinkState). s.took ≡ Some [])) it.are.before_are (sinks_yet out feeds names b told here));
         ends = ends;
+        unwatched = λ none. sealed_for_none sealed it.note b.ks it.unsealed (none_given names b.ks (none_named watches names more split none) b.opens_sinks.many);
         sealed_ends = λ is n w at un. sealed_so b.live it.viewed sealed w w.report.end (ends n w at) is un;
         fault_cause = λ n w at is. elim (fault_shows b.live it.viewed sealed it.watches (unused_before tells r reports sealed it) ends n w at is) [
           | inl viewed ↦ inl (omega (arith, store_rose tells r reports sealed it viewed, outputs_since out feeds names b, output_faults-append (map feed_entry fs) (file ∷ behind), b.opens.fits.outputs))
@@ -570,13 +580,21 @@ module _ (options : RecordOptions) (range : Range) (out : List ℕ) (watches fee
       (why_reported tells r outcome.sealed outcome it flags)
       (tells_reported tells r outcome.sealed outcome it flags none)
 
+  -- a file without chunks has no watchers
+  texts_by : {X : Type 0} (tells : X → Option (List ℕ)) (r : Report) (reports : List WatchReport) (sealed : Bool) (it : Watched tells r reports sealed) → (options.file.chunk ≡ None → watches ≡ []) → WatchFilesAreTold tells
+      → (chunk : Option ℕ) → options.file.chunk ≡ chunk → (told : Told) → b.w0.told ≡ Some told → AreReadable options.file → sealed ≡ true → Each (IsWatchedFile options.file range it.recorded.recorded.history r.writer) it.watches
+  texts_by tells r reports sealed it plain law None is told there readable seal n w at =
+      absurd (before_some it.watches n w at (sym it.are.before_are ∙ none_given names b.ks (none_named watches names more split (plain is)) b.opens_sinks.many))
+  texts_by tells r reports sealed it plain law (Some size) is told there readable seal n w at =
+      law options range (sides b.ss b.live) (sides b.ss_now b.live_now) r (record { handed = b.ks; sinks = b.ks_now; views = b.views; reports = reports; sealed = sealed }) it readable size is [] (nothing_yet out feeds names b told there) seal n w at
+
   -- of what the recording told, where the world tells too
   pub all_watched : {X : Type 0} (tells : X → Option (List ℕ)) (outcome : WatchedOutcome) → more ≡ [] → b.behind ≡ [] → outcome.feeds_failed.items ≡ b.flags → outcome.out_failed ≡ failed_so (went_well b.live_kept) b.live_now.faults
       → outcome.watches_failed.items ≡ with_ends b.sink_flags outcome.watches.items
       → (outcome.report ≡ None → (b.ss_now ≡ b.ss) × (b.live_now ≡ b.live) × (b.ks_now ≡ b.ks) × (sum b.views ≡ 0) × (outcome.watches.items ≡ []))
-      → ((size : ℕ) × (options.file.chunk ≡ Some size)) → ((r : Report) → outcome.report ≡ Some r → Watched tells r outcome.watches.items outcome.sealed) → WatchFilesAreTold tells
+      → (options.file.chunk ≡ None → watches ≡ []) → ((r : Report) → outcome.report ≡ Some r → Watched tells r outcome.watches.items outcome.sealed) → WatchFilesAreTold tells
       → NamesWatched (requested options range out watches feeds) b.w0 b.w8 outcome
-  all_watched tells outcome whole none flags_are out_is ends_added same (size, chunked) made law =
+  all_watched tells outcome whole none flags_are out_is ends_added same plain made law =
       all_by tells outcome outcome.report refl whole none flags_are out_is ends_added same (λ r here.
       let it = made r here in
-      (it, λ told there readable sealed. law options range (sides b.ss b.live) (sides b.ss_now b.live_now) r (record { handed = b.ks; sinks = b.ks_now; views = b.views; reports = outcome.watches.items; sealed = outcome.sealed }) it readable size chunked [] (nothing_yet out feeds names b told there) sealed))
+      (it, texts_by tells r outcome.watches.items outcome.sealed it plain law options.file.chunk refl))

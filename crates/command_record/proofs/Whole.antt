@@ -1,10 +1,9 @@
 -- What the bytes of the feeds and the status say of their recording.
-use Rattle.std.proofs.Common.{◌≡◌, ◌⊎◌, ℕ, zero, suc, length, map, ◌^◌, ◌<◌, ◌≤◌, subst, Bool, true, false, ◌||◌, if◌then◌else◌, List, [], ◌∷◌, Option, Some, None, refl, sym, ap, inl, inr, ◌∙◌, arith}
-use Rattle.std.specs.Prelude.{◌↔◌}
+use Rattle.std.proofs.Common.{◌≡◌, ◌⊎◌, ℕ, zero, suc, length, map, ◌^◌, ◌<◌, ◌≤◌, subst, Bool, true, false, ◌||◌, if◌then◌else◌, List, [], ◌∷◌, Some, refl, sym, ap, inl, inr, ◌∙◌, arith}
 use Rattle.std.specs.List.{list_any, AllZip}
 use Rattle.std.proofs.lemmas.Option.{same_Some}
 use Rattle.std.proofs.lemmas.Bool.{both_ways, false_from_ne_true, or_right}
-use Rattle.mcap_io.specs.Outside.{Rose, added, WorldState, SourceState, LiveState, Told, Opening, TellsName}
+use Rattle.mcap_io.specs.Outside.{Rose, added, WorldState, SourceState, LiveState, Told, TellsName}
 use Rattle.mcap_model.specs.declared.ends.End.{End}
 use Rattle.mcap_model.specs.declared.ends.End.TheVariants as ends
 use Rattle.mcap_model.specs.declared.ends.Stop.{Stop}
@@ -31,17 +30,15 @@ use Rattle.recorder.specs.declared.report.Report.{Report}
 use Rattle.buffer_swap.specs.Shown.{ShownBy}
 use Rattle.recorder.specs.Recorded.{FeedRecorded, Recorded, lane_of, sides, answer_of}
 use Rattle.recorder.specs.Laws.{RefusesNoneAsFull}
-use Rattle.command_base.specs.declared.faults.Counts.{Counts}
 use Rattle.command_base.specs.declared.statuses.Status.{Status}
 use Rattle.command_base.specs.declared.statuses.Status.TheVariants as statuses
 use Rattle.command_base.specs.Texts.{is_status, halt_status}
-use Rattle.command_base.specs.Ran.{Scene, counts_in, AnyRose, CountsKept, input_faults, output_faults}
+use Rattle.command_base.specs.Ran.{input_faults, output_faults}
 use Rattle.recorder.proofs.Unfull.{lossless_refuses_none_as_full}
 use Rattle.feed_lane.specs.Causes.{is_over, is_memory, goes_on}
-use Rattle.recorder.specs.Findings.{is_limit, is_memory_end, is_memory_writer, passes_limit, lacks_memory, limit_passed}
-use Rattle.command_record.specs.Record.{FeedKept, feed_entry, live_entry, back_sources, Reported, StatusFollows, worst, ends_status, IsAllRecorded, RecordsAll, FeedHalts, refusal_status, end_status, is_full}
-use Rattle.command_record.proofs.Runs.{input_faults-append, output_faults-append}
-use Rattle.command_record.proofs.Sources.{zip_long}
+use Rattle.recorder.specs.Findings.{is_limit, is_memory_end, is_memory_writer, passes_limit, lacks_memory}
+use Rattle.command_record.specs.Record.{FeedKept, feed_entry, back_sources, worst, ends_status, IsAllRecorded, RecordsAll, FeedHalts, refusal_status, end_status, is_full}
+use Rattle.command_base.proofs.SomeInputs.{zip_long}
 
 -- ---- places
 
@@ -164,23 +161,6 @@ pub record Read (options : RecordOptions) (feeds : List (List ℕ)) (old new : W
   pub unused : Each (λ (s : SourceState). s.faults ≡ 0) given
   pub inputs : new.input_faults ≡ added old.input_faults (input_faults (map feed_entry kept_feeds))
   pub outputs : new.output_faults ≡ added old.output_faults live_now.faults
-
-pub read_of : (options : RecordOptions) (out : List ℕ) (feeds : List (List ℕ)) (old new : WorldState) (entries : List Opening) (r : Report) → Reported options out feeds old new entries r → CountsKept old new entries → Read options feeds old new r
-read_of options out feeds old new entries r is kept = record {
-  given = is.given;
-  kept_feeds = is.kept_feeds;
-  live = is.live;
-  live_now = is.live_now;
-  recorded = is.recorded;
-  tells = is.tells;
-  unused = is.unused;
-  inputs =
-      let all = kept.inputs ∙ ap (λ (es : List Opening). added old.input_faults (input_faults es)) is.kept_are in
-      omega (arith, all, input_faults-append (map feed_entry is.kept_feeds) (live_entry out is.live_now is.live_kept ∷ []));
-  outputs =
-      let all = kept.outputs ∙ ap (λ (es : List Opening). added old.output_faults (output_faults es)) is.kept_are in
-      omega (arith, all, output_faults-append (map feed_entry is.kept_feeds) (live_entry out is.live_now is.live_kept ∷ []), sources_write_nothing is.kept_feeds);
-}
 
 module _ (options : RecordOptions) (feeds : List (List ℕ)) (old new : WorldState) (r : Report) (is : Read options feeds old new r) (inputs_fit : old.input_faults < 2 ^ 64) (outputs_fit : old.output_faults < 2 ^ 64) where
   -- a writer that stopped had a reason
@@ -383,36 +363,12 @@ pub ends_decided : (options : RecordOptions) (feeds : List (List ℕ)) (old new 
 ends_decided options feeds old new r is inputs_fit outputs_fit no_inputs no_outputs enough within told halts here all =
     decided_all options feeds old new r is inputs_fit outputs_fit (free_of old new r no_inputs no_outputs enough within) told halts here all
 
--- memory lacked exactly where the report names that; or it isn't there though no count rose
-abbrev pub LackIsTold : Counts → Counts → Option Report → Bool → Type 0
-LackIsTold before now None lacked = (AnyRose before now → ⊥) ↔ (lacked ≡ true)
-LackIsTold before now (Some r) lacked = lacked ≡ lacks_memory r
-
--- so they decide the status
-pub decided : (options : RecordOptions) (out : List ℕ) (feeds : List (List ℕ)) (old new : Scene) (report : Option Report) (lacked : Bool) (entries : List Opening) (answer : Status) → old.world.input_faults < 2 ^ 64 → old.world.output_faults < 2 ^ 64 → CountsKept old.world new.world entries
-    → ((r : Report) → report ≡ Some r → Reported options out feeds old.world new.world entries r) → LackIsTold (counts_in old) (counts_in new) report lacked → StatusFollows (counts_in old) (counts_in new) report lacked answer
-    → (told : Told) (halts : List Halt) → old.world.told ≡ Some told → AllZip (FeedHalts told) feeds halts
-    → (AnyRose (counts_in old) (counts_in new) → ⊥) → lacked ≡ false → limit_passed report ≡ false → answer ≡ worst (map halt_status halts)
-decided options out feeds old new None lacked entries answer inputs_fit outputs_fit kept reported lacking came told halts here all quiet enough within = absurd (both_ways lacked enough (lacking.0 quiet))
-decided options out feeds old new (Some r) lacked entries answer inputs_fit outputs_fit kept reported lacking came told halts here all quiet enough within =
-    let is = read_of options out feeds old.world new.world entries r (reported r refl) kept in
-    let status = came.calm enough quiet r refl in
-    let ends = ends_decided options feeds old.world new.world r is inputs_fit outputs_fit (λ rose. quiet (inr (inl rose))) (λ rose. quiet (inr (inr (inl rose)))) (sym lacking ∙ enough) within told halts here all in
-    unlimited (passes_limit r) (ends_status r) answer status within ∙ ap worst ends
-
 -- where all was done memory was enough, and no count rose
 pub undone_memory : (answer : Status) → answer ≡ statuses.Memory → answer ≡ statuses.Done → ⊥
 undone_memory answer lacks done = cc
 
 pub undone_fault : (answer : Status) → answer ≡ statuses.Fault → answer ≡ statuses.Done → ⊥
 undone_fault answer fails done = cc
-
-enough_memory : (before now : Counts) (report : Option Report) (lacked : Bool) (answer : Status) → StatusFollows before now report lacked answer → answer ≡ statuses.Done → lacked ≡ false
-enough_memory before now report lacked answer came is = false_from_ne_true lacked (λ lacks. undone_memory answer (came.memory lacks) is)
-
-pub calm : (before now : Counts) (report : Option Report) (lacked : Bool) (answer : Status) → StatusFollows before now report lacked answer → answer ≡ statuses.Done → AnyRose before now → ⊥
-calm before now report lacked answer came is risen =
-    undone_fault answer (came.rose (enough_memory before now report lacked answer came is) risen) is
 
 -- a list without a member is empty
 none_there : (xs : List Refused) → ((k : ℕ) (x : Refused) → At xs k x → ⊥) → xs ≡ []
@@ -439,21 +395,3 @@ all_recorded options feeds old new r is inputs_fit outputs_fit no_inputs no_outp
           subst (IsAllRecorded options.lossless) (sym found.2) all;
       closed = elim (closed_or options feeds old new r is inputs_fit outputs_fit r.writer.end refl) [ inl closed ↦ closed | inr why ↦ absurd (free why) ];
     }
-
--- that all was done says that
-pub whole : (options : RecordOptions) (out : List ℕ) (feeds : List (List ℕ)) (old new : Scene) (report : Option Report) (lacked : Bool) (entries : List Opening) (answer : Status) → old.world.input_faults < 2 ^ 64 → old.world.output_faults < 2 ^ 64 → CountsKept old.world new.world entries
-    → ((r : Report) → report ≡ Some r → Reported options out feeds old.world new.world entries r) → LackIsTold (counts_in old) (counts_in new) report lacked → StatusFollows (counts_in old) (counts_in new) report lacked answer
-    → answer ≡ statuses.Done → (r : Report) × (report ≡ Some r) × RecordsAll options r
-whole options out feeds old new None lacked entries answer inputs_fit outputs_fit kept reported lacking came done =
-    let enough = enough_memory (counts_in old) (counts_in new) None lacked answer came done in
-    absurd (both_ways lacked enough (lacking.0 (calm (counts_in old) (counts_in new) None lacked answer came done)))
-whole options out feeds old new (Some r) lacked entries answer inputs_fit outputs_fit kept reported lacking came done =
-    let is = read_of options out feeds old.world new.world entries r (reported r refl) kept in
-    let enough = enough_memory (counts_in old) (counts_in new) (Some r) lacked answer came done in
-    let quiet = calm (counts_in old) (counts_in new) (Some r) lacked answer came done in
-    let status : answer ≡ (if passes_limit r then statuses.Limit else ends_status r) = came.calm enough quiet r refl in
-    let within = limit_kept (passes_limit r) (ends_status r) answer status done in (
-      r,
-      refl,
-      all_recorded options feeds old.world new.world r is inputs_fit outputs_fit (λ rose. quiet (inr (inl rose))) (λ rose. quiet (inr (inr (inl rose)))) (sym lacking ∙ enough) within (unlimited_status (passes_limit r) (ends_status r) answer status done),
-    )

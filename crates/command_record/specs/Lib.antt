@@ -9,3 +9,4 @@ pub mod RecordSteps
 pub mod Sources
 pub mod SinkSteps
 pub mod WatchedSteps
+pub mod Unwatched

@@ -1,7 +1,7 @@
--- What a recording does: to the names of the feeds and of the output, what it reports, and how it ends.
+-- What a recording does to the names of the feeds and of the output, what it reports, and how its feeds end.
 use Rattle.std.specs.Prelude.{◌≡◌, ◌⊎◌, ◌≤◌, not, ℕ, List, [], ◌∷◌, ◌++◌, map, length, Bool, true, false, if◌then◌else◌, Option, Some, None}
-use Rattle.std.specs.List.{list_any, AllZip}
-use Rattle.mcap_io.specs.Outside.{Rose, WorldState, SourceState, LiveState, Told, Keeping, Opening, TellsName}
+use Rattle.std.specs.List.{list_any}
+use Rattle.mcap_io.specs.Outside.{WorldState, SourceState, LiveState, Told, Opening}
 use Rattle.mcap_io.specs.declared.outside.ObjectKind.TheVariants as kinds
 use Rattle.rec_data.specs.declared.owned.Rec.{Rec}
 use Rattle.mcap_model.specs.declared.ends.End.TheVariants as ends
@@ -21,17 +21,16 @@ use Rattle.feed_lane.specs.declared.report.FeedEnd.TheVariants as feed_ends
 use Rattle.mcap_model.specs.declared.options.RecordOptions.{RecordOptions}
 use Rattle.recorder.specs.declared.report.Report.{Report}
 use Rattle.recorder.specs.declared.report.WriterReport.{WriterReport}
-use Rattle.recorder.specs.Recorded.{sides, Recorded}
-use Rattle.command_base.specs.declared.faults.Counts.{Counts}
 use Rattle.command_base.specs.declared.statuses.Status.{Status}
 use Rattle.command_base.specs.declared.statuses.Status.TheVariants as statuses
-use Rattle.command_base.specs.Texts.{Trouble, is_status, halt_status}
+use Rattle.command_base.specs.Texts.{Trouble, is_status}
 use Rattle.command_base.specs.OneFile.{refusal_ending, troubles_in}
-use Rattle.recorder.specs.Findings.{passes_limit, lacks_memory, limit_passed}
+use Rattle.recorder.specs.Findings.{lacks_memory, limit_passed}
+use Rattle.command_base.specs.Inputs.{InputKept}
 use Rattle.command_base.specs.Endings.{WritingEnding}
-use Rattle.command_base.specs.Outputs.{inputs_and_output, LeftUnderName, WritesOutput}
+use Rattle.command_base.specs.Outputs.{LeftUnderName}
 use Rattle.command_record.specs.ReportTexts.{printed}
-use Rattle.command_base.specs.Ran.{Scene, counts_in, AnyRose, kept, input_faults, output_faults}
+use Rattle.command_base.specs.Ran.{kept, input_faults, output_faults}
 
 -- ---- with a report
 
@@ -46,10 +45,8 @@ pub record OutputHolds (options : FileOptions) (history : List Rec) (w : WriterR
   pub begun : (history ≡ [] → ⊥) → well ≡ true → (more : List ℕ) × (now ≡ Some (front options.profile ++ more))
 
 -- a feed's source as the world took it back, and whether that went well
-pub record FeedKept : Type 0 where
-  pub name : List ℕ
-  pub back : SourceState
-  pub well : Bool
+abbrev pub FeedKept : Type 0
+FeedKept = InputKept SourceState
 
 -- its entry
 abbrev pub feed_entry : FeedKept → Opening
@@ -64,27 +61,6 @@ feed_names_kept feeds = map (λ (f : FeedKept). f.name) feeds
 
 abbrev pub back_sources : List FeedKept → List SourceState
 back_sources feeds = map (λ (f : FeedKept). f.back) feeds
-
--- The feeds' sources were recorded into the output's store.
-pub record Reported (options : RecordOptions) (out : List ℕ) (feeds : List (List ℕ)) (old new : WorldState)
-    (entries : List Opening) (r : Report) : Type 0 where
-  -- as the world gave them and as it took them back, in the order of the words, and whether that went well
-  pub given : List SourceState
-  pub kept_feeds : List FeedKept
-  pub names_are : feeds ≡ feed_names_kept kept_feeds
-  pub live : LiveState
-  pub live_now : LiveState
-  pub live_kept : Bool
-  -- what was read of the sources, which history their reports and that of the writer describe, and what the store holds of it
-  pub recorded : Recorded options (sides given live) (sides (back_sources kept_feeds) live_now) r
-  -- each source told the bytes under its feed's name, which is there, where the world tells
-  pub tells : AllZip (TellsName old) feeds given
-  pub unused : Each (λ (s : SourceState). s.faults ≡ 0) given
-  pub live_unused : live.faults ≡ 0
-  -- and then the output's name holds the file of that history
-  pub file : (told now : Told) → old.told ≡ Some told → new.told ≡ Some now
-      → OutputHolds options.file recorded.history r.writer live_kept (told.names out) (now.names out)
-  pub kept_are : entries ≡ map feed_entry kept_feeds ++ live_entry out live_now live_kept ∷ []
 
 -- ---- without a report
 
@@ -167,14 +143,6 @@ worst asked = if list_any (is_status statuses.Limit) asked then statuses.Limit
 abbrev pub ends_status : Report → Status
 ends_status r = worst (map (λ (f : FeedReport). end_status f.end) r.feeds.items)
 
--- a want of memory where memory lacked; else a fault where a count rose; else a limit where one would be passed; else that of the
--- feeds' ends
-pub record StatusFollows (before now : Counts) (report : Option Report) (lacked : Bool) (status : Status) : Type 0 where
-  pub memory : lacked ≡ true → status ≡ statuses.Memory
-  pub rose : lacked ≡ false → AnyRose before now → status ≡ statuses.Fault
-  pub calm : lacked ≡ false → (AnyRose before now → ⊥) → (r : Report) → report ≡ Some r
-      → status ≡ (if passes_limit r then statuses.Limit else ends_status r)
-
 -- the buffer stood at its limit
 abbrev pub is_full : CallRefused → Bool
 is_full (refusing.Full held from to) = true
@@ -198,27 +166,3 @@ pub record FeedHalts (told : Told) (feed : List ℕ) (halt : Halt) : Type 0 wher
   pub there : told.names feed ≡ Some bytes
   pub tops : List Top
   pub halts : Halts reading_limits bytes tops halt
-
--- ---- the command
-
--- what `record` does
-pub record Records (options : RecordOptions) (out : List ℕ) (feeds : List (List ℕ)) (old new : Scene)
-    (report : Option Report) (status : Status) : Type 0 where
-  pub entries : List Opening
-  -- with a report the feeds were recorded, and the output holds the file
-  pub reported : (r : Report) → report ≡ Some r → Reported options out feeds old.world new.world entries r
-  -- without one nothing was read or written
-  pub unreported : report ≡ None → Unreported out old.world new.world entries
-  pub spares : SparesOutput out feeds old.world new.world
-  -- these names are opened; both outputs are told of the report, of its troubles, and of which part failed
-  pub wrote : WritesOutput (inputs_and_output kinds.Source feeds out) old new entries (ending_of_recording feeds report)
-      status
-  -- the status says what became of it
-  pub ended : StatusFollows (counts_in old) (counts_in new) report (report_lack report wrote.some) status
-  -- where the world tells, the bytes under the feeds' names decide the status, unless a count rises, memory lacks, or a limit
-  -- would be passed
-  pub decided : (told : Told) (halts : List Halt) → old.world.told ≡ Some told → AllZip (FeedHalts told) feeds halts
-      → (AnyRose (counts_in old) (counts_in new) → ⊥) → report_lack report wrote.some ≡ false
-      → limit_passed report ≡ false → status ≡ worst (map halt_status halts)
-  -- that all was done says that all of the feeds was recorded
-  pub whole : status ≡ statuses.Done → (r : Report) × (report ≡ Some r) × RecordsAll options r

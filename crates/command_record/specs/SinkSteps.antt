@@ -1,5 +1,5 @@
 -- The steps of opening and keeping the watchers' sinks, and of letting go of their views.
-use Rattle.std.specs.Prelude.{◌≡◌, ◌⊎◌, ℕ, ◌+◌, ◌^◌, ◌<◌, List, [], ◌++◌, map, take, length, Bool, true, false, if◌then◌else◌, Some, Err}
+use Rattle.std.specs.Prelude.{◌≡◌, ◌⊎◌, ℕ, ◌^◌, ◌<◌, List, [], ◌++◌, map, take, length, Bool, true, false, if◌then◌else◌, Some, Err}
 use Rattle.std.specs.List.{sum}
 use Rattle.std.specs.Option.{option_map}
 use Rattle.mcap_io.specs.Outside.{WorldState, SourceState, SinkState, LiveState, Told, Names, Opening, added, opened}
@@ -7,8 +7,9 @@ use Rattle.mcap_io.specs.OutsideCalls.{TellsNothingYet, with_opening, Opens, Ope
 use Rattle.mcap_io.specs.declared.outside.ObjectKind.TheVariants as kinds
 use Rattle.mcap_io.specs.declared.outside.OutsideRefused.{OutsideRefused}
 use Rattle.mcap_model.specs.Places.{At, Has, Each}
-use Rattle.command_base.specs.Ran.{kept, has_failed, failed_so, world_faults}
-use Rattle.command_record.specs.Sources.{with_feed_openings, FeedsOpened}
+use Rattle.command_base.specs.Ran.{has_failed, failed_so, world_faults}
+use Rattle.command_base.specs.InputsSteps.{with_openings}
+use Rattle.command_record.specs.Sources.{FeedsOpened}
 use Rattle.command_record.specs.Sinks.{SinkKept, sink_keeping, sink_entry, sink_names, back_sinks, watch_faults, SinkHolds}
 
 -- ---- names
@@ -47,7 +48,7 @@ NoSinkOut entries = (name : List ℕ) → NoneIsOut kinds.Sink name entries
 
 -- All sinks were given, in the order of their names, and this is seen of them.
 pub record SinksOpened (old new : WorldState) (names : List (List ℕ)) (sinks : List SinkState) : Type 0 where
-  pub told : (told : Told) → old.told ≡ Some told → new.told ≡ Some (with_feed_openings told (map given_sink names))
+  pub told : (told : Told) → old.told ≡ Some told → new.told ≡ Some (with_openings told (map given_sink names))
   pub stands : CountsStand old new
   pub still : new.faults ≡ old.faults
   pub many : length sinks ≡ length names

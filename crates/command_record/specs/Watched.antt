@@ -170,6 +170,8 @@ pub record ReportedBeside (request : Requested) (old new : WorldState) (entries 
   pub sinks_empty : (told : Told) → old.told ≡ Some told → Each (λ (w : Watch). w.before.took ≡ Some []) seen
   -- each watcher ended with its cause
   pub ends : Each (λ (w : Watch). EndsSo live viewed did.sealed w w.report.end) seen
+  -- without watchers there is none to be told of the end
+  pub unwatched : request.names.watches ≡ [] → did.sealed ≡ true
   pub sealed_ends : did.sealed ≡ true → Each (λ (w : Watch). w.report.end ≡ watch_ends.Unsealed → ⊥) seen
   pub fault_cause : Each
       (λ (w : Watch). is_watch_fault w.report.end ≡ true → Rose old.output_faults new.output_faults ⊎ Rose old.watch_faults new.watch_faults)

@@ -1,4 +1,4 @@
--- What a recording with watchers promises: how it ends, what standard error is told, and which names are blamed.
+-- What a recording promises, with any number of watchers: how it ends, what standard error is told, and which names are blamed.
 use Rattle.std.specs.Prelude.{◌≡◌, ◌⊎◌, ◌↔◌, ◌≤◌, ◌<◌, ◌-◌, ◌^◌, ◌||◌, not, ℕ, List, [], ◌∷◌, ◌++◌, map, length, Bool, true, false, if◌then◌else◌, Option, Some, None}
 use Rattle.std.specs.List.{list_any, AllZip}
 use Rattle.mcap_io.specs.Outside.{Rose, WorldState, SinkState, Told, Opening}
@@ -15,30 +15,36 @@ use Rattle.command_base.specs.declared.statuses.Status.{Status}
 use Rattle.command_base.specs.declared.statuses.Status.TheVariants as statuses
 use Rattle.command_base.specs.Printing.{Takes}
 use Rattle.command_base.specs.Texts.{Trouble, fault, output_fault, output_limit, flaw, no_memory, halt_status}
-use Rattle.command_base.specs.Ran.{Scene, counted_faults, AnyRose, CountsOn, AreOpened, has_failed, BlamesOutput, when, told_of, Complains}
+use Rattle.command_base.specs.Ran.{Scene, counted_faults, AnyRose, CountsOn, AreOpened, has_failed, failed_names, blamed_names, BlamesOutput, when, told_of, Complains}
 use Rattle.command_record.specs.declared.watched_answer.WatchedCounts.{WatchedCounts}
 use Rattle.recorder.specs.Findings.{limit_passed, passes_limit, lacks_memory}
 use Rattle.command_record.specs.Record.{ends_of, reports_in, end_status, worst, report_text, RecordsAll, FeedHalts, SparesOutput}
-use Rattle.command_base.specs.Outputs.{some_failed}
+use Rattle.command_base.specs.Outputs.{inputs_and_output, failed_of, some_failed}
 use Rattle.command_record.specs.Watched.{Named, Requested, reported_with, wanted_names, LeavesBeside, CountsBeside, ReportedBeside, UnreportedBeside, watch_flags}
 
 -- ---- counts of faults
 
--- the counts that every command has, and that of the watchers' sinks and views
-abbrev pub watched_counts : WorldState → SinkState → WatchedCounts
-watched_counts world out = record { seen = counted_faults world out; watches = world.watch_faults }
+-- the count of the watchers' sinks and views: without watchers there is none that rises
+abbrev pub counted_watches : List (List ℕ) → ℕ → ℕ
+counted_watches [] faults = 0
+counted_watches (watch ∷ watches) faults = faults
 
-abbrev pub watched_counts_in : Scene → WatchedCounts
-watched_counts_in s = watched_counts s.world s.out
+-- the counts that every command has, and that of the watchers' sinks and views
+abbrev pub watched_counts : List (List ℕ) → WorldState → SinkState → WatchedCounts
+watched_counts watches world out =
+    record { seen = counted_faults world out; watches = counted_watches watches world.watch_faults }
+
+abbrev pub watched_counts_in : List (List ℕ) → Scene → WatchedCounts
+watched_counts_in watches s = watched_counts watches s.world s.out
 
 -- one of the five has risen
 abbrev pub AnyCountRose : WatchedCounts → WatchedCounts → Type 0
 AnyCountRose before now = AnyRose before.seen now.seen ⊎ Rose before.watches now.watches
 
 -- no count of a world stands at the end of its type
-pub record AllCountsOn (w : WorldState) : Type 0 where
+pub record AllCountsOn (watches : List (List ℕ)) (w : WorldState) : Type 0 where
   pub seen : CountsOn w
-  pub watches : w.watch_faults < 2 ^ 64 - 1
+  pub watching : counted_watches watches w.watch_faults < 2 ^ 64 - 1
 
 -- ---- what watchers tell
 
@@ -98,8 +104,8 @@ pub record CausesBeside (before now : WatchedCounts) (b : Blamed) : Type 0 where
 
 -- These are the entries of the feeds, of the output and of the watchers that were reached, and exactly those are blamed that
 -- failed, but where a count stands at the end of its type and so can't tell.
-pub record BlamesExactly (old : WorldState) (watches feeds : List (List ℕ)) (entries : List Opening)
-    (reports : List WatchReport) (b : Blamed) : Type 0 where
+pub record BlamesExactly (old : WorldState) (names : Named) (entries : List Opening) (reports : List WatchReport)
+    (b : Blamed) : Type 0 where
   pub inputs : List Opening
   pub outputs : List Opening
   pub sinks : List Opening
@@ -107,11 +113,13 @@ pub record BlamesExactly (old : WorldState) (watches feeds : List (List ℕ)) (e
   pub sources : Each (λ (entry : Opening). entry.kind ≡ kinds.Source) inputs
   pub stores : Each (λ (entry : Opening). entry.kind ≡ kinds.Live) outputs
   pub writers : Each (λ (entry : Opening). entry.kind ≡ kinds.Sink) sinks
-  pub few_feeds : length b.feeds ≤ length feeds
-  pub few_watches : length b.watches ≤ length watches
-  pub feeds_are : AllCountsOn old → b.feeds ≡ map has_failed inputs
-  pub out_is : AllCountsOn old → b.out ≡ list_any has_failed outputs
-  pub watches_are : AllCountsOn old → b.watches ≡ watch_flags sinks reports
+  pub few_feeds : length b.feeds ≤ length names.feeds
+  pub few_watches : length b.watches ≤ length names.watches
+  pub feeds_are : AllCountsOn names.watches old → b.feeds ≡ map has_failed inputs
+  pub out_is : AllCountsOn names.watches old → b.out ≡ list_any has_failed outputs
+  pub watches_are : AllCountsOn names.watches old → b.watches ≡ watch_flags sinks reports
+  pub named : AllCountsOn names.watches old → failed_names (inputs ++ outputs)
+      ≡ blamed_names (inputs_and_output kinds.Source names.feeds names.out) (failed_of b.feeds b.out)
 
 -- ---- standard error
 
@@ -155,8 +163,8 @@ pub record RecordsAllBeside (options : RecordOptions) (r : Report) (sealed : Boo
 
 -- ---- the command
 
--- what `record` with watchers does
-pub record RecordsWatched (request : Requested) (old new : Scene) (report : Option Report) (status : Status)
+-- what `record` does, with any number of watchers
+pub record Records (request : Requested) (old new : Scene) (report : Option Report) (status : Status)
     : Type 0 where
   -- these names were opened, and nothing else; all failures are counted
   pub entries : List Opening
@@ -175,23 +183,27 @@ pub record RecordsWatched (request : Requested) (old new : Scene) (report : Opti
   pub none : report ≡ None → reports ≡ []
   pub spares : SparesOutput request.names.out request.names.feeds old.world new.world
   pub lacked : Bool
-  pub lacks : LackIsToldBeside (watched_counts_in old) (watched_counts_in new) report sealed reports lacked
+  pub lacks : LackIsToldBeside (watched_counts_in request.names.watches old) (watched_counts_in request.names.watches new)
+      report sealed reports lacked
   -- standard output took the text of the report, or a first part of it where it failed
   pub printed : Takes old.out new.out (report_text report)
   -- standard error took the lines of the troubles, which name what failed
   pub blamed : Blamed
-  pub exact : BlamesExactly old.world request.names.watches request.names.feeds entries reports blamed
-  pub causes : CausesBeside (watched_counts_in old) (watched_counts_in new) blamed
+  pub exact : BlamesExactly old.world request.names entries reports blamed
+  pub causes : CausesBeside (watched_counts_in request.names.watches old) (watched_counts_in request.names.watches new)
+      blamed
   pub printing : Bool
   pub blames_output : BlamesOutput old.out new.out printing
   pub said : Complains (watched_troubles request.names report reports lacked blamed printing) old.err new.err status
   -- the status says what became of it
-  pub ended : EndsBeside (watched_counts_in old) (watched_counts_in new) report reports lacked status
+  pub ended : EndsBeside (watched_counts_in request.names.watches old) (watched_counts_in request.names.watches new)
+      report reports lacked status
   -- where the world tells, the bytes under the feeds' names decide the status, unless a count rises, memory lacks, or a limit
   -- would be passed
   pub decided : (told : Told) (halts : List Halt) → old.world.told ≡ Some told
       → AllZip (FeedHalts told) request.names.feeds halts
-      → (AnyCountRose (watched_counts_in old) (watched_counts_in new) → ⊥) → lacked ≡ false
+      → (AnyCountRose (watched_counts_in request.names.watches old) (watched_counts_in request.names.watches new) → ⊥)
+      → lacked ≡ false
       → limit_passed report ≡ false → status ≡ worst (map halt_status halts)
   -- that all was done says that all of the feeds was recorded, and that each watcher wrote all that it had to
   pub whole : status ≡ statuses.Done

@@ -1,5 +1,5 @@
 -- The steps of a recording with watchers, and of its answer.
-use Rattle.std.specs.Prelude.{◌≡◌, ◌⊎◌, ℕ, zero, suc, ◌+◌, ◌-◌, ◌^◌, ◌<◌, ◌≤◌, ◌||◌, List, [], ◌∷◌, ◌++◌, map, take, length, Bool, true, Some, None, ◌↔◌, if◌then◌else◌, Option}
+use Rattle.std.specs.Prelude.{◌≡◌, ◌⊎◌, ℕ, zero, suc, ◌-◌, ◌^◌, ◌<◌, ◌≤◌, ◌||◌, List, [], ◌∷◌, ◌++◌, map, take, length, Bool, true, Some, None, ◌↔◌, if◌then◌else◌, Option}
 use Rattle.std.specs.List.{list_any}
 use Rattle.mcap_io.specs.Outside.{Rose, WorldState, Opening, SinkState}
 use Rattle.mcap_io.specs.declared.outside.ObjectKind.TheVariants as kinds
@@ -94,6 +94,7 @@ pub record WatchedPartsShow (before now : WatchedCounts) (watches feeds : List (
   pub causes : CausesBeside before now (blamed_in watches feeds failed)
   pub printing : (failed.parts.printing ≡ true) ↔ Rose before.seen.printing now.seen.printing
   pub any : AnyCountRose before now → AnyPartFailed failed
+  pub every : failed.every_watch ≡ true → Rose before.watches now.watches
   pub feeds_told : failed.parts.inputs.now ≡ outcome.feeds_failed.items
   pub watches_told : failed.watches.now ≡ outcome.watches_failed.items
   -- nothing else is blamed where each count that rose shows in what the recording told

@@ -11,15 +11,6 @@ use mcap_io::Sink;
 use mcap_wire::Text;
 use recorder::{FeedEnd, FeedReport, Report, has_limit, names_memory};
 
-/// What a recording came to: its report, and which of its names couldn't be opened or kept. Of the feeds these are the answers
-/// for those that were reached, in their order.
-#[derive(Drop)]
-pub struct Outcome {
-    pub report: Option<Report>,
-    pub feeds_failed: Vec<bool>,
-    pub out_failed: bool,
-}
-
 /// What a recording tells, of its report, if it made one.
 #[derive(Clone, Copy)]
 pub struct Telling<'a> {

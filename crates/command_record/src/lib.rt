@@ -2,16 +2,15 @@
 #![tactic(auto)]
 
 mod answering;
+pub mod laws;
 mod print;
 mod recording;
 mod sinks;
 mod watched_answer;
 mod watched_names;
 
-pub use answering::{Outcome, Telling};
+pub use answering::Telling;
 pub use print::print_report;
 pub use recording::{Ended, record_file};
-pub use watched_answer::{
-    WatchedCounts, WatchedFailures, answer_watched, failed_watched_parts, record_watched_file,
-};
+pub use watched_answer::{WatchedCounts, WatchedFailures, answer_watched, failed_watched_parts};
 pub use watched_names::WatchedOutcome;

@@ -3,22 +3,17 @@ ghost use Rattle.std.specs.List.{list_any, flat_map};
 ghost use Rattle.std.specs.Prelude.{◌≡◌, ◌⊎◌, ◌↔◌, ◌≤◌, ◌<◌, ◌^◌, ◌+◌, ◌*◌, ◌||◌, ℕ, [], ◌∷◌, ◌++◌, List, Some, None, drop, length, not, if◌then◌else◌, true, false, IsTrue};
 ghost use Rattle.arrayvec.specs.ArrayVec.{array_vec_len};
 ghost use Rattle.mcap_io.specs.Outside.{Rose};
-ghost use Rattle.recorder.specs.Lanes.{AreMessagesListed};
-ghost use Rattle.command_words.specs.Commands.{NamesDiffer, feed_limit, watcher_limit};
+ghost use Rattle.command_words.specs.Commands.{feed_limit, watcher_limit};
 ghost use Rattle.command_base.specs.ComplaintTroubles.{trouble_of, complained};
 ghost use Rattle.command_base.specs.Ran.{first_failed, told_of};
-ghost use Rattle.command_base.specs.Scenes.{scene};
-ghost use Rattle.command_record.specs.Record.{report_text};
-ghost use Rattle.command_record.specs.RecordSteps.{AreAllowed, AreFew};
 ghost use Rattle.command_base.specs.Outputs.{some_failed};
 ghost use Rattle.command_base.specs.OutputSteps.{flags_of, PartFailed};
-ghost use Rattle.command_record.specs.Watched.{named, requested};
-ghost use Rattle.command_record.specs.WatchedAnswer.{watched_counts, watch_troubles, flaws_of, is_memory_watch, lacks_beside, RecordsWatched};
+ghost use Rattle.command_record.specs.Watched.{named};
+ghost use Rattle.command_record.specs.WatchedAnswer.{counted_watches, watched_counts, watch_troubles, flaws_of, is_memory_watch, lacks_beside};
 ghost use Rattle.command_record.specs.WatchedSteps.{first_flaw, watch_flags_of, AnyPartFailed, WatchedPartsShow, LacksMemoryBeside, AnswersBeside};
 
-use crate::answering::{Telling, print_outcome};
-use crate::recording::Ended;
-use crate::watched_names::{WatchedOutcome, record_watched_names};
+use crate::answering::Telling;
+use crate::watched_names::WatchedOutcome;
 use arrayvec::ArrayVec;
 use command_base::{
     Complaint, Counts, FailedParts, MOST_COMPLAINTS, Status, any_holds, complain_of, due_when,
@@ -26,11 +21,8 @@ use command_base::{
 };
 use live_watcher::{WatchEnd, WatchReport};
 use mcap_io::{Sink, World};
-use mcap_model::{Range, RecordOptions};
 use mcap_wire::Text;
 use recorder::{Report, has_limit, names_memory};
-use std::sync::Wait;
-use std::thread::Threads;
 
 /// The counts of faults of a recording with watchers: those that every command has, and that of the watchers' sinks and views.
 #[derive(Clone, Copy)]
@@ -40,9 +32,9 @@ pub struct WatchedCounts {
 }
 
 impl WatchedCounts {
-    /// The counts as they stand.
-    pub fn of<W: World, O: Sink>(world: &W, out: &O) -> WatchedCounts
-        ensures are { result ≡ watched_counts (W.state world.now) (O.state out.now) }
+    /// The counts as they stand, of a recording with these watch files.
+    pub fn of<W: World, O: Sink>(world: &W, out: &O, watch_names: &[Text]) -> WatchedCounts
+        ensures are { result ≡ watched_counts watch_names.now (W.state world.now) (O.state out.now) }
         ensures world_fits { (W.state world.now).faults < 2 ^ 64 }
         ensures inputs_fit { (W.state world.now).input_faults < 2 ^ 64 }
         ensures outputs_fit { (W.state world.now).output_faults < 2 ^ 64 }
@@ -50,9 +42,19 @@ impl WatchedCounts {
     {
         WatchedCounts {
             seen: Counts::of(world, out),
-            watches: world.watch_faults(),
+            watches: count_of_watches(world.watch_faults(), watch_names),
         }
     }
+}
+
+// The count of watchers' sinks and views, where there are watchers.
+fn count_of_watches(faults: u64, watch_names: &[Text]) -> u64
+    ensures { result ≡ counted_watches watch_names.now faults }
+{
+    if watch_names.is_empty() {
+        return 0;
+    }
+    faults
 }
 
 /// Which parts of the outside failed: the feeds, the file and standard output as without watchers, and these watchers, or all of
@@ -78,8 +80,8 @@ pub fn failed_watched_parts<'a>(
     requires watch_cause { some_failed outcome.now.watches_failed.items ≡ true
         → Rose before.now.seen.world now.now.seen.world
         ⊎ (Rose before.now.seen.outputs now.now.seen.outputs ⊎ Rose before.now.watches now.now.watches) }
-    ensures { (watches feeds : List (List ℕ)) → 1 ≤ length watches → 1 ≤ length feeds
-        → WatchedPartsShow before.now now.now watches feeds outcome.now result }
+    ensures { (watches feeds : List (List ℕ)) → (Rose before.now.watches now.now.watches → 1 ≤ length watches)
+        → 1 ≤ length feeds → WatchedPartsShow before.now now.now watches feeds outcome.now result }
 {
     let world = rose(before.seen.world, now.seen.world);
     let inputs = rose(before.seen.inputs, now.seen.inputs);
@@ -240,54 +242,4 @@ pub fn answer_watched<'a, E: Sink>(
     complaints.push(due_when(failed.parts.printing, Complaint::OutputFault));
     complaints.push(due_when(lacked, Complaint::NoMemory));
     complain_of(err, complaints.as_slice())
-}
-
-/// Records the feeds under their names into the file under another, while watchers write what they replay of it, of the messages
-/// in the range, to the files under the watch names; prints the report on `out`, and answers how that ended: done where all was
-/// recorded and each watcher wrote all that it had to, and refused also where a watcher reads what breaks a rule. Where all was
-/// done a message may have been refused for a full buffer, unless the options let feeds wait for room. Where messages aren't to be
-/// listed the report only counts them, and takes no memory for them.
-pub fn record_watched_file<R: AllocGlobal + Threads + Wait + Sync, W: World, O: Sink, E: Sink>(
-    rt: &R,
-    options: &RecordOptions,
-    range: Range,
-    out_name: &str,
-    watch_names: &[Text],
-    feed_names: &[Text],
-    world: &mut W,
-    out: &mut O,
-    err: &mut E,
-    listed: bool,
-) -> Ended
-    requires allowed { AreAllowed options.now }
-    requires chunked { (size : ℕ) × (options.now.file.chunk ≡ Some size) }
-    requires few { AreFew feed_names.now }
-    requires watched { (1 ≤ length watch_names.now) × (length watch_names.now ≤ watcher_limit) }
-    requires apart { NamesDiffer out_name.now watch_names.now }
-    ensures recorded { RecordsWatched (requested options.now range out_name.now watch_names.now feed_names.now)
-        (scene (W.state world.old) (O.state out.old) (E.state err.old))
-        (scene (W.state world.new) (O.state out.new) (E.state err.new))
-        result.report result.status }
-    ensures listed { AreMessagesListed result.report listed }
-{
-    let before = WatchedCounts::of(world, out);
-    let outcome = record_watched_names(
-        rt,
-        rt.alloc(),
-        options,
-        range,
-        out_name,
-        watch_names,
-        feed_names,
-        world,
-        listed,
-    );
-    print_outcome(out, &outcome.report);
-    let now = WatchedCounts::of(world, out);
-    let failed = failed_watched_parts(&before, &now, &outcome);
-    let status = answer_watched(err, out_name, watch_names, feed_names, &outcome, failed);
-    Ended {
-        status,
-        report: outcome.report,
-    }
 }

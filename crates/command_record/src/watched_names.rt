@@ -12,9 +12,10 @@ ghost use Rattle.command_record.specs.SinkSteps.{CountsFit, OutOpened, SinksOpen
 ghost use Rattle.command_record.specs.Watched.{requested, is_watch_fault, with_ends};
 ghost use Rattle.command_record.specs.WatchedSteps.{or_at, NamesWatched};
 
-use crate::recording::{Room, add_refused, is_failed, keep_feeds, make_room, open_feeds};
 use crate::sinks::{keep_sinks, keep_views, open_sinks};
-use command_base::has_failed;
+use command_base::{
+    AsSources, Room, add_refused, has_failed, is_failed, keep_inputs, make_room, open_inputs,
+};
 use live_recording::laws::watch_files_are_told;
 use live_recording::{WatchedRecording, record_watched};
 use live_watcher::{WatchEnd, WatchReport};
@@ -62,14 +63,14 @@ fn make_rooms<S: Drop, K: Drop>(
         × (watches ≤ vec_capacity rooms.watches_failed)) }
 {
     let Room {
-        sources,
+        objects: sources,
         failed: feeds_failed,
     } = match make_room(alloc, feeds) {
         Ok(room) => room,
         Err(memory) => return Err(memory),
     };
     let Room {
-        sources: sinks,
+        objects: sinks,
         failed: watches_failed,
     } = match make_room(alloc, watches) {
         Ok(room) => room,
@@ -157,10 +158,10 @@ fn record_beside<R: Threads + Wait + Sync, W: World>(
     requires some { 1 ≤ options.now.limit }
     requires small { options.now.limit ≤ buffer_limit }
     requires size { ChunkSizeFits options.now.file.chunk }
-    requires chunked { (n : ℕ) × (options.now.file.chunk ≡ Some n) }
+    requires plain { options.now.file.chunk ≡ None → watch_names.now ≡ [] }
     requires profile { length options.now.file.profile ≤ content_limit }
     requires few { AreFew feeds.now }
-    requires watched { (1 ≤ length watch_names.now) × (length watch_names.now ≤ watcher_limit) }
+    requires watched { length watch_names.now ≤ watcher_limit }
     requires apart { NamesDiffer out.now watch_names.now }
     requires many { vec_len rooms.sources ≡ length feeds.now }
     requires none { rooms.feeds_failed.items ≡ [] }
@@ -195,7 +196,7 @@ fn record_beside<R: Threads + Wait + Sync, W: World>(
     keep_sinks(world, watch_names, sinks, &mut watches_failed);
     add_ends(&mut watches_failed, &watches);
     let live_faults = live.faults();
-    keep_feeds(world, feeds, sources, &mut feeds_failed);
+    keep_inputs(&AsSources, world, feeds, sources, &mut feeds_failed);
     let live_kept = world.keep_live(out, live);
     WatchedOutcome {
         report,
@@ -224,10 +225,10 @@ fn open_watches<R: Threads + Wait + Sync, W: World>(
     requires some { 1 ≤ options.now.limit }
     requires small { options.now.limit ≤ buffer_limit }
     requires size { ChunkSizeFits options.now.file.chunk }
-    requires chunked { (n : ℕ) × (options.now.file.chunk ≡ Some n) }
+    requires plain { options.now.file.chunk ≡ None → watch_names.now ≡ [] }
     requires profile { length options.now.file.profile ≤ content_limit }
     requires few { AreFew feeds.now }
-    requires watched { (1 ≤ length watch_names.now) × (length watch_names.now ≤ watcher_limit) }
+    requires watched { length watch_names.now ≤ watcher_limit }
     requires apart { NamesDiffer out.now watch_names.now }
     requires many { vec_len rooms.sources ≡ length feeds.now }
     requires none { rooms.feeds_failed.items ≡ [] }
@@ -274,7 +275,7 @@ fn open_watches<R: Threads + Wait + Sync, W: World>(
             );
             add_refused(&mut watches_failed, is_failed(why));
             let live_faults = live.faults();
-            keep_feeds(world, feeds, sources, &mut feeds_failed);
+            keep_inputs(&AsSources, world, feeds, sources, &mut feeds_failed);
             let live_kept = world.keep_live(out, live);
             let out_failed = has_failed(live_faults, live_kept);
             return unwatched(alloc, feeds_failed, out_failed, watches_failed);
@@ -298,10 +299,10 @@ fn open_output<R: Threads + Wait + Sync, W: World>(
     requires some { 1 ≤ options.now.limit }
     requires small { options.now.limit ≤ buffer_limit }
     requires size { ChunkSizeFits options.now.file.chunk }
-    requires chunked { (n : ℕ) × (options.now.file.chunk ≡ Some n) }
+    requires plain { options.now.file.chunk ≡ None → watch_names.now ≡ [] }
     requires profile { length options.now.file.profile ≤ content_limit }
     requires few { AreFew feeds.now }
-    requires watched { (1 ≤ length watch_names.now) × (length watch_names.now ≤ watcher_limit) }
+    requires watched { length watch_names.now ≤ watcher_limit }
     requires apart { NamesDiffer out.now watch_names.now }
     requires many { vec_len rooms.sources ≡ length feeds.now }
     requires none { rooms.feeds_failed.items ≡ [] }
@@ -337,7 +338,7 @@ fn open_output<R: Threads + Wait + Sync, W: World>(
                 mut feeds_failed,
                 ..
             } = rooms;
-            keep_feeds(world, feeds, sources, &mut feeds_failed);
+            keep_inputs(&AsSources, world, feeds, sources, &mut feeds_failed);
             return unwatched(alloc, feeds_failed, is_failed(why), Vec::new(alloc));
         }
     }
@@ -359,10 +360,10 @@ pub(crate) fn record_watched_names<R: Threads + Wait + Sync, W: World>(
     requires some { 1 ≤ options.now.limit }
     requires small { options.now.limit ≤ buffer_limit }
     requires size { ChunkSizeFits options.now.file.chunk }
-    requires chunked { (n : ℕ) × (options.now.file.chunk ≡ Some n) }
+    requires plain { options.now.file.chunk ≡ None → watch_names.now ≡ [] }
     requires profile { length options.now.file.profile ≤ content_limit }
     requires few { AreFew feeds.now }
-    requires watched { (1 ≤ length watch_names.now) × (length watch_names.now ≤ watcher_limit) }
+    requires watched { length watch_names.now ≤ watcher_limit }
     requires apart { NamesDiffer out.now watch_names.now }
     requires world_fits { (W.state world.old).faults < 2 ^ 64 }
     requires inputs_fit { (W.state world.old).input_faults < 2 ^ 64 }
@@ -376,7 +377,7 @@ pub(crate) fn record_watched_names<R: Threads + Wait + Sync, W: World>(
         Ok(rooms) => rooms,
         Err(_) => return unwatched(alloc, Vec::new(alloc), false, Vec::new(alloc)),
     };
-    match open_feeds(world, feeds, &mut rooms.sources) {
+    match open_inputs(&AsSources, world, feeds, &mut rooms.sources) {
         Ok(()) => {
             return open_output(
                 rt,
@@ -397,7 +398,13 @@ pub(crate) fn record_watched_names<R: Threads + Wait + Sync, W: World>(
                 mut feeds_failed,
                 ..
             } = rooms;
-            keep_feeds(world, &feeds[..sources.len()], sources, &mut feeds_failed);
+            keep_inputs(
+                &AsSources,
+                world,
+                &feeds[..sources.len()],
+                sources,
+                &mut feeds_failed,
+            );
             add_refused(&mut feeds_failed, is_failed(why));
             return unwatched(alloc, feeds_failed, false, Vec::new(alloc));
         }

@@ -8,6 +8,8 @@ use Rattle.mcap_model.specs.Places.{At}
 use Rattle.mcap_model.proofs.Places.{at_kept}
 use Rattle.mcap_model.proofs.Lists.{cut_at}
 use Rattle.command_base.specs.Ran.{failed_so}
+use Rattle.command_base.specs.InputsSteps.{source_keeping}
+use Rattle.command_base.proofs.SomeInputs.{kept_states}
 use Rattle.command_record.specs.SinkSteps.{SinksKept}
 use Rattle.command_record.proofs.Runs.{refusal_of}
 use Rattle.command_record.proofs.KeptSinks.{no_view}
@@ -45,7 +47,7 @@ returns-in-Err-clause-recorded g c = λ before opened.
       w4 = w5;
       w5 = w5;
       w6 = w6;
-      w7 = world_state c.keep_feeds.new.world;
+      w7 = world_state c.keep_inputs.new.world;
       w8 = world_state c.keep_live-live_kept.new.self;
       ss = sources;
       ss_now = sources;
@@ -55,7 +57,7 @@ returns-in-Err-clause-recorded g c = λ before opened.
       ks_now = states;
       behind = refusal_of kinds.Sink refuses.name why;
       views = [];
-      flags = c.keep_feeds.new.failed.items;
+      flags = c.keep_inputs.new.failed.items;
       sink_flags = c.keep_sinks.new.failed.items;
       live_kept = c.keep_live-live_kept.result;
       opens = opened;
@@ -63,7 +65,7 @@ returns-in-Err-clause-recorded g c = λ before opened.
       refuses = sink_refused refuses.name refuses.between w5 why refuses.refuses refuses.stands refuses.cause;
       lets_go = no_view w5;
       keeps_sinks = kept;
-      keeps = c.keep_feeds.ensures.kept;
+      keeps = kept_states g.W.Source.Source.state kinds.Source source_keeping w6 (world_state c.keep_inputs.new.world) c.args.feeds.now c.args.rooms.sources.items c.keep_inputs.new.failed.items c.keep_inputs.ensures.kept;
       keeps_out = c.keep_live-live_kept.ensures.keeps;
       inputs_now = c.keep_live-live_kept.ensures.input_faults;
       outputs_now = c.keep_live-live_kept.ensures.output_faults;

@@ -1,13 +1,25 @@
 -- The recording and the keepings come to what a recording with watchers does to the world.
-use Rattle.std.proofs.Common.{◌≡◌, refl, sym, ap, ◌∙◌, [], length, map, vec_len, rules, arith}
+use Rattle.std.proofs.Common.{◌≡◌, ℕ, List, refl, sym, ap, ◌∙◌, [], ◌∷◌, length, map, vec_len, rules, arith}
 use Rattle.std.proofs.lemmas.List.{append-nil, length-map}
 use Rattle.mcap_io.specs.OutsideCalls.{went_well}
+use Rattle.mcap_io.specs.declared.outside.ObjectKind.TheVariants as kinds
 use Rattle.command_base.specs.Ran.{failed_so}
+use Rattle.command_base.specs.InputsSteps.{source_keeping}
 use Rattle.command_record.specs.Watched.{with_ends}
-use Rattle.command_record.proofs.Sources.{zip_long}
+use Rattle.command_base.proofs.SomeInputs.{zip_long, kept_states}
 use Rattle.command_record.proofs.Beside.{AllSeen, nothing_refused, names_once, out_apart}
 use Rattle.command_record.proofs.WatchedRuns.{watchers_long, no_total, all_watched}
 use Rattle.command_record.proofs.watched_names.record_beside.Goals as goal
+
+-- without names there are no sinks
+none_long : {X : Type 0} (names : List (List ℕ)) (xs : List X) → names ≡ [] → length xs ≡ length names → xs ≡ []
+none_long names [] none many = refl
+none_long names (x ∷ xs) none many = absurd (let none_there = ap length none in omega (arith, many, none_there))
+
+pub record_watched-report-requires-clause-plain : goal.record_watched-report-requires-clause-plain
+record_watched-report-requires-clause-plain g c κs within = λ plain.
+    let first : vec_len c.args.rooms.sinks ≡ length c.args.rooms.sinks.items = search rules in
+    none_long c.args.watch_names.now c.args.rooms.sinks.items (c.requires.plain plain) (sym first ∙ c.requires.many_sinks)
 
 pub keep_sinks-requires-clause-many : goal.keep_sinks-requires-clause-many
 keep_sinks-requires-clause-many g c κs within =
@@ -24,16 +36,16 @@ keep_sinks-requires-clause-room g c κs within =
     let many = keep_sinks-requires-clause-many g c κs within in
     omega (arith, many, c.requires.sink_room)
 
-pub keep_feeds-requires-clause-many : goal.keep_feeds-requires-clause-many
-keep_feeds-requires-clause-many g c κs within =
+pub keep_inputs-requires-clause-many : goal.keep_inputs-requires-clause-many
+keep_inputs-requires-clause-many g c κs within =
     let long : length c.args.rooms.sources.items ≡ length c.record_watched-report.result.feeds.items = zip_long _ _ _ c.record_watched-report.ensures.stays in
     let first : vec_len c.args.rooms.sources ≡ length c.args.rooms.sources.items = search rules in
     let last : vec_len c.record_watched-report.result.feeds ≡ length c.record_watched-report.result.feeds.items = search rules in
     last ∙ sym long ∙ sym first ∙ c.requires.many
 
-pub keep_feeds-requires-clause-room : goal.keep_feeds-requires-clause-room
-keep_feeds-requires-clause-room g c κs within =
-    let many = keep_feeds-requires-clause-many g c κs within in
+pub keep_inputs-requires-clause-room : goal.keep_inputs-requires-clause-room
+keep_inputs-requires-clause-room g c κs within =
+    let many = keep_inputs-requires-clause-many g c κs within in
     omega (arith, many, c.requires.room)
 
 pub returns-clause-recorded : goal.returns-clause-recorded
@@ -54,7 +66,7 @@ returns-clause-recorded g c = λ before between opened sinks_opened.
       w4 = world_state c.args.world.now;
       w5 = world_state c.keep_views.new.world;
       w6 = world_state c.keep_sinks.new.world;
-      w7 = world_state c.keep_feeds.new.world;
+      w7 = world_state c.keep_inputs.new.world;
       w8 = world_state c.keep_live-live_kept.new.self;
       ss = map source_state c.args.rooms.sources.items;
       ss_now = map source_state done.result.feeds.items;
@@ -64,7 +76,7 @@ returns-clause-recorded g c = λ before between opened sinks_opened.
       ks_now = map sink_state done.result.watchers.items;
       behind = [];
       views = map failures done.result.views.items;
-      flags = c.keep_feeds.new.failed.items;
+      flags = c.keep_inputs.new.failed.items;
       sink_flags = c.keep_sinks.new.failed.items;
       live_kept = c.keep_live-live_kept.result;
       opens = opened;
@@ -72,7 +84,7 @@ returns-clause-recorded g c = λ before between opened sinks_opened.
       refuses = nothing_refused (world_state c.args.world.now);
       lets_go = c.keep_views.ensures;
       keeps_sinks = c.keep_sinks.ensures.kept;
-      keeps = c.keep_feeds.ensures.kept;
+      keeps = kept_states source_state kinds.Source source_keeping (world_state c.keep_sinks.new.world) (world_state c.keep_inputs.new.world) feeds done.result.feeds.items c.keep_inputs.new.failed.items c.keep_inputs.ensures.kept;
       keeps_out = c.keep_live-live_kept.ensures.keeps;
       inputs_now = c.keep_live-live_kept.ensures.input_faults;
       outputs_now = c.keep_live-live_kept.ensures.output_faults;
@@ -82,8 +94,8 @@ returns-clause-recorded g c = λ before between opened sinks_opened.
       others = out_apart out watches c.requires.apart;
     } in
     all_watched c.args.options.now c.args.range out watches feeds watches [] seen c.requires.apart (sym (append-nil watches)) (λ e. g.W.Live.Extent.Extent.tells e)
-    (record { report = done.result.report; sealed = done.result.sealed; watches = done.result.watches; feeds_failed = c.keep_feeds.new.failed; out_failed = c.has_failed.result; watches_failed = c.add_ends.new.failed }) refl refl refl
+    (record { report = done.result.report; sealed = done.result.sealed; watches = done.result.watches; feeds_failed = c.keep_inputs.new.failed; out_failed = c.has_failed.result; watches_failed = c.add_ends.new.failed }) refl refl refl
     (c.has_failed.ensures ∙ ap (failed_so (went_well c.keep_live-live_kept.result)) c.faults-live_faults.ensures)
     (c.add_ends.ensures ∙ ap (with_ends c.keep_sinks.new.failed.items) c.deref.ensures.value)
     (λ none. let same = done.ensures.refused none in (ap (map source_state) same.0, ap live_state same.1, ap (map sink_state) same.2, no_total failures done.result.views.items same.3, same.4))
-    c.requires.chunked done.ensures.recorded c.watch_files_are_told.ensures
+    c.requires.plain done.ensures.recorded c.watch_files_are_told.ensures
