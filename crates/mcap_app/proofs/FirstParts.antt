@@ -61,7 +61,7 @@ use Rattle.command_write.specs.Recover.{HoldsRecovered, RecoveryDecides, Recover
 use Rattle.command_record.specs.Record.{back_sources}
 use Rattle.command_record.specs.RecordSteps.{AreAllowed}
 use Rattle.mcap_app.specs.Laws.{IsChunkSize, IsFirstPart, FitsWritingLimits, records_in_pieces, KeepsFirst, RecoversFirst, PassesWritingLimit, RecordingsLeaveFirstParts, RecordingsAreRecovered}
-use Rattle.mcap_app.proofs.Recordings.{Recording, of_records}
+use Rattle.mcap_app.proofs.Recordings.{Recording, of_watched}
 use Rattle.mcap_app.proofs.Unrepeated.{unrepeated}
 use Rattle.mcap_app.proofs.Sound.{IsExact, found_sound}
 use Rattle.mcap_app.proofs.Recovered.{reached, made}
@@ -313,10 +313,10 @@ first_recovered fronts_are_repaired options before after r allowed text recorded
     comes options.file history part (keeps_first options.file history part are front) text short chunk size input output later last told here there status recovers recovers.recovery refl first.magic (recovers.decided told part here there quiet)
 
 pub recordings_leave_first_parts : RecordingsLeaveFirstParts
-recordings_leave_first_parts options out feeds old new r answer told now it here tells well some =
-    first_left options out old.world new.world r answer told now (of_records options out feeds old new r answer it) here tells well some
+recordings_leave_first_parts options range out watches feeds old new r answer told now it here tells well some =
+    first_left options out old.world new.world r answer told now (of_watched options range out watches feeds old new r answer it) here tells well some
 
 pub recordings_are_recovered : FrontsAreRepaired → RecordingsAreRecovered
-recordings_are_recovered fronts_are_repaired options out feeds old new r answer allowed text it within part first chunk input output later last status told size here there recovers quiet =
+recordings_are_recovered fronts_are_repaired options range out watches feeds old new r answer allowed text it within part first chunk input output later last status told size here there recovers quiet =
     let is = it.reported r refl in
-    first_recovered fronts_are_repaired options (sides is.given is.live) (sides (back_sources is.kept_feeds) is.live_now) r allowed text is.recorded within part first chunk input output later last status told size here there recovers quiet
+    first_recovered fronts_are_repaired options (sides is.given is.viewed) (sides (back_sources is.kept_feeds) is.live_now) r allowed text is.recorded within part first chunk input output later last status told size here there recovers quiet

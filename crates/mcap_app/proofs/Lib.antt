@@ -6,5 +6,4 @@ mod Unrepeated
 mod Recovered
 mod Merges
 mod FirstParts
-mod Watched
 mod WatchFiles

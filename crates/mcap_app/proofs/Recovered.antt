@@ -12,11 +12,6 @@ use Rattle.mcap_model.proofs.Logging.{few_filtered}
 use Rattle.mcap_laws.proofs.Validity.{files_are_valid, files_are_indexed}
 use Rattle.mcap_recover.specs.declared.answers.Recovered.{Recovered}
 use Rattle.mcap_recover.specs.declared.answers.RecoverRefused.{RecoverRefused}
-use Rattle.mcap_recover.specs.declared.answers.RecoverRefused.TheVariants as refusals
-use Rattle.mcap_model.specs.declared.refusals.ReadingRefused.{ReadingRefused}
-use Rattle.mcap_model.specs.declared.refusals.ReadingRefused.TheVariants as scans
-use Rattle.mcap_model.specs.declared.ends.Stop.{Stop}
-use Rattle.mcap_model.specs.declared.ends.Stop.TheVariants as stops
 use Rattle.mcap_recover.specs.Recovering.{lacks, recovered_options}
 use Rattle.command_base.specs.declared.statuses.Status.TheVariants as statuses
 use Rattle.command_base.specs.Printing.{TellsAll}

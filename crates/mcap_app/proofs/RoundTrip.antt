@@ -32,7 +32,7 @@ use Rattle.command_base.proofs.Refusals.{refusal_is}
 use Rattle.command_base.specs.Printing.{TellsAll}
 use Rattle.command_read.specs.Cat.{ComesTo, IsPrinted, Cats}
 use Rattle.mcap_app.specs.Laws.{everything, PrintsHistory, RecordingsArePrinted}
-use Rattle.mcap_app.proofs.Recordings.{Recording, of_records}
+use Rattle.mcap_app.proofs.Recordings.{Recording, of_watched}
 
 -- ---- the printing
 
@@ -108,5 +108,5 @@ printed_so options out old new later last r answer told allowed text it here sam
     ]
 
 pub recordings_are_printed : RecordingsArePrinted
-recordings_are_printed options out feeds old new later last r answer told allowed text it here same cats quiet =
-    printed_so options out old.world new.world later last r answer told allowed text (of_records options out feeds old new r statuses.Done it) here same cats quiet
+recordings_are_printed options range out watches feeds old new later last r answer told allowed text it here same cats quiet =
+    printed_so options out old.world new.world later last r answer told allowed text (of_watched options range out watches feeds old new r statuses.Done it) here same cats quiet

@@ -1,5 +1,5 @@
 -- What the words of a command make of its run.
-use Rattle.std.proofs.Common.{◌≡◌, ◌⊎◌, ℕ, zero, suc, ◌≤◌, Bool, true, false, List, [], ◌∷◌, Option, Some, None, inl, inr, refl, sym, ap, ap₂, length, subst, codes, ◌∙◌, arith, unwrap_or}
+use Rattle.std.proofs.Common.{◌≡◌, ℕ, ◌≤◌, Bool, true, false, List, [], ◌∷◌, Option, Some, None, refl, sym, ap, ap₂, length, subst, codes, ◌∙◌, arith, unwrap_or}
 use Rattle.std.proofs.lemmas.Option.{same_Some}
 use Rattle.std.proofs.lemmas.List.FromFn.{length-map-range_with_len}
 use Rattle.command_words.specs.declared.command.Command.{Command}
@@ -9,17 +9,11 @@ use Rattle.mcap_model.specs.declared.replay.Range.{Range}
 use Rattle.command_words.specs.Items.{Item, given}
 use Rattle.command_words.specs.Commands.{GivesNumber, SizesChunks, Derives, IsFileOptions, Flags, HasWatchers, MayWatch, watchers_with}
 use Rattle.command_words.specs.Defaults.{watch_name, watch_names}
-use Rattle.recorder.specs.declared.report.Report.{Report}
 use Rattle.command_base.specs.declared.statuses.Status.{Status}
 use Rattle.command_base.specs.declared.statuses.Status.TheVariants as statuses
 use Rattle.command_base.specs.Texts.{status_number}
-use Rattle.command_base.specs.Ran.{Scene}
 use Rattle.command_generate.specs.Allowed.{OptionsAllowed}
-use Rattle.command_record.specs.Record.{Records}
-use Rattle.command_record.specs.Watched.{requested}
-use Rattle.command_record.specs.WatchedAnswer.{RecordsWatched}
-use Rattle.mcap_model.specs.declared.options.RecordOptions.{RecordOptions}
-use Rattle.mcap_app.specs.Runs.{RecordsBeside, generate_options}
+use Rattle.mcap_app.specs.Runs.{generate_options}
 use Rattle.mcap_app.specs.Ways.{IsAllowed, IsWatchable}
 
 -- no status has the number of bad words
@@ -30,26 +24,18 @@ no_bad_words statuses.Fault number is two = omega (arith, is, two)
 no_bad_words statuses.Limit number is two = omega (arith, is, two)
 no_bad_words statuses.Memory number is two = omega (arith, is, two)
 
--- ---- a recording beside watchers, or without
+-- ---- the names of watchers' files
 
-pub beside_none : (options : RecordOptions) (range : Range) (watchers : ℕ) (out : List ℕ) (names feeds : List (List ℕ)) (old new : Scene) (report : Option Report) (status : Status) → watchers ≡ 0 → Records options out feeds old new report status
-    → RecordsBeside watchers (requested options range out names feeds) old new report status
-beside_none options range watchers out names feeds old new report status none records = subst (λ (n : ℕ). RecordsBeside n (requested options range out names feeds) old new report status) (sym none) records
+-- there are as many as watchers
+names_long : (out : List ℕ) (watchers : ℕ) (names : List (List ℕ)) → names ≡ watch_names out watchers → length names ≡ watchers
+names_long out watchers names named = ap length named ∙ length-map-range_with_len (watch_name out) 1 watchers
 
-pub beside_some : (options : RecordOptions) (range : Range) (watchers : ℕ) (out : List ℕ) (names feeds : List (List ℕ)) (old new : Scene) (report : Option Report) (status : Status) → (watchers ≡ 0 → ⊥) → names ≡ watch_names out watchers
-    → RecordsWatched (requested options range out names feeds) old new report status → RecordsBeside watchers (requested options range out (watch_names out watchers) feeds) old new report status
-beside_some options range zero out names feeds old new report status some named records = absurd (some refl)
-beside_some options range (suc n) out names feeds old new report status some named records = subst (λ (l : List (List ℕ)). RecordsWatched (requested options range out l feeds) old new report status) named records
+pub few_names : (out : List ℕ) (watchers : ℕ) (names : List (List ℕ)) → watchers ≤ 16 → names ≡ watch_names out watchers → length names ≤ 16
+few_names out watchers names few named = let long = names_long out watchers names named in omega (arith, long, few)
 
--- there are as many names as watchers
-not_none : (n : ℕ) → (n ≡ 0 → ⊥) → 1 ≤ n
-not_none zero some = absurd (some refl)
-not_none (suc n) some = omega arith
-
-pub few_names : (out : List ℕ) (watchers : ℕ) (names : List (List ℕ)) → (watchers ≡ 0 → ⊥) → watchers ≤ 16 → names ≡ watch_names out watchers → (1 ≤ length names) × (length names ≤ 16)
-few_names out watchers names some few named =
-    let long : length names ≡ watchers = ap length named ∙ length-map-range_with_len (watch_name out) 1 watchers in
-    (omega (arith, long, not_none watchers some), omega (arith, long, few))
+-- without watchers there are none
+pub none_named : (P : List (List ℕ) → Type 0) (out : List ℕ) (watchers : ℕ) (names : List (List ℕ)) → watchers ≡ 0 → names ≡ [] → P names → P (watch_names out watchers)
+none_named P out watchers names none empty holds = subst (λ (n : ℕ). P (watch_names out n)) (sym none) (subst P empty holds)
 
 -- ---- ranges
 

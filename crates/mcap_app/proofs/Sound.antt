@@ -46,7 +46,7 @@ use Rattle.command_read.specs.Check.{verdict_status, Decides, FileChecks}
 use Rattle.command_base.specs.Ran.{Scene, counts_in, AnyRose}
 use Rattle.command_record.specs.RecordSteps.{AreAllowed}
 use Rattle.mcap_app.specs.Laws.{IsSaid, PrintsSound, RecordingsAreSound}
-use Rattle.mcap_app.proofs.Recordings.{Recording, of_records}
+use Rattle.mcap_app.proofs.Recordings.{Recording, of_watched}
 use Rattle.mcap_app.proofs.RoundTrip.{closed_left}
 
 -- ---- no compression
@@ -192,5 +192,5 @@ checked_so options out old new later last r answer told allowed text it here sam
     found_sound options.file file out reads.tops reads.end later last left.0 answer exact reads.halts tells held checks quiet
 
 pub recordings_are_sound : RecordingsAreSound
-recordings_are_sound options out feeds old new later last r answer told allowed text it here same checks quiet =
-    checked_so options out old.world new.world later last r answer told allowed text (of_records options out feeds old new r statuses.Done it) here same checks quiet
+recordings_are_sound options range out watches feeds old new later last r answer told allowed text it here same checks quiet =
+    checked_so options out old.world new.world later last r answer told allowed text (of_watched options range out watches feeds old new r statuses.Done it) here same checks quiet

@@ -47,7 +47,7 @@ use Rattle.command_record.specs.Record.{feed_entry}
 use Rattle.command_record.specs.Sinks.{SinkKept, sink_entry}
 use Rattle.command_record.specs.Watched.{EndsSo, IsCalm}
 use Rattle.command_record.proofs.Whole.{at_map, map_at}
-use Rattle.mcap_app.specs.WatchedLaws.{HoldsWatchedMessages, WatchFilesHoldMessages}
+use Rattle.mcap_app.specs.Laws.{HoldsWatchedMessages, WatchFilesHoldMessages}
 use Rattle.mcap_app.proofs.Recordings.{watched_still, watched_total, of_watched}
 
 -- ---- the file up to its last block

@@ -1,6 +1,6 @@
--- Laws of the commands: what is recorded is printed, keeps all rules, and is recovered where only a first part of it is left; what
--- is recovered or merged keeps all rules.
-use Rattle.std.specs.Prelude.{◌≡◌, ◌⊎◌, ◌^◌, ◌<◌, ◌≤◌, ℕ, List, [], length, take, filter, refl, true, Option, Some, None, IsUtf8}
+-- Laws of the commands: what is recorded, with any number of watchers, is printed, keeps all rules, is recovered where only a first
+-- part of it is left, and is what watch files hold; what is recovered or merged keeps all rules.
+use Rattle.std.specs.Prelude.{◌≡◌, ◌⊎◌, ◌^◌, ◌<◌, ◌≤◌, ℕ, List, [], ◌++◌, length, take, filter, refl, true, Option, Some, None, IsUtf8}
 use Rattle.std.specs.List.{AllZip, flat_map}
 use Rattle.mcap_wire.specs.Limits.{chunk_size_limit}
 use Rattle.mcap_io.specs.Outside.{SinkState, Told}
@@ -9,6 +9,8 @@ use Rattle.mcap_model.specs.declared.checked.Verdict.{Verdict}
 use Rattle.mcap_model.specs.declared.checked.Verdict.TheVariants as verdicts
 use Rattle.mcap_model.specs.declared.ends.End.TheVariants as ends
 use Rattle.mcap_model.specs.declared.options.FileOptions.{FileOptions}
+use Rattle.mcap_model.specs.declared.replay.Range.{Range}
+use Rattle.mcap_model.specs.Places.{Each}
 use Rattle.mcap_model.specs.Tops.{Top, offset_behind, flat}
 use Rattle.mcap_model.specs.Rules.{V1}
 use Rattle.mcap_model.specs.History.{is_message}
@@ -20,6 +22,7 @@ use Rattle.mcap_model.specs.Valid.{IsFullyIndexed}
 use Rattle.mcap_model.specs.Laws.{IsValid, HoldsSeen}
 use Rattle.mcap_model.specs.Recovery.{piece_records, FrontIsRepaired}
 use Rattle.time_player.specs.Text.{cat_text}
+use Rattle.live_watcher.specs.Text.{end_line}
 use Rattle.mcap_model.specs.Merged.{Merged as MergesTo}
 use Rattle.chunk_writer.specs.Limits.{Holds}
 use Rattle.recorder.specs.declared.report.Report.{Report}
@@ -34,8 +37,9 @@ use Rattle.mcap_recover.specs.declared.answers.Why.TheVariants as whys
 use Rattle.mcap_recover.specs.Recovering.{recovered_options}
 use Rattle.mcap_merge.specs.declared.answers.Merged.{Merged}
 use Rattle.mcap_merge.specs.Filed.{merged_options}
-use Rattle.command_record.specs.Record.{Records}
 use Rattle.command_record.specs.RecordSteps.{AreAllowed}
+use Rattle.command_record.specs.Watched.{requested}
+use Rattle.command_record.specs.WatchedAnswer.{Records}
 use Rattle.command_read.specs.Cat.{Selection, Cats}
 use Rattle.command_read.specs.Check.{verdict_line, FileChecks}
 use Rattle.command_write.specs.declared.recovering.Recovery.{Recovery}
@@ -64,10 +68,12 @@ pub record PrintsHistory (history : List Rec) (before now : SinkState) : Type 0 
 -- A recording in which all was done, in a world that tells, and then a printing of its output there, in which no count rises: it
 -- prints the messages of the recording's history, or memory lacked for that.
 abbrev pub RecordingsArePrinted : Type 0
-RecordingsArePrinted = (options : RecordOptions) (out : List ℕ) (feeds : List (List ℕ)) (old new later last : Scene)
-    (r : Report) (answer : Status) (told : Told) → AreAllowed options → IsUtf8 options.file.profile
-    → (it : Records options out feeds old new (Some r) statuses.Done) → old.world.told ≡ Some told
-    → later.world ≡ new.world → Cats everything out later last answer → (AnyRose (counts_in later) (counts_in last) → ⊥)
+RecordingsArePrinted = (options : RecordOptions) (range : Range) (out : List ℕ) (watches feeds : List (List ℕ))
+    (old new later last : Scene) (r : Report) (answer : Status) (told : Told) → AreAllowed options
+    → IsUtf8 options.file.profile
+    → (it : Records (requested options range out watches feeds) old new (Some r) statuses.Done)
+    → old.world.told ≡ Some told → later.world ≡ new.world → Cats everything out later last answer
+    → (AnyRose (counts_in later) (counts_in last) → ⊥)
     → ((answer ≡ statuses.Done) × PrintsHistory (it.reported r refl).recorded.history later.out last.out)
     ⊎ (answer ≡ statuses.Memory)
 
@@ -88,10 +94,12 @@ pub record PrintsSound (chunk : Option ℕ) (before now : SinkState) : Type 0 wh
 -- A recording in which all was done, in a world that tells, and then a check of its output there, in which no count rises: it
 -- finds no flaw, no compression and no limit of reading, and prints that; or memory lacked for the check.
 abbrev pub RecordingsAreSound : Type 0
-RecordingsAreSound = (options : RecordOptions) (out : List ℕ) (feeds : List (List ℕ)) (old new later last : Scene)
-    (r : Report) (answer : Status) (told : Told) → AreAllowed options → IsUtf8 options.file.profile
-    → Records options out feeds old new (Some r) statuses.Done → old.world.told ≡ Some told → later.world ≡ new.world
-    → FileChecks out later last answer → (AnyRose (counts_in later) (counts_in last) → ⊥)
+RecordingsAreSound = (options : RecordOptions) (range : Range) (out : List ℕ) (watches feeds : List (List ℕ))
+    (old new later last : Scene) (r : Report) (answer : Status) (told : Told) → AreAllowed options
+    → IsUtf8 options.file.profile
+    → Records (requested options range out watches feeds) old new (Some r) statuses.Done
+    → old.world.told ≡ Some told → later.world ≡ new.world → FileChecks out later last answer
+    → (AnyRose (counts_in later) (counts_in last) → ⊥)
     → ((answer ≡ statuses.Done) × PrintsSound options.file.chunk later.out last.out) ⊎ (answer ≡ statuses.Memory)
 
 -- ---- what is recovered keeps all rules
@@ -169,8 +177,9 @@ FitsWritingLimits options history =
 -- A recording in a world that tells, whatever its end, of which a record was accepted and the output was kept, leaves such a part
 -- under the output's name; and where its writer closed, its file is within the limits.
 abbrev pub RecordingsLeaveFirstParts : Type 0
-RecordingsLeaveFirstParts = (options : RecordOptions) (out : List ℕ) (feeds : List (List ℕ)) (old new : Scene)
-    (r : Report) (answer : Status) (told now : Told) → (it : Records options out feeds old new (Some r) answer)
+RecordingsLeaveFirstParts = (options : RecordOptions) (range : Range) (out : List ℕ)
+    (watches feeds : List (List ℕ)) (old new : Scene) (r : Report) (answer : Status) (told now : Told)
+    → (it : Records (requested options range out watches feeds) old new (Some r) answer)
     → old.world.told ≡ Some told → new.world.told ≡ Some now → (it.reported r refl).live_kept ≡ true
     → ((it.reported r refl).recorded.history ≡ [] → ⊥)
     → ((part : List ℕ) × (now.names out ≡ Some part)
@@ -232,9 +241,9 @@ PassesWritingLimit options history chunk part = (keeps : KeepsFirst options hist
 -- name of a world that tells. A recovery of that name, in which no count rises, leaves the file of just the records that are
 -- whole there; or that file would pass a limit; or memory lacked.
 abbrev pub RecordingsAreRecovered : Type 0
-RecordingsAreRecovered = (options : RecordOptions) (out : List ℕ) (feeds : List (List ℕ)) (old new : Scene) (r : Report)
-    (answer : Status) → AreAllowed options → IsUtf8 options.file.profile
-    → (it : Records options out feeds old new (Some r) answer)
+RecordingsAreRecovered = (options : RecordOptions) (range : Range) (out : List ℕ) (watches feeds : List (List ℕ))
+    (old new : Scene) (r : Report) (answer : Status) → AreAllowed options → IsUtf8 options.file.profile
+    → (it : Records (requested options range out watches feeds) old new (Some r) answer)
     → FitsWritingLimits options.file (it.reported r refl).recorded.history → (part : List ℕ)
     → IsFirstPart options.file (it.reported r refl).recorded.history part
     → (chunk : ℕ) (input output : List ℕ) (later last : Scene) (status : Status) (told : Told) → IsChunkSize chunk
@@ -244,3 +253,31 @@ RecordingsAreRecovered = (options : RecordOptions) (out : List ℕ) (feeds : Lis
     × RecoversFirst options.file (it.reported r refl).recorded.history chunk part output later last)
     ⊎ (((status ≡ statuses.Limit) × PassesWritingLimit options.file (it.reported r refl).recorded.history chunk part)
     ⊎ (status ≡ statuses.Memory))
+
+-- ---- watch files
+
+-- Behind some lines, those of fronts, a watch file holds the line of the end, with the numbers of the file's blocks and of the
+-- messages of the range, and the lines of these: of all messages of a history that lie in the range, in the order of log time and
+-- place. They are those of records whose flat records are the history's; so their topics and their order are.
+pub record HoldsWatchedMessages (range : Range) (history : List Rec) (blocks : ℕ) (file : Option (List ℕ))
+    : Type 0 where
+  pub tops : List Top
+  pub flat_are : flat tops ≡ flat_history history
+  pub messages : List Seen
+  pub scan : Scan tops messages
+  pub are : AllZip HoldsSeen (filter is_message history) messages
+  pub shown : List Seen
+  pub replay : Replay range None messages shown
+  pub fronts : List ℕ
+  pub lines : file ≡ Some (fronts ++ (end_line ends.Closed blocks (length shown) ++ cat_text shown))
+
+-- A recording in chunks in which all was done, in a world that tells, leaves such a file under each watch name.
+abbrev pub WatchFilesHoldMessages : Type 0
+WatchFilesHoldMessages = (options : RecordOptions) (range : Range) (size : ℕ) (out : List ℕ)
+    (watches feeds : List (List ℕ)) (old new : Scene) (r : Report) (told now : Told) → AreAllowed options
+    → IsUtf8 options.file.profile → options.file.chunk ≡ Some size
+    → (it : Records (requested options range out watches feeds) old new (Some r) statuses.Done)
+    → old.world.told ≡ Some told → new.world.told ≡ Some now
+    → Each
+    (λ (name : List ℕ). HoldsWatchedMessages range (it.reported r refl).recorded.history r.writer.blocks (now.names name))
+    watches

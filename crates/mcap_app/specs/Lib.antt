@@ -3,4 +3,3 @@ pub mod Runs
 -- What the functions of this crate and its proofs say besides.
 pub mod Ways
 pub mod Laws
-pub mod WatchedLaws

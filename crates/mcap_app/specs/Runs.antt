@@ -1,5 +1,5 @@
 -- What the program does, command by command.
-use Rattle.std.specs.Prelude.{◌≡◌, ◌⊎◌, ℕ, zero, suc, [], ◌∷◌, true, false, Option, None, Some}
+use Rattle.std.specs.Prelude.{◌≡◌, ◌⊎◌, ℕ, [], ◌∷◌, true, false, Option, None, Some}
 use Rattle.command_words.specs.declared.command.Command.{Command}
 use Rattle.command_words.specs.declared.command.Command.TheVariants as commands
 use Rattle.recorder.specs.declared.report.Report.{Report}
@@ -8,9 +8,8 @@ use Rattle.command_base.specs.declared.statuses.Status.TheVariants as statuses
 use Rattle.command_base.specs.Texts.{no_memory, said, status_number}
 use Rattle.command_base.specs.Printing.{Takes}
 use Rattle.command_base.specs.Ran.{Scene}
-use Rattle.command_record.specs.Record.{Records}
-use Rattle.command_record.specs.Watched.{Requested, requested}
-use Rattle.command_record.specs.WatchedAnswer.{RecordsWatched}
+use Rattle.command_record.specs.Watched.{requested}
+use Rattle.command_record.specs.WatchedAnswer.{Records}
 use Rattle.command_read.specs.FileCommand.{RunsOnFile}
 use Rattle.command_read.specs.Cat.{selection, Cats}
 use Rattle.command_read.specs.Indexed.{IndexedCats}
@@ -28,16 +27,11 @@ generate_options = record {
   lossless = true;
 }
 
--- a recording without watchers, or beside so many, which write to the files under their names
-abbrev pub RecordsBeside : ℕ → Requested → Scene → Scene → Option Report → Status → Type 0
-RecordsBeside zero request old new report status =
-    Records request.options request.names.out request.names.feeds old new report status
-RecordsBeside (suc n) request old new report status = RecordsWatched request old new report status
-
--- what a command does; only a recording has a report, of feeds that are read or generated
+-- What a command does; only a recording has a report, of feeds that are read or generated. Where there are watchers they write to
+-- the files under their names.
 abbrev pub Does : Command → Scene → Scene → Option Report → Status → Type 0
 Does (commands.Record out feeds file limit lossless range watchers) old new report status =
-    RecordsBeside watchers
+    Records
     (requested (record { file = file; limit = limit; lossless = lossless }) range out (watch_names out watchers) feeds)
     old new report status
 Does (commands.OfFile what file) old new report status = RunsOnFile what file old new status × (report ≡ None)

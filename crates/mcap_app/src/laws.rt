@@ -1,5 +1,5 @@
 //! Laws of the commands, each as the contract of a function that does nothing.
-ghost use Rattle.mcap_app.specs.Laws.{RecordingsArePrinted, RecordingsAreSound, RecoveriesAreSound, MergesAreSound, RecordingsLeaveFirstParts, RecordingsAreRecovered};
+ghost use Rattle.mcap_app.specs.Laws.{RecordingsArePrinted, RecordingsAreSound, RecoveriesAreSound, MergesAreSound, RecordingsLeaveFirstParts, RecordingsAreRecovered, WatchFilesHoldMessages};
 
 use mcap_laws::{fronts_are_repaired, repairs_can_be_written};
 
@@ -39,3 +39,8 @@ pub fn recordings_are_recovered()
 {
     fronts_are_repaired();
 }
+
+/// Where all was done each watch file ends with the line of the end and the lines of all recorded messages of the range.
+pub fn watch_files_hold_messages()
+    ensures { WatchFilesHoldMessages }
+{}

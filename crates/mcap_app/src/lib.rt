@@ -3,7 +3,6 @@
 
 pub mod laws;
 mod program;
-pub mod watched_laws;
 
 pub use command_base::{BAD_WORDS_STATUS, Status, refuse_for_memory};
 pub use command_words::{Command, FileCommand, Names, WordsRefused, parse_words};

@@ -11,13 +11,14 @@ ghost use Rattle.command_base.specs.Scenes.{scene};
 ghost use Rattle.command_record.specs.RecordSteps.{AreAllowed, AreFew};
 ghost use Rattle.command_words.specs.Defaults.{watch_names as names_of_watches};
 ghost use Rattle.command_record.specs.Watched.{requested};
-ghost use Rattle.mcap_app.specs.Runs.{RecordsBeside, Does, LacksForWords, Runs, generate_options};
+ghost use Rattle.command_record.specs.WatchedAnswer.{Records};
+ghost use Rattle.mcap_app.specs.Runs.{Does, LacksForWords, Runs, generate_options};
 ghost use Rattle.mcap_app.specs.Ways.{IsAllowed, IsWatchable, records, generates, reads, writes, way_of};
 
 use command_base::{BAD_WORDS_STATUS, Status, refuse_for_memory, refuse_words};
 use command_generate::{Generated, Numbers, generate_file};
 use command_read::{print_file, print_indexed, run_file_command};
-use command_record::{Ended, record_file, record_watched_file};
+use command_record::{Ended, record_file};
 use command_words::{
     Command, USUAL_CHUNK, USUAL_LIMIT, WordsRefused, parse_words, usage, watch_names,
 };
@@ -124,7 +125,7 @@ fn run_record<R: AllocGlobal + Threads + Wait + Sync, W: World, O: Sink, E: Sink
     requires allowed { AreAllowed options.now }
     requires few { AreFew feeds.now }
     requires watchable { IsWatchable options.now.file watching.watchers }
-    ensures runs { RecordsBeside watching.watchers
+    ensures runs { Records
         (requested options.now watching.range name.now (names_of_watches name.now watching.watchers) feeds.now)
         (scene (W.state world.old) (O.state out.old) (E.state err.old))
         (scene (W.state world.new) (O.state out.new) (E.state err.new)) result.report result.status
@@ -134,12 +135,23 @@ fn run_record<R: AllocGlobal + Threads + Wait + Sync, W: World, O: Sink, E: Sink
 {
     let Watching { range, watchers } = watching;
     if watchers == 0 {
-        return record_file(rt, options, name, feeds, world, out, err, listed);
+        return record_file(
+            rt,
+            options,
+            range,
+            name,
+            &[],
+            feeds,
+            world,
+            out,
+            err,
+            listed,
+        );
     }
     match watch_names(rt.alloc(), name, watchers) {
         Ok(names) => {
             let names = names.as_slice();
-            return record_watched_file(
+            return record_file(
                 rt, options, range, name, names, feeds, world, out, err, listed,
             );
         }
