@@ -1,5 +1,5 @@
 -- A file whose records up to the Data End are known, and what stands behind them.
-use Rattle.std.specs.Prelude.{◌+◌, ℕ, List, ◌++◌}
+use Rattle.std.specs.Prelude.{ℕ, List, ◌++◌}
 use Rattle.mcap_wire.specs.Layout.{magic}
 use Rattle.mcap_model.specs.Tops.{Top, spelled}
 use Rattle.mcap_model.specs.Valid.{Flaw}

@@ -1,5 +1,5 @@
 //! Whether a valid file is fully indexed.
-ghost use Rattle.std.specs.Prelude.{◌≡◌, ◌↔◌, ℕ, List, length as size, IfOk, IsTrue};
+ghost use Rattle.std.specs.Prelude.{◌≡◌, ◌↔◌, ℕ, List, None, length as size, IfOk, IsTrue};
 ghost use Rattle.rec_index.specs.Parsed.{chunk_index_fields};
 ghost use Rattle.mcap_model.specs.Places.{At, Each};
 ghost use Rattle.mcap_model.specs.Tops.{Top};
@@ -9,6 +9,7 @@ ghost use Rattle.mcap_model.specs.Made.{top};
 ghost use Rattle.mcap_wire.specs.declared.faults.Cut.{Cut as OneCut};
 ghost use Rattle.index_check.specs.Chunks.{ChunksOf};
 ghost use Rattle.summary_read.specs.PartSteps.{cut_tops, AreInside};
+ghost use Rattle.summary_read.specs.Steps.{Judged};
 ghost use Rattle.summary_check.specs.Filed.{records_of};
 ghost use Rattle.summary_check.specs.FullIndex.{EmptyIsRight, EmptyRight, HasStatistics, MakesFullyIndexed};
 ghost use Rattle.summary_check.specs.Judging.{KnownOf};
@@ -84,7 +85,8 @@ pub(crate) fn is_indexed(
     bytes: &[u8],
     cuts: &[Cut],
 ) -> Result<bool, Memory>
-    requires { AreInside bytes.now cuts.now }
+    requires inside { AreInside bytes.now cuts.now }
+    requires judged { Each (λ t. Judged t None) (cut_tops bytes.now cuts.now) }
     ensures { IfOk result (λ indexed. (tops : List Top) (foot : OneCut)
         → KnownOf tops bytes.now cuts.now foot section.now
         → IsTrue indexed
@@ -103,8 +105,6 @@ pub(crate) fn is_indexed(
     if !are_right(&section.chunks, bytes, cuts) {
         return Ok(false);
     }
-    match channels_of(alloc, bytes, cuts) {
-        Ok(ids) => return Ok(are_repeated(&section.tally, &ids)),
-        Err(memory) => return Err(memory),
-    }
+    let ids = channels_of(alloc, bytes, cuts)?;
+    return Ok(are_repeated(&section.tally, &ids));
 }

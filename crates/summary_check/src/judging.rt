@@ -1,6 +1,9 @@
 //! All rules of the records behind a Data End.
-ghost use Rattle.std.specs.Prelude.{◌≤◌, ◌<◌, ◌+◌, ◌^◌, ◌++◌, ◌∷◌, [], List, length as size, IfOk, IfErr, OnOk};
+ghost use Rattle.std.specs.Prelude.{◌≤◌, ◌<◌, ◌+◌, ◌^◌, ◌++◌, ◌∷◌, [], List, None, length as size, IfOk, IfErr, OnOk};
+ghost use Rattle.mcap_model.specs.Places.{Each};
 ghost use Rattle.mcap_model.specs.Tops.{Top};
+ghost use Rattle.summary_read.specs.PartSteps.{cut_tops};
+ghost use Rattle.summary_read.specs.Steps.{Judged};
 ghost use Rattle.summary_check.specs.Closing.{IsOfFooter};
 ghost use Rattle.summary_check.specs.Cutting.{AreCutBehind};
 ghost use Rattle.summary_check.specs.Files.{spelled_file, FailsThere, IsOfSummary};
@@ -38,6 +41,7 @@ fn judge_cuts(
         → KnownOf tops rest.now cuts.now foot.now section.new) }
     ensures err { IfErr result (λ why. (tops : List Top) → IsSectioned tops section.old
         → FailsThere (spelled_file tops rest.now) why) }
+    ensures judged { OnOk result (Each (λ t. Judged t None) (cut_tops rest.now cuts.now)) }
     ensures kind { IfErr result IsOfSummary }
 {
     let behind = section.behind;

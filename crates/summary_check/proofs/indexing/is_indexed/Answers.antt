@@ -22,13 +22,13 @@ returns-then-not-are_right c = λ tops foot is.
       λ full. absurd (both_ways c.are_right.result c.if-not-are_right.true ((c.are_right.ensures (records_of tops bytes cuts foot) told.chunks rules).1 full.empties)),
     )
 
-pub returns-in-Ok : goal.returns-in-Ok
-returns-in-Ok c = λ tops foot is.
+pub returns : goal.returns
+returns c = λ tops foot is.
     let bytes = c.args.bytes.now in
     let cuts = c.args.cuts.now in
     let told = is.told in
     let rules = rules_of tops bytes cuts foot c.args.section.now is in
-    let iff = c.are_repeated.ensures tops (cut_tops bytes cuts) (cut_top bytes foot) is.ended is.judged is.foot_is is.tally c.in-Ok.ensures in (
+    let iff = c.are_repeated.ensures tops (cut_tops bytes cuts) (cut_top bytes foot) is.ended is.judged is.foot_is is.tally c.in_ok-ids.ensures in (
       (λ e. record {
         no_message = c.if-section.false;
         statistics = (c.has_statistics.ensures bytes).0 c.if-not-has_statistics.false;
