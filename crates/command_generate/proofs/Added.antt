@@ -62,8 +62,3 @@ message_added place content old s there shows records (m ∷ []) zip =
     let same = shown_once records (record { place = place; top = top 5 content }) m s zip.0 (record { place = sym there; is = record { kind = refl; layout = shows } }) in
     ap (λ (r : Shown). with_message old (fields_shown r)) same
 message_added place content old s there shows records (m ∷ n ∷ ms) zip = absurd zip.1
-
--- there is none
-pub message_absent : (place : Place) (content : List ℕ) (old : Sums) → ((channel : ℕ) (f : MessageFields) → ShowsMessage content channel f → ⊥) → AddsToSums (record { place = place; top = top 5 content } ∷ []) old old
-message_absent place content old none records [] zip = absurd zip
-message_absent place content old none records (m ∷ ms) zip = let seen = zip.0 in let is = seen.is in absurd (none m.channel m.message is.layout)

@@ -2,20 +2,26 @@
 ghost use Rattle.std.specs.Prelude.{◌∷◌, []};
 ghost use Rattle.mcap_model.specs.declared.replay.Place.{Place};
 ghost use Rattle.mcap_model.specs.Made.{top};
+ghost use Rattle.mcap_model.specs.Rules.{V6};
 ghost use Rattle.command_generate.specs.SumSteps.{AddsToSums};
 
 use crate::sums::Sums;
-use rec_data::{MESSAGE, Message};
+use mcap_model::{RecordView, view_record};
 
 /// Adds the record of that content, where it is a Message.
 pub(crate) fn add_record(sums: &mut Sums, op: u8, content: &[u8])
+    requires { V6 (top op content.now) }
     ensures { (place : Place) → AddsToSums (record { place = place; top = top op content.now } ∷ []) sums.old sums.new }
 {
-    if op != MESSAGE {
-        return;
-    }
-    match Message::parse(content) {
-        Ok(message) => return sums.add(&message),
-        Err(_) => return,
+    match view_record(op, content) {
+        RecordView::Message(message) => return sums.add(&message),
+        RecordView::Header(_)
+        | RecordView::Schema(_)
+        | RecordView::Channel(_)
+        | RecordView::Chunk(_)
+        | RecordView::MessageIndex(_)
+        | RecordView::Attachment(_)
+        | RecordView::Metadata(_)
+        | RecordView::Other => return,
     }
 }

@@ -1,4 +1,6 @@
-use Rattle.std.proofs.Common.{◌∷◌, [], List, ℕ, subst}
+use Rattle.std.proofs.Common.{◌∷◌, [], List, ℕ, sym, subst}
+use Rattle.mcap_model.specs.Made.{top}
+use Rattle.mcap_model.specs.Rules.{V6}
 use Rattle.mcap_scan.specs.Walking.{placed_at}
 use Rattle.command_generate.specs.SumSteps.{AddsToSums}
 use Rattle.command_generate.proofs.Summed.{sums_begin, sums_on, sums_end}
@@ -9,6 +11,12 @@ records-init g c = (
   sums_begin c.in-Ok.flat (g.S.Source.state c.args.source.now) c.none-sums.result (c.in-Ok.ensures _) c.none-sums.ensures,
   g.S.Source.stays_so c.args.source.now,
 )
+
+pub add_record-requires : goal.add_record-requires
+add_record-requires g c =
+    let was = c.records.invariant.0 in
+    let step = c.in-Record.ensures.steps (g.S.Source.state c.args.source.now) was.tops was.given was.stands in
+    subst (λ (l : List ℕ). V6 (top c.in-Record.op l)) (sym c.content.ensures) step.v6
 
 pub records-preserved : goal.records-preserved
 records-preserved g c =
