@@ -11,16 +11,10 @@ if [ ! -f "$kit/c/liblibc_c.a" ]; then
 fi
 work="$(mktemp -d)"
 trap 'rm -rf "$work"' EXIT
-crates="mcap_io mcap_wire mcap_crc rec_data rec_index mcap_model chunk_build"
-for crate in $crates; do
-    mkdir -p "$work/crates/$crate"
-    cp -r "$here/../crates/$crate/src" "$work/crates/$crate/"
-    for folder in specs proofs; do
-        if [ -d "$here/../crates/$crate/$folder" ]; then cp -r "$here/../crates/$crate/$folder" "$work/crates/$crate/"; fi
-    done
-    grep "^$crate:" "$here/../crates.txt" >>"$work/crates.txt"
-done
-echo 'mcap_blocks_c staticlib: chunk_build mcap_model mcap_wire mcap_crc rec_data' >>"$work/crates.txt"
+below="chunk_build mcap_model mcap_wire mcap_crc rec_data"
+. "$here/take_crates.sh"
+take_crates "$work" $below
+echo "mcap_blocks_c staticlib: $below" >>"$work/crates.txt"
 mkdir -p "$work/crates/mcap_blocks_c/src"
 cat >"$work/crates/mcap_blocks_c/src/lib.rt" <<'END_OF_CRATE'
 #![tactic(auto)]

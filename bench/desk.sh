@@ -11,16 +11,10 @@ if [ ! -f "$kit/c/liblibc_c.a" ]; then
 fi
 work="$(mktemp -d)"
 trap 'rm -rf "$work"' EXIT
-crates="mcap_wire mcap_crc rec_data rec_index mcap_model byte_region id_table record_cache history_ids record_core"
-for crate in $crates; do
-    mkdir -p "$work/crates/$crate"
-    cp -r "$here/../crates/$crate/src" "$work/crates/$crate/"
-    for folder in specs proofs; do
-        if [ -d "$here/../crates/$crate/$folder" ]; then cp -r "$here/../crates/$crate/$folder" "$work/crates/$crate/"; fi
-    done
-    grep "^$crate:" "$here/../crates.txt" >>"$work/crates.txt"
-done
-echo 'mcap_desk_c staticlib: history_ids record_core record_cache rec_data mcap_wire' >>"$work/crates.txt"
+below="history_ids record_core record_cache rec_data mcap_wire"
+. "$here/take_crates.sh"
+take_crates "$work" $below
+echo "mcap_desk_c staticlib: $below" >>"$work/crates.txt"
 mkdir -p "$work/crates/mcap_desk_c/src" "$work/crates/mcap_desk_c/proofs/channel" "$work/crates/mcap_desk_c/proofs/mcap_desk_of"
 : >"$work/crates/mcap_desk_c/proofs/Lib.antt"
 cat >"$work/crates/mcap_desk_c/proofs/channel/Answers.antt" <<'END_OF_PROOF'

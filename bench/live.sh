@@ -24,21 +24,13 @@ trap 'rm -rf "$work"' EXIT
 cp "$here/../HANDLES" "$work/"
 mkdir "$work/crates"
 
-# Copies a crate and those below it, with what is proved of them.
-take_crate() {
-    local deps dep
-    if [ -d "$work/crates/$1" ] || [ ! -d "$here/../crates/$1" ]; then return; fi
-    cp -r "$here/../crates/$1" "$work/crates/$1"
-    grep "^$1:" "$here/../crates.txt" >>"$work/crates.txt"
-    deps="$(sed -n "s/^$1://p" "$here/../crates.txt")"
-    for dep in $deps; do take_crate "$dep"; done
-}
+. "$here/take_crates.sh"
 
-# Proves and builds a program that stands on these crates.
+# Proves and builds a program that is built on these crates.
 build() {
     local name="$1"
     shift
-    for crate in "$@"; do take_crate "$crate"; done
+    take_crates "$work" "$@"
     echo "$name: $*" >>"$work/crates.txt"
     (cd "$work/crates/$name" && rt run >"$work/build.log" 2>&1) || { tail -20 "$work/build.log"; exit 1; }
 }
@@ -56,9 +48,9 @@ cat >"$work/crates/live_publish/src/main.rt" <<'END_OF_CODE'
 ghost use Rattle.std.specs.Prelude.{◌≡◌, ◌≤◌, None, true, false};
 ghost use Rattle.live_directory.specs.Published.{end_of};
 
+use io_files::Stretch;
 use live_directory::{Directory, Naming, Opened, Reader, open_directory};
 use live_entry::Entry;
-use mcap_io::Stretch;
 use mcap_model::End;
 use std::alloc::Global;
 use std::marker::Brand;
@@ -284,7 +276,7 @@ use Rattle.live_publish.proofs.publish_all.Given as goal
 abbrev pub invariant-each : goal.invariant-each
 invariant-each g l = (end_of l.directory.shown ≡ None) × (l.directory.short ≡ false)
 END_OF_PROOF
-build live_publish live_directory live_entry mcap_io mcap_model
+build live_publish live_directory live_entry io_files mcap_io mcap_model
 
 # Publishes beside so many readers, and sets `best` to the nanoseconds of the fastest run.
 publish() {
@@ -319,7 +311,7 @@ cat >"$work/crates/live_times/src/main.rt" <<'END_OF_CODE'
 mod replaying;
 
 use crate::replaying::compare;
-use mcap_io::{FileWorld, WriterSink};
+use io_files::{FileWorld, WriterSink};
 use mcap_model::Range;
 use std::{env, io};
 
@@ -354,9 +346,10 @@ cat >"$work/crates/live_times/src/replaying.rt" <<'END_OF_CODE'
 ghost use Rattle.live_entry.specs.Following.{EntriesFollow};
 
 use indexed_replay::{replay_indexed, replay_kept};
+use io_files::Stretch;
 use live_entry::Entry;
 use live_replay::{replay_blocks, replay_live};
-use mcap_io::{Extent, LiveStore, LiveView, Sink, Source, Store, Stretch, World};
+use mcap_io::{Extent, LiveStore, LiveView, Sink, Source, Store, World};
 use mcap_model::{Range, Replayed};
 use std::alloc::Global;
 use std::io;
@@ -652,7 +645,7 @@ use Rattle.live_times.proofs.replaying.note_untold.Goals as goal
 pub returns : goal.returns
 returns c = untold_follow _ (λ x. refl) _
 END_OF_PROOF
-build live_times live_replay indexed_replay summary_read time_player live_entry mcap_io mcap_model rec_index
+build live_times live_replay indexed_replay summary_read time_player live_entry io_files mcap_io mcap_model rec_index
 
 # Writes a feed of messages of so many bytes on ten channels, a microsecond apart, and says how many.
 make_feed() {

@@ -7,11 +7,9 @@ here="$(cd "$(dirname "$0")" && pwd)"
 work="$(mktemp -d)"
 trap 'rm -rf "$work"' EXIT
 mkdir -p "$work/crates/mcap_scan_c/src"
-for crate in mcap_wire mcap_crc mcap_io rec_data rec_index mcap_model mcap_scan; do
-    cp -r "$here/../crates/$crate" "$work/crates/$crate"
-    grep "^$crate:" "$here/../crates.txt" >>"$work/crates.txt"
-done
-printf 'mcap_scan_c staticlib: mcap_scan mcap_io\n' >>"$work/crates.txt"
+. "$here/take_crates.sh"
+take_crates "$work" mcap_scan mcap_io
+echo 'mcap_scan_c staticlib: mcap_scan mcap_io' >>"$work/crates.txt"
 cat >"$work/crates/mcap_scan_c/src/lib.rt" <<'END_OF_CRATE'
 #![tactic(auto)]
 

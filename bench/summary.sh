@@ -5,13 +5,11 @@ set -e
 here="$(cd "$(dirname "$0")" && pwd)"
 work="$(mktemp -d)"
 trap 'rm -rf "$work"' EXIT
+below="mcap_model mcap_wire rec_data chunk_build summary_write id_table"
+. "$here/take_crates.sh"
+take_crates "$work" $below
+echo "mcap_tables_c staticlib: $below" >>"$work/crates.txt"
 mkdir -p "$work/crates/mcap_tables_c/src" "$work/crates/mcap_tables_c/proofs/noted"
-below="mcap_io mcap_wire mcap_crc rec_data rec_index mcap_model chunk_build summary_write id_table"
-for name in $below; do
-    cp -r "$here/../crates/$name" "$work/crates/$name"
-    grep "^$name:" "$here/../crates.txt" >>"$work/crates.txt"
-done
-echo "mcap_tables_c staticlib: mcap_model mcap_wire rec_data chunk_build summary_write id_table" >>"$work/crates.txt"
 cat >"$work/crates/mcap_tables_c/proofs/Lib.antt" <<'END'
 END
 cat >"$work/crates/mcap_tables_c/proofs/noted/Invariants.antt" <<'END'

@@ -9,20 +9,11 @@ work="$(mktemp -d)"
 trap 'rm -rf "$work"' EXIT
 messages=20000000
 
-# Copies a crate and those below it, with what is proved of them.
-take_crate() {
-    local deps dep
-    if [ -d "$work/crates/$1" ] || [ ! -d "$here/../crates/$1" ]; then return; fi
-    mkdir -p "$work/crates"
-    cp -r "$here/../crates/$1" "$work/crates/$1"
-    grep "^$1:" "$here/../crates.txt" >>"$work/crates.txt"
-    deps="$(sed -n "s/^$1://p" "$here/../crates.txt")"
-    for dep in $deps; do take_crate "$dep"; done
-}
-
-take_crate buffer_swap
+below="buffer_swap history_ids record_core record_cache rec_data mcap_wire"
+. "$here/take_crates.sh"
+take_crates "$work" $below
 cp "$here/../HANDLES" "$work/"
-echo 'turn_times: buffer_swap history_ids record_core record_cache rec_data mcap_wire' >>"$work/crates.txt"
+echo "turn_times: $below" >>"$work/crates.txt"
 program="$work/crates/turn_times"
 mkdir -p "$program/src" "$program/proofs/channel" "$program/proofs/by_desk" "$program/proofs/by_turn"
 : >"$program/proofs/Lib.antt"

@@ -1,13 +1,13 @@
 #!/usr/bin/env python3
 """Lists what has to be read to know what `run` promises: the definitions that `Runs` reaches, crate by crate, lowest first, each
 module with how many of its definitions and lines these are. It reads the text of specs and crates.txt alone. What it prints is
-docs/HEADLINE.md from its table on; it takes a second or two."""
+docs/HEADLINE.md from its table on; it takes a second or two. An argument names another top of a repository."""
 import glob
 import os
 import re
 import sys
 
-TOP = os.path.join(os.path.dirname(os.path.abspath(__file__)), "..")
+TOP = sys.argv[1] if len(sys.argv) > 1 else os.path.join(os.path.dirname(os.path.abspath(__file__)), "..")
 HEADLINE = ("mcap_app", "Runs", "Runs")
 WORD = re.compile(r"[^\s(){}\[\],;]+")
 
@@ -153,7 +153,7 @@ def main():
             print(f"| `{crate}` | types | {n} | | {', '.join('`' + x + '`' for x in names)} |")
 
 
-# Modules of one crate, each behind those of them that it uses.
+# Modules of one crate, each after those of them that it uses.
 def in_order(paths, uses):
     done = []
     def put(path, above):

@@ -75,11 +75,10 @@ mkdir -p "$room/crates/refused_publish/proofs/publish_one" "$room/crates/refused
 mkdir -p "$room/crates/refused_publish/proofs/seal"
 : >"$room/crates/refused_publish/proofs/Lib.antt"
 cp "$here/../HANDLES" "$room/"
-for crate in mcap_io mcap_wire mcap_crc rec_data rec_index mcap_model live_entry live_directory; do
-    cp -r "$here/../crates/$crate" "$room/crates/$crate"
-    grep "^$crate:" "$here/../crates.txt" >>"$room/crates.txt"
-done
-echo 'refused_publish: live_directory live_entry mcap_io mcap_model' >>"$room/crates.txt"
+below="live_directory live_entry io_files mcap_io mcap_model"
+. "$here/../bench/take_crates.sh"
+take_crates "$room" $below
+echo "refused_publish: $below" >>"$room/crates.txt"
 cat >"$room/crates/refused_publish/src/main.rt" <<'END_OF_CODE'
 //! Publishes entries beside two readers and seals, though memory may lack once, and says how that went. A front, entries or a
 //! seal that aren't as they are to be end it with an error.
@@ -88,9 +87,9 @@ cat >"$room/crates/refused_publish/src/main.rt" <<'END_OF_CODE'
 ghost use Rattle.std.specs.Prelude.{◌≡◌, None, Some, false};
 ghost use Rattle.live_directory.specs.Published.{end_of};
 
+use io_files::Stretch;
 use live_directory::{Directory, Front, Naming, Note, Opened, Reader, open_directory};
 use live_entry::Entry;
-use mcap_io::Stretch;
 use mcap_model::End;
 use std::alloc::Global;
 use std::io;

@@ -131,7 +131,7 @@ sub places_with {
 
 # The walk's own: what all others go over, and the judging of a chunk, behind which it gives the records inside. And a walk over
 # records that stand behind a chunk, not inside one.
-sub is_own_walk { return $_[0] =~ m{^crates/(?:record_walk/|mcap_model/src/chunks\.rt)| keep_indexes$}; }
+sub is_own_walk { return $_[0] =~ m{^crates/(?:mcap_scan/|mcap_model/src/chunks\.rt)| keep_indexes$}; }
 
 sub count_walks {
     my @walks = places_with(qr/\bInnerWalk::new\(/);
