@@ -1024,6 +1024,54 @@ else
     skip 'interrupts, since there is no script'
 fi
 
+# ---- the first build, by a stand-in for rt that proves nothing
+
+# A checkout of few crates, of which the program stands on one.
+mkdir -- "$room/checkout" "$room/checkout/crates" "$room/tools" "$room/builds"
+cp -R -- "$root/mcaprec" "$root/launcher" "$root/.ci" "$root/HANDLES" "$room/checkout/"
+for name in mcap_io listing command_words mcap_cli; do
+    (cd -- "$root/crates" && tar --exclude=out -cf - "$name") | tar -xf - -C "$room/checkout/crates"
+done
+printf 'mcap_io:\nlisting:\ncommand_words:\nmcap_cli: mcap_io\n' >"$room/checkout/crates.txt"
+cat >"$room/tools/rt" <<'END'
+#!/bin/sh
+[ "$*" = ci ] && [ -d .git ] || exit 2
+ls -d crates/*/must-fail crates/*/out crates/listing 2>/dev/null && exit 2
+if [ -n "$CUT" ]; then
+    echo 'rt: mcap_io proved'
+    exec sleep 30
+fi
+sed 's/^\([a-z0-9_]*\).*/rt: \1 proved/' crates.txt
+[ -z "$FAILS" ] || { echo 'rt: mcap_cli NOT PROVED' && exit 1; }
+mkdir crates/mcap_cli/out && cp -- "$BUILT" crates/mcap_cli/out/mcap_cli
+END
+chmod +x "$room/tools/rt"
+# Ends the shell that calls it.
+building() {
+    exec env PATH="$room/tools:$PATH" TMPDIR="$room/builds" BUILT="$root/crates/mcap_cli/out/mcap_cli" "$@"
+}
+building CUT=yes "$room/checkout/mcaprec" check "$one" >"$room/stdout" 2>&1 &
+launcher=$!
+for _ in 1 2 3 4 5 6 7 8 9 10 11 12 13 14 15 16 17 18 19 20; do
+    ! grep -q ' proved ' "$room/stdout" || break
+    sleep 0.5
+done
+kill "$launcher"
+wait "$launcher"
+compare 'the status of a build that is cut off' 143 $?
+compare 'what it leaves' '' "$(ls -A "$room/builds")"
+(building CUT= FAILS= "$room/checkout/mcaprec" check "$one") >"$room/stdout" 2>"$room/stderr" </dev/null
+compare 'the status of a first run' 0 $?
+compare 'what a first run prints' 'ok indexed messages=1 channels=1 schemas=0 chunks=1 attachments=0 metadata=0' "$(cat -- "$room/stdout")"
+compare 'the last line of a first build' 'mcaprec: N:N proved mcap_cli, crate 2 of 2' "$(sed -n '$s/: [0-9]*:[0-9]* /: N:N /p' "$room/stderr")"
+compare 'what a build leaves' '' "$(ls -A "$room/builds")"
+expect 0 "$one_told" '' "$room/checkout/mcaprec" info "$one"
+echo '# Another text.' >>"$room/checkout/crates.txt"
+(building CUT= FAILS=yes "$room/checkout/mcaprec" check "$one") >"$room/stdout" 2>"$room/stderr" </dev/null
+compare 'the status where a crate is refused' 1 $?
+compare 'what is said then' 'mcaprec: the program could not be proved and built' "$(tail -n 1 "$room/stderr")"
+rm -rf -- "$room/checkout"
+
 # ---- a limit of the system on sizes
 
 filter=$either
