@@ -843,6 +843,9 @@ for _ in 1 2 3 4 5; do
     compare 'the status of a recording that refused messages' 0 $?
     wait
     accepted=$(sed -n 's/^feed 1 accepted=\([0-9]*\) .*/\1/p' "$room/stdout")
+    compare 'what is said of lost messages, and how often' \
+        "mcaprec: $((8192 - accepted)) messages were lost, since the buffer was full when they came: with --lossless the feeds wait for room; a --limit above 1 bytes (at most 1073741824) holds more" \
+        "$(sed '/^feed /d; /^file /d' "$room/stdout")"
     compare 'the line of a feed that met a full buffer' \
         "feed 1 accepted=$accepted refused=$((8192 - accepted)) passed=0 end" "$(sed -n 1p "$room/stdout")"
     [ "$accepted" -eq 0 ] || break
