@@ -1,6 +1,6 @@
 # shellcheck shell=bash disable=SC2154,SC1091  # sourced by the launcher, which sets root and program
-# Runs the program beside the launcher, which says afterwards what was lost. What the program prints goes out as it is, and its
-# status is answered.
+# Runs the program beside the launcher, which meanwhile says how far it is, and afterwards what was lost. What the
+# program prints goes out as it is, and its status is answered.
 . "$root/launcher/words.sh"
 
 # Makes a pipe. Its ends for reading and for writing are kept in the variables of these names.
@@ -11,9 +11,14 @@ make_pipe() {
     exec {both}>&-
 }
 
-# Whether the report goes through the launcher, to see what was refused. A lossless recording refuses nothing as full.
+# Whether the report goes through the launcher: of a recording, to see what was refused, and where it would come into the line
+# that says how far the work is. A lossless recording refuses nothing as full.
 is_relayed() {
-    [ -z "${option[--lossless]-}" ]
+    case $command in
+        cat) return 1 ;;
+        record) [ -z "${option[--lossless]-}" ] || [ -t 1 ] ;;
+        *) [ -t 1 ] ;;
+    esac
 }
 
 # Starts the program. It is in the launcher's own group of processes, and an interrupt from the terminal doesn't end it.
@@ -32,18 +37,32 @@ start() {
 # sent. A second one, or a request to end, ends the recording.
 interrupt() {
     interrupts=$((interrupts + 1))
-    [ "$interrupts" -lt 2 ] || kill -TERM "$running"
+    if [ "$command" != record ]; then
+        end_by TERM INT
+    elif [ "$interrupts" -gt 1 ]; then
+        kill -TERM "$running"
+    elif is_watched; then
+        say_over "the first interrupt is the feeds' writers': the recording ends when they have. A second one ends it at once, without what isn't in a closed chunk yet"
+    fi
+}
+
+# Ends the program by a signal, and the launcher by another one as soon as it has ended.
+end_by() {
+    [ "$command" = record ] || signal=$2
+    kill -"$1" "$running"
 }
 
 # Until the program runs, an interrupt is ignored: so the program, which the terminal interrupts too, ignores it from its start.
 defer_signals() {
-    interrupts=0
+    interrupts=0 signal=''
     trap '' INT QUIT
 }
 
 heed_signals() {
     trap interrupt INT
-    trap 'kill -TERM "$running"' TERM HUP QUIT
+    trap 'end_by TERM TERM' TERM
+    trap 'end_by TERM HUP' HUP
+    trap 'end_by TERM QUIT' QUIT
 }
 
 # Takes what the program prints on the file descriptor, until it has ended, into the variable of this name.
@@ -56,8 +75,15 @@ take_all() {
         case $status in
             0) printf -v "$2" '%s\n' "${!2}" ;;
             1) return ;;
+            *) ! is_watched || tick ;;
         esac
     done
+}
+
+# Takes what stands in the pipe of the report, so that the program doesn't wait for room there.
+drain_report() {
+    local line
+    while read -r -t 0 -u "$report_in" && IFS= read -r -t 1 -u "$report_in" line; do report+=$line$'\n'; done
 }
 
 # Waits until the program has ended, and keeps its status.
@@ -109,25 +135,31 @@ say_loss() {
 # Ends as the program did.
 leave() {
     trap - INT TERM HUP QUIT
+    if [ -n "$signal" ] && [ "$status" -gt 128 ]; then
+        ulimit -c 0
+        kill -"$signal" $$
+    fi
     exit "$status"
 }
 
 attend() {
     local report='' complaints='' report_in='' report_out complaints_in='' complaints_out
-    local running status interrupts command wrong places flags valued
+    local running status interrupts signal command wrong places flags valued
     declare -A option
     read_words "$@"
+    ! is_watched || . "$root/launcher/progress.sh"
     is_relayed && make_pipe report_in report_out
-    [ -z "$report_in" ] || make_pipe complaints_in complaints_out
+    if [ -n "$report_in" ] || is_watched; then make_pipe complaints_in complaints_out; fi
     defer_signals
     start "$@"
     heed_signals
     [ -z "$complaints_in" ] || take_all "$complaints_in" complaints
     [ -z "$report_in" ] || take_all "$report_in" report
     reap
+    ! is_watched || clear_line
     trap '' PIPE
     [ -z "$report_in" ] || give_report
     printf '%s' "$complaints" >&2 2>/dev/null
-    say_loss
+    [ "$command" != record ] || say_loss
     leave
 }

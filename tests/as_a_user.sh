@@ -1075,6 +1075,36 @@ compare 'the status where a crate is refused' 1 $?
 compare 'what is said then' 'mcaprec: the program could not be proved and built' "$(tail -n 1 "$room/stderr")"
 rm -rf -- "$room/checkout"
 
+# ---- on a terminal
+
+# Runs a command line in a terminal, and keeps what stands there, with carriage returns as new lines and without other codes.
+on_terminal() {
+    timeout 60 script -qec "$1" /dev/null </dev/null | tr '\r' '\n' | sed -e 's/\x1b\[K//g' -e '/^$/d' >"$room/terminal"
+}
+# That a command line prints that last line on a terminal, or that one but the last, which the shell's status is.
+expect_hint() {
+    printf '$ %s (on a terminal)\n' "$1"
+    on_terminal "$1; echo status \$?"
+    cat -- "$room/terminal"
+    compare "the status of $1" "status $2" "$(tail -n 1 "$room/terminal")"
+    compare "the last line of $1" "$3" "$(tail -n 2 "$room/terminal" | head -n 1)"
+}
+if command -v script >/dev/null; then
+    # How far it is: of a feed that stands still in the midst.
+    { sleep 2 && { head -c 292 -- "$session" && sleep 2 && tail -c +293 -- "$session"; } >pipe; } &
+    expect_hint 'mcaprec record --plain slow.mcap pipe' 0 'file records=8 blocks=0 bytes=411 closed'
+    wait
+    expect_records slow.mcap "$imu_first$log$log_1$imu_2$imu_3$log_2"
+    grep -q "^mcaprec: record: waiting until another program opens the pipe 'pipe', 0:0" "$room/terminal" || say_wrong 'it is not said that a pipe is waited for'
+    grep -q '^mcaprec: record: [0-9]* kB read, 0 kB written, 0:0' "$room/terminal" || say_wrong 'it is not said how far a recording is'
+    { sleep 2 && cat -- "$session"; } >pipe &
+    expect_hint 'MCAPREC_QUIET=1 mcaprec record --plain slow.mcap pipe' 0 'file records=8 blocks=0 bytes=411 closed'
+    wait
+    compare 'what stands on a terminal where nothing is wanted' 3 "$(($(wc -l <"$room/terminal")))"
+else
+    skip 'what stands on a terminal, since there is no script'
+fi
+
 # ---- a limit of the system on sizes
 
 filter=$either
