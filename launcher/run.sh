@@ -1,6 +1,6 @@
 # shellcheck shell=bash disable=SC2154,SC1091  # sourced by the launcher, which sets root and program
-# Runs the program beside the launcher, which meanwhile says how far it is, and afterwards what was lost. What the
-# program prints goes out as it is, and its status is answered.
+# Runs the program beside the launcher, which meanwhile says how far it is, and afterwards what was lost and what to do next.
+# What the program prints goes out as it is, and its status is answered.
 . "$root/launcher/words.sh"
 
 # Makes a pipe. Its ends for reading and for writing are kept in the variables of these names.
@@ -161,5 +161,9 @@ attend() {
     [ -z "$report_in" ] || give_report
     printf '%s' "$complaints" >&2 2>/dev/null
     [ "$command" != record ] || say_loss
+    if is_watched; then
+        . "$root/launcher/hints.sh"
+        say_next "$@"
+    fi
     leave
 }

@@ -1089,7 +1089,70 @@ expect_hint() {
     compare "the status of $1" "status $2" "$(tail -n 1 "$room/terminal")"
     compare "the last line of $1" "$3" "$(tail -n 2 "$room/terminal" | head -n 1)"
 }
+# Words that the program refuses, each of which the launcher can tell why.
+refused_words() {
+    cat <<'END'
+
+recod
+record
+record a
+record a a
+record -o out f
+record --limit 100M o f
+record --limit=0 o f
+record --chunk 67108865 o f
+record --watchers 17 o f
+record --watch 1: o f
+record --watch 5:6:7 o f
+record --watchers 2 o f o.watch2
+record --plain --chunk 1 o f
+record --plain --plain o f
+record --plain=1 o f
+record o f --limit
+record o f -
+cat a b
+cat --start 1.5 f
+cat --end 18446744073709551616 f
+cat --topic a --topic b f
+check --indexed a
+recover a a
+merge --chunk 0 o f
+gen out
+gen 1 65 3 o
+gen 1 64 15626 o
+END
+}
+refused_words | bash -c '
+    root=$1 all=$2
+    usage() { printf "%s\n" "$all"; }
+    is_command() { usage | grep -q "^  $1 "; }
+    complain() { printf "%s\n" "$1"; }
+    . "$root/launcher/words.sh"
+    while read -ra words; do
+        "$root/crates/mcap_cli/out/mcap_cli" "${words[@]}" >/dev/null 2>&1 </dev/null
+        [ $? -eq 2 ] || echo "WRONG: ${words[*]} is a command"
+        why=$(name_wrong_word "${words[@]}")
+        printf "%s: %s\n" "${words[*]}" "${why:-WRONG: nothing is told}"
+    done' bash "$root" "$usage" >told
+cat told
+compare 'how many words are told to be wrong' "$(refused_words | wc -l)" "$(wc -l <told)"
+! grep -q WRONG told || say_wrong 'not all wrong words are told'
 if command -v script >/dev/null; then
+    expect_hint 'mcaprec record --limit 100M o f' 2 "mcaprec: '100M' is no number: --limit takes digits alone, 1 to 1073741824 bytes; mcaprec --help says more"
+    expect_hint 'mcaprec check missing.mcap' 3 "mcaprec: there is no file 'missing.mcap'"
+    expect_hint 'mcaprec cat folder' 3 "mcaprec: 'folder' is a folder: name a file in it"
+    expect_hint 'mcaprec record missing/out.mcap out.mcap' 3 "mcaprec: there is no folder 'missing'"
+    expect_hint 'mcaprec record link.mcap named.mcap' 3 "mcaprec: 'link.mcap' and 'named.mcap' are one file, by a link"
+    expect_hint 'mcaprec check one-cut.mcap' 1 "mcaprec: 'one-cut.mcap' has no end: it was cut off, or is still being written. mcaprec recover 'one-cut.mcap' NEW saves all that is whole"
+    expect_hint 'mcaprec info text.csv' 1 "mcaprec: 'text.csv' doesn't begin as an MCAP file does: it is another kind of file, or its front is lost"
+    expect_hint 'mcaprec cat --topic imu session-chunks.mcap' 0 "mcaprec: no message has the topic 'imu'; the topics are \"/imu\" \"/log\""
+    expect_hint 'mcaprec cat --topic imu session-out.mcap' 0 "mcaprec: no message has the topic 'imu'; the topics are \"/imu\" \"/log\""
+    expect_hint 'mcaprec cat --start 1031 session-chunks.mcap' 0 "mcaprec: no message was logged in these times: those of 'session-chunks.mcap' are from 1000 to 1030 nanoseconds"
+    # A chunk that names a compression.
+    { head -c 34 -- "$one" && printf '\006\065\0\0\0\0\0\0\0' && head -c 28 /dev/zero && printf '\004\0\0\0zstd\011\0\0\0\0\0\0\0compressed'; } >compressed.mcap
+    expect_hint 'mcaprec cat compressed.mcap' 1 "mcaprec: compressed chunks aren't read: another tool has to decompress 'compressed.mcap' first, as mcap decompress of the mcap command line does"
+    expect_hint 'MCAPREC_QUIET=1 mcaprec check missing.mcap' 3 'mcaprec: "missing.mcap": fault'
+
     # How far it is: of a feed that stands still in the midst.
     { sleep 2 && { head -c 292 -- "$session" && sleep 2 && tail -c +293 -- "$session"; } >pipe; } &
     expect_hint 'mcaprec record --plain slow.mcap pipe' 0 'file records=8 blocks=0 bytes=411 closed'
