@@ -1027,6 +1027,38 @@ else
     skip 'interrupts, since there is no script'
 fi
 
+# ---- help, and what the usage, the help and the manual say of the same
+
+expect_answer() {
+    "$@" >"$room/stdout" 2>"$room/stderr" </dev/null
+    compare "the status of $*" 0 $?
+    compare "standard error of $*" '' "$(cat -- "$room/stderr")"
+}
+for words in --help help -h 'record --help' 'gen --help'; do
+    # shellcheck disable=SC2086  # the words are to be split
+    expect_answer mcaprec $words
+    compare "the front of $words" "$(printf '%s\n' "$usage" | sed 1d)" "$(head -n 8 "$room/stdout")"
+done
+expect_answer mcaprec --version
+grep -q '^mcaprec 1' "$room/stdout" || say_wrong "the version is $(cat -- "$room/stdout")"
+
+# The commands and their options, one a line.
+options_of_usage() {
+    printf '%s\n' "$usage" | sed -n 's/^  //p' | awk '{
+        command = $1
+        print command
+        while (match($0, /--[a-z]+/)) { print command, substr($0, RSTART, RLENGTH); $0 = substr($0, RSTART + RLENGTH) }
+    }' | sort
+}
+options_of_help() {
+    awk '/^[a-z]+ [A-Z]/ { command = $1; print command } /^  --/ { print command, $1 }' "$root/launcher/help.txt" | sort
+}
+compare 'the options that --help tells' "$(options_of_usage)" "$(options_of_help)"
+tr -d , <"$root/docs/RECORDING.md" >manual
+for number in $(grep -o '[0-9]\{3,\}' "$root/launcher/help.txt" | sort -u); do
+    grep -qw -- "$number" manual || say_wrong "docs/RECORDING.md doesn't have the number $number, which --help has"
+done
+
 # ---- the first build, by a stand-in for rt that proves nothing
 
 # A checkout of few crates, of which the program stands on one.
