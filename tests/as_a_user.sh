@@ -1059,6 +1059,37 @@ for number in $(grep -o '[0-9]\{3,\}' "$root/launcher/help.txt" | sort -u); do
     grep -qw -- "$number" manual || say_wrong "docs/RECORDING.md doesn't have the number $number, which --help has"
 done
 
+# ---- installed under a prefix, and taken away
+
+prefix=$room/prefix
+"$root/install.sh" "$prefix" >/dev/null || say_wrong 'install.sh fails'
+ln -s -- "$prefix/bin/mcaprec" "$room/a folder/installed"
+expect 0 "$one_told" '' "$room/a folder/installed" info "$one"
+expect 0 "$session_lines" '' "$prefix/bin/mcaprec" record --plain installed.mcap "$session"
+expect 2 '' "$usage" "$prefix/bin/mcaprec" record
+expect_answer "$prefix/bin/mcaprec" --help
+compare 'the version of what is installed' "$(mcaprec --version)" "$("$prefix/bin/mcaprec" --version)"
+# The man page is made of the usage, of what --help says and of the manual.
+page=$prefix/share/man/man1/mcaprec.1
+tr -d '\\' <"$page" >page
+for number in $(grep -o '[0-9]\{3,\}' "$root/launcher/help.txt" | sort -u); do
+    grep -qw -- "$number" page || say_wrong "the man page doesn't have the number $number"
+done
+compare 'the chapters of the man page' "$(sed -n 's/^##* //p' "$root/docs/RECORDING.md" | grep -vx -e 'The intake' -e 'The turn' -e 'Blocks that are told while they are written' | tr '[:lower:]' '[:upper:]')" \
+    "$(sed -n 's/^\.SH //p' page | sed 1,3d)"
+if command -v groff >/dev/null; then
+    compare 'what groff says of the man page' '' "$(groff -man -Kutf8 -Tutf8 -ww -z "$page" 2>&1)"
+fi
+# shellcheck disable=SC2016  # the inner shell is to expand them
+completed=$(bash -c '. "$1"; COMP_CWORD=2 COMP_WORDS=(mcaprec record --l); _mcaprec mcaprec --l record; echo "${COMPREPLY[*]}"
+    COMP_CWORD=1; _mcaprec mcaprec re mcaprec; echo "${COMPREPLY[*]}"' bash "$prefix/share/bash-completion/completions/mcaprec")
+compare 'what bash completes' '--lossless --limit
+record recover' "$completed"
+if command -v zsh >/dev/null; then zsh -n "$prefix/share/zsh/site-functions/_mcaprec" || say_wrong 'zsh refuses its completions'; fi
+if command -v fish >/dev/null; then fish -n "$prefix/share/fish/vendor_completions.d/mcaprec.fish" || say_wrong 'fish refuses its completions'; fi
+"$root/install.sh" --remove "$prefix" || say_wrong 'install.sh --remove fails'
+expect_absent "$prefix"
+
 # ---- the first build, by a stand-in for rt that proves nothing
 
 # A checkout of few crates, of which the program stands on one.
