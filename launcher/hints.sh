@@ -1,12 +1,18 @@
 # shellcheck shell=bash disable=SC2154  # sourced by run.sh, whose attend sets command, option, places, report and complaints
 # Says on the terminal, after what the program complained of, why that is and what can be done.
 
-# The text of a JSON string.
-text_of() {
-    local text=${1#\"}
+# The text of a JSON string, in `text`.
+read_text() {
+    text=${1#\"}
     text=${text%\"}
-    [[ $text = *\\* ]] && printf -v text '%b' "${text//\\\"/\"}"
-    printf '%s\n' "$text"
+    [[ $text != *\\* ]] || printf -v text '%b' "${text//\\\"/\"}"
+}
+
+# A name as a word of a command line, in `word`: it isn't read as an option.
+make_word() {
+    local name=$1
+    [[ $name != -* ]] || name=./$name
+    word=${name@Q}
 }
 
 # Whether the file begins, or ends, with the magic.
@@ -49,12 +55,12 @@ is_same_file() {
 free_at() {
     local at=$1
     [ -e "$at" ] || at=$(dirname -- "$at")
-    df -Pk -- "$at" 2>/dev/null | awk 'NR == 2 { print $4 }'
+    stat -f -c '%a %S' -- "$at" 2>/dev/null | awk '{ print int($1 * $2 / 1024) }'
 }
 
 # Why an output failed.
 explain_output() {
-    local free
+    local free word
     if [ -d "$1" ]; then
         hint="${1@Q} is a folder: name a file in it"
     elif [ ! -e "$1" ]; then
@@ -77,19 +83,23 @@ explain_output() {
         fi
     fi
     if [ -n "$hint" ] && [[ $report = *' stopped '* ]] && [ -f "$1" ] && [ -s "$1" ] && [ "$1" = "$output" ]; then
-        hint+=". mcaprec recover ${1@Q} NEW saves what it had written"
+        make_word "$1"
+        hint+=". mcaprec recover $word NEW saves what it had written"
     fi
 }
 
 # Why an input failed.
 explain_input() {
+    local folder to
     if [ -d "$1" ]; then
         hint="${1@Q} is a folder: name a file in it"
     elif [ -L "$1" ] && [ ! -e "$1" ]; then
-        hint="${1@Q} is a link to $(readlink -- "$1"), which isn't there"
+        to=$(readlink -- "$1")
+        hint="${1@Q} is a link to ${to@Q}, which isn't there"
     elif [ ! -e "$1" ]; then
         hint="there is no file ${1@Q}"
-        [ -d "$(dirname -- "$1")" ] || hint="there is no folder '$(dirname -- "$1")'"
+        folder=$(dirname -- "$1")
+        [ -d "$folder" ] || hint="there is no folder ${folder@Q}"
     elif [ ! -r "$1" ]; then
         hint="${1@Q} may not be read: its permissions forbid it"
     elif is_same_file "$1"; then
@@ -101,7 +111,8 @@ explain_input() {
 
 # Why bytes are no MCAP file, or not all of one.
 explain_bytes() {
-    local file=$1 place=$2
+    local file=$1 place=$2 word
+    make_word "$file"
     if [ ! -f "$file" ]; then
         hint="who writes a pipe ended before a Data End, or wrote what breaks a rule there"
         [ "$command" != record ] || hint+=': all messages before that are recorded'
@@ -110,9 +121,9 @@ explain_bytes() {
     elif ! has_front "$file"; then
         hint="${file@Q} doesn't begin as an MCAP file does: it is another kind of file, or its front is lost"
     elif ! has_back "$file"; then
-        hint="${file@Q} has no end: it was cut off, or is still being written. mcaprec recover ${file@Q} NEW saves all that is whole"
+        hint="${file@Q} has no end: it was cut off, or is still being written. mcaprec recover $word NEW saves all that is whole"
     else
-        hint="what stands at $place in ${file@Q} breaks a rule of docs/FORMAT.md. mcaprec recover ${file@Q} NEW saves what stands before it"
+        hint="what stands at $place in ${file@Q} breaks a rule of docs/FORMAT.md. mcaprec recover $word NEW saves what stands before it"
     fi
 }
 
@@ -133,22 +144,35 @@ explain_memory() {
     esac
 }
 
-# What to do after one line of the program, in `hint`.
+# What to do after a complaint about a name, in `hint`.
+explain_name() {
+    local name=$1 complaint=$2 place word
+    place=${complaint##* at }
+    make_word "$name"
+    case $complaint in
+        fault) if is_output "$name"; then explain_output "$name"; else explain_input "$name"; fi ;;
+        'compressed '*) hint="compressed chunks aren't read: another tool has to decompress ${name@Q} first, as mcap decompress of the mcap command line does" ;;
+        'grammar at '* | 'flaw V'*) explain_bytes "$name" "$place" ;;
+        'limit at '*) explain_limit "$name" "$place" ;;
+        limit) explain_limit "$name" '' ;;
+        'not indexed: '*) hint="${name@Q} has no index: cat without --indexed reads it, and mcaprec merge NEW $word writes it with one" ;;
+    esac
+}
+
+# What to do after one line of the program, in `hint`. A name is a JSON string, which ends with the first quote that stands there
+# as itself: what is in it, or in a compression's name, isn't taken for a complaint.
 explain() {
-    local line=$1 name place place_at
-    [[ $line =~ ^mcaprec:\ (\".*\"):\ (fault|grammar|compressed|limit|not\ indexed|flaw)(.*)$ ]] && name=$(text_of "${BASH_REMATCH[1]}")
-    place=${line##* at } place_at=${line##* at=}
+    local line=$1 text place_at complaint='^mcaprec: ("([^"\\]|\\.)*"): (.*)$'
+    place_at=${line##* at=}
+    if [[ $line =~ $complaint ]]; then
+        read_text "${BASH_REMATCH[1]}"
+        explain_name "$text" "${BASH_REMATCH[3]}"
+        return
+    fi
     case $line in
         'mcaprec: no memory') explain_memory ;;
         'mcaprec: output: fault') hint='standard output takes no more: its disk is full, or the program that read it has ended' ;;
-        *': fault') if is_output "$name"; then explain_output "$name"; else explain_input "$name"; fi ;;
-        *': compressed '*) hint="compressed chunks aren't read: another tool has to decompress ${name@Q} first, as mcap decompress of the mcap command line does" ;;
-        *': grammar at '*) explain_bytes "$name" "$place" ;;
-        *': flaw V'*) explain_bytes "$name" "$place" ;;
-        *': limit at '*) explain_limit "$name" "$place" ;;
-        *': limit') explain_limit "$name" '' ;;
-        *': not indexed: '*) hint="${name@Q} has no index: cat without --indexed reads it, and mcaprec merge NEW ${name@Q} writes it with one" ;;
-        'flaw V'*) explain_bytes "${places[0]}" "$place" ;;
+        'flaw V'*) explain_bytes "${places[0]}" "${line##* at }" ;;
         'recovered '*' grammar' | 'recovered '*' limit') hint="what stands from ${place_at%% *} on isn't in ${output@Q}: the record there breaks a rule of docs/FORMAT.md or is too long" ;;
         'recovered '*' compressed') hint="what stands from ${place_at%% *} on isn't in ${output@Q}: its chunks are compressed, and another tool has to decompress ${places[0]@Q} first, as mcap decompress of the mcap command line does" ;;
     esac
@@ -170,10 +194,10 @@ explain_topic() {
     topics=$(topics_of "${places[0]}")
     [ -n "$topics" ] || return
     while IFS= read -r topic; do
-        text=$(text_of "$topic")
+        read_text "$topic"
         [ "$text" != "${option[--topic]}" ] || return
     done <<<"$topics"
-    hint="no message has the topic ${option[--topic]@Q}; the topics are $(head -n 20 <<<"$topics" | paste -sd ' ' -)"
+    hint="no message has the topic ${option[--topic]@Q}; the topics are $(head -n 20 <<<"$topics" | cut -c 1-100 | paste -sd ' ' -)"
     [ "$(wc -l <<<"$topics")" -le 20 ] || hint+='and more, which mcaprec info tells'
 }
 
@@ -201,7 +225,7 @@ say_hint() {
 
 # Says what is to be done after the command, of at most eight lines.
 say_next() {
-    local line lines said=$'\n' hint inputs output
+    local line lines said=$'\n' hint inputs output word
     set_names
     if [ "$status" -eq 2 ]; then
         name_wrong_word "$@"
@@ -218,7 +242,8 @@ say_next() {
         [ -z "${option[--topic]+x}" ] || explain_topic
         [ -n "$hint" ] || [ -z "${option[--start]+x}${option[--end]+x}" ] || explain_range
     elif [ "$command" = record ] && [ "$status" -gt 128 ] && [ -s "$output" ]; then
-        hint="the recording was cut off: mcaprec recover ${output@Q} NEW saves what it had written"
+        make_word "$output"
+        hint="the recording was cut off: mcaprec recover $word NEW saves what it had written"
     fi
     say_hint
 }

@@ -5,6 +5,7 @@
 began=$SECONDS
 shown=''
 total=unknown
+width=''
 
 # The files that the command reads, and the one that it writes.
 set_names() {
@@ -86,6 +87,14 @@ tell_size() {
     if [ "$1" -lt 10000000 ]; then size="$(($1 / 1000)) kB"; else size="$(($1 / 1000000)) MB"; fi
 }
 
+# How many characters fit into a line of the terminal.
+set_width() {
+    local columns
+    read -r _ columns < <(stty size <&2 2>/dev/null)
+    [[ ${columns-} =~ ^[0-9]{1,4}$ ]] && [ "$columns" -gt 1 ] || columns=80
+    width=$((columns < 80 ? columns - 1 : 79))
+}
+
 # How far the work is, as text, in `far`.
 tell_far() {
     local got written open_at closed size
@@ -118,15 +127,17 @@ is_shown() {
 
 # Says how far the work is, each second.
 tick() {
-    local far line took=$((SECONDS - began)) inputs output
+    local far line plain took=$((SECONDS - began)) inputs output
     [ -z "$report_in" ] || drain_report
     [ "$took" -ge 1 ] && [ "$took" != "$shown" ] && is_shown || return 0
     [ "$total" != unknown ] || set_total
+    [ -n "$width" ] || set_width
     set_names
     tell_far
     shown=$took
     printf -v line 'mcaprec: %s: %s%d:%02d' "$command" "${far:+$far, }" $((took / 60)) $((took % 60))
-    printf '\r\033[K%s' "${line:0:79}" >&2
+    make_plain "$line"
+    printf '\r\033[K%s' "${plain:0:width}" >&2
 }
 
 # Takes the line away.

@@ -42,9 +42,13 @@ refuse_number() {
 
 # Sets the flags and the options with a value that the usage has for a command, each between spaces.
 read_usage() {
-    local word words
+    local name word words
     flags=' ' valued=' '
-    read -ra words <<<"$(usage | sed -n "s/^  $1 //p")"
+    while read -r name words; do
+        if [ "$name" = "$1" ]; then break; fi
+        words=''
+    done < <(usage | sed -n 's/^  //p')
+    read -ra words <<<"$words"
     for word in "${words[@]}"; do
         case $word in
             '[--'*']') word=${word#[} flags+="${word%]} " ;;
@@ -81,10 +85,15 @@ refuse_option() {
     all=${all# } all=${all% }
     case $1 in
         -) wrong="'-' is no name: standard input is /dev/stdin" ;;
-        --*) wrong="$1 is no option of $command"
+        --*) wrong="${1@Q} is no option of $command"
             [ -z "${all// /}" ] && wrong+=', which has none' || wrong+="; it has: $all" ;;
-        *) wrong="$1 is no option: each is a whole word behind two dashes; a name that begins with a dash stands behind --" ;;
+        *) wrong="${1@Q} is no option: each is a whole word behind two dashes; a name that begins with a dash stands behind --" ;;
     esac
+}
+
+# Whether that is one of the options, each of which is between spaces.
+is_among() {
+    [[ $1 != *' '* && $2 = *" $1 "* ]]
 }
 
 # Reads the words behind a command: sets `option`, `places`, and `wrong` where a word can't stand there.
@@ -99,18 +108,18 @@ read_words() {
         if [ "$word" = -- ]; then
             places+=("$@")
             return
-        elif [[ $flags = *" $word "* ]]; then
+        elif is_among "$word" "$flags"; then
             take_option "$word" yes
-        elif [[ $valued = *" $name "* && $word = *=* ]]; then
+        elif is_among "$name" "$valued" && [[ $word = *=* ]]; then
             take_option "$name" "${word#*=}"
-        elif [[ $valued = *" $word "* ]]; then
+        elif is_among "$word" "$valued"; then
             if [ $# -eq 0 ] || [ "${1#-}" != "$1" ]; then
                 wrong=${wrong:-"$word wants a value behind it"}
             else
                 take_option "$word" "$1"
                 shift
             fi
-        elif [[ $flags = *" $name "* ]]; then
+        elif is_among "$name" "$flags"; then
             wrong=${wrong:-"$name takes no value"}
         elif [ "${word#-}" != "$word" ]; then
             [ -n "$wrong" ] || refuse_option "$word"
@@ -182,6 +191,12 @@ refuse_together() {
     done
 }
 
+# Whether the words are texts.
+refuse_bytes() {
+    printf '%s\n' "$@" | iconv -f UTF-8 -t UTF-8 >/dev/null 2>&1
+    [ $? -ne 1 ] || wrong='a word is no UTF-8 text'
+}
+
 # Says which word is wrong, and why, where that can be told.
 name_wrong_word() {
     local commands
@@ -195,7 +210,7 @@ name_wrong_word() {
         [ -n "$wrong" ] || refuse_together
         [ -n "$wrong" ] || refuse_count
         [ -n "$wrong" ] || refuse_places
-        [[ -n $wrong || "$*" =~ ^[[:print:][:space:]]*$ ]] || wrong='a word is no UTF-8 text'
+        [ -n "$wrong" ] || refuse_bytes "$@"
         [ -z "$wrong" ] || wrong+='; mcaprec --help says more'
     fi
     [ -z "$wrong" ] || complain "$wrong"
