@@ -40,7 +40,7 @@ interrupt() {
     if [ "$command" != record ]; then
         end_by TERM INT
     elif [ "$interrupts" -gt 1 ]; then
-        kill -TERM "$running"
+        end_by TERM INT
     elif is_watched; then
         say_over "the first interrupt is the feeds' writers': the recording ends when they have. A second one ends it at once, without what isn't in a closed chunk yet"
     fi
@@ -48,6 +48,7 @@ interrupt() {
 
 # Ends the program by a signal, and the launcher by another one as soon as it has ended.
 end_by() {
+    [ -n "$running" ] || return 0
     [ "$command" = record ] || signal=$2
     kill -"$1" "$running"
 }
@@ -75,15 +76,25 @@ take_all() {
         case $status in
             0) printf -v "$2" '%s\n' "${!2}" ;;
             1) return ;;
-            *) ! is_watched || tick ;;
+            *)
+                [ -z "$report_in" ] || drain_report
+                ! is_watched || tick
+                ;;
         esac
     done
 }
 
 # Takes what stands in the pipe of the report, so that the program doesn't wait for room there.
 drain_report() {
-    local line
-    while read -r -t 0 -u "$report_in" && IFS= read -r -t 1 -u "$report_in" line; do report+=$line$'\n'; done
+    local line status
+    while read -r -t 0 -u "$report_in"; do
+        IFS= read -r -t 1 -u "$report_in" line
+        status=$?
+        report+=$line
+        # The line goes on, or has ended the report.
+        [ "$status" -eq 0 ] || return 0
+        report+=$'\n'
+    done
 }
 
 # Waits until the program has ended, and keeps its status.
@@ -92,12 +103,14 @@ reap() {
         wait "$running" 2>/dev/null
         status=$?
         # A signal ends the waiting, and the program goes on.
-        kill -0 "$running" 2>/dev/null || break
+        [ "$status" -gt 128 ] && kill -0 "$running" 2>/dev/null || break
     done
     # Where it ended as the signal came, that isn't its status yet.
     wait "$running" 2>/dev/null
     local ended=$?
     [ "$ended" -eq 127 ] || status=$ended
+    # Another program may get its number.
+    running=''
 }
 
 # Prints the report. Where standard output fails that is told as the program tells it: before a want of memory, and with
