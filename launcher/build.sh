@@ -26,17 +26,18 @@ keep() {
     fi
 }
 
-# The lines of crates.txt of the program's crate and of those that it stands on.
+# The lines of crates.txt of the program's crate and of all below it, in whatever order they are there.
 lines_of_program() {
-    awk -F: '!/^#/ && NF > 1 { line[++lines] = $0; split($1, words, " "); name[lines] = words[1]; below[lines] = $2 }
+    awk -F: '
+        function want(crate,    names, many, i) {
+            if (crate in wanted) { return }
+            wanted[crate] = 1
+            many = split(below[crate], names, " ")
+            for (i = 1; i <= many; i++) { want(names[i]) }
+        }
+        !/^#/ && NF > 1 { line[++lines] = $0; split($1, words, " "); name[lines] = words[1]; below[words[1]] = $2 }
         END {
-            wanted["mcap_cli"] = 1
-            for (i = lines; i > 0; i--) {
-                if (name[i] in wanted) {
-                    count = split(below[i], names, " ")
-                    for (j = 1; j <= count; j++) { wanted[names[j]] = 1 }
-                }
-            }
+            want("mcap_cli")
             for (i = 1; i <= lines; i++) { if (name[i] in wanted) { print line[i] } }
         }' "$root/crates.txt"
 }
@@ -133,8 +134,14 @@ prove_in() {
     trap 'ended=143; kill -TERM "$rt"' TERM HUP
     show_progress "$2" <&8
     exec 8<&-
-    trap - INT TERM HUP
+    end_on_signals
     return "$ended"
+}
+
+# Where a signal comes while nothing runs that has to be ended first.
+end_on_signals() {
+    trap 'exit 130' INT
+    trap 'exit 143' TERM HUP
 }
 
 # Proves and builds in the folder.
@@ -156,7 +163,7 @@ build_in() {
 }
 
 build() {
-    local began room status
+    local began status
     if ! command -v rt >/dev/null; then
         complain "the program is not built yet, and rt, the command of the Rattle kit that builds it, is not on the PATH"
         return 1
@@ -169,10 +176,14 @@ build() {
     complain 'proving and building the program first, which may take an hour on four processors; a build that is cut off goes on where it was'
     began=$(date +%s)
     remove_left_copies "${TMPDIR:-/var/tmp}"
+    room=''
+    trap '[ -z "$room" ] || rm -rf -- "$room"' EXIT
+    end_on_signals
     room=$(mktemp -d "${TMPDIR:-/var/tmp}/mcaprec-build-$$-XXXXXX") || return 1
     build_in "$room"
     status=$?
     rm -rf -- "$room"
+    trap - EXIT INT TERM HUP
     exec 9>&-
     return "$status"
 }
