@@ -25,19 +25,21 @@ make_folder() {
 # Copies a file, over what runs of an earlier one may still read, with that mode.
 put() {
     local to=$prefix/$3
-    make_folder "${to%/*}" && cp -- "$2" "$to.new" && chmod "$1" "$to.new" && mv -f -- "$to.new" "$to" || fail "$to could not be written"
+    if make_folder "${to%/*}" && cp -- "$2" "$to.new" && chmod "$1" "$to.new" && mv -f -- "$to.new" "$to"; then return; fi
+    rm -f -- "$to.new"
+    fail "$to could not be written"
 }
 
 # The output of a command as a file.
 put_made() {
     local to=$1
     shift
-    "$@" >"$made" && put 644 "$made" "$to" || fail "$to could not be made"
+    if ! "$@" >"$made"; then fail "$prefix/$to could not be made"; fi
+    put 644 "$made" "$to"
 }
 
 install_program() {
     local part
-    "$root/mcaprec" info "$root/samples/one.mcap" >/dev/null </dev/null || fail 'the program is not built'
     put 755 "$root/crates/mcap_cli/out/mcap_cli" "$folder/mcap_cli"
     put 755 "$root/mcaprec" "$folder/mcaprec"
     put 644 "$root/.ci/memory" "$folder/memory"
@@ -45,7 +47,13 @@ install_program() {
     put_made "$folder/version.txt" "$root/launcher/version.sh"
     for part in help.txt run.sh words.sh progress.sh hints.sh; do put 644 "$root/launcher/$part" "$folder/launcher/$part"; done
     put 755 "$root/launcher/version.sh" "$folder/launcher/version.sh"
-    make_folder "$prefix/bin" && ln -sfn "../$folder/mcaprec" "$prefix/bin/mcaprec" || fail "$prefix/bin/mcaprec could not be made"
+    link "../$folder/mcaprec"
+    # Where bin is itself a link, what is above it is elsewhere.
+    [ "$prefix/bin/mcaprec" -ef "$prefix/$folder/mcaprec" ] || link "$prefix/$folder/mcaprec"
+}
+
+link() {
+    if ! ln -sfn -- "$1" "$prefix/bin/mcaprec"; then fail "$prefix/bin/mcaprec could not be made"; fi
 }
 
 install_texts() {
@@ -55,8 +63,14 @@ install_texts() {
     put_made share/fish/vendor_completions.d/mcaprec.fish "$root/launcher/completions.sh" fish
 }
 
-# Notes the folders that were made, those of an earlier run besides.
+# Makes the folders, and notes which weren't there, those of an earlier run besides: first, so that what is cut off can be taken
+# away.
 install_folders() {
+    local file
+    for file in "${files[@]}" "$folder/launcher/help.txt"; do
+        file=$prefix/$file
+        make_folder "${file%/*}" || fail "${file%/*} could not be made"
+    done
     [ ! -f "$prefix/$folder/folders" ] || folders+=$(cat -- "$prefix/$folder/folders")
     put_made "$folder/folders" printf '%s' "$folders"
 }
@@ -64,7 +78,7 @@ install_folders() {
 # Takes away what was installed, and of the folders that were made for it those that are empty then.
 remove() {
     local file folders
-    if [ ! -f "$prefix/$folder/mcap_cli" ]; then fail "there is no mcaprec under $prefix"; fi
+    if [ ! -f "$prefix/$folder/folders" ]; then fail "there is no mcaprec under $prefix"; fi
     folders=$(cat -- "$prefix/$folder/folders")
     for file in "${files[@]}"; do rm -f -- "${prefix:?}/$file"; done
     rm -rf -- "${prefix:?}/$folder"
@@ -72,20 +86,30 @@ remove() {
     true
 }
 
+# The folders that are made are noted one a line.
+set_prefix() {
+    [[ -n $1 && $1 != *$'\n'* ]] || fail 'a prefix is a folder, without a line break in its name'
+    prefix=$(readlink -m -- "$1")
+    [[ -n $prefix && $prefix != *$'\n'* ]] || fail "$1 is no folder"
+}
+
 case $#:${1-} in
     2:--remove)
-        prefix=$(readlink -m -- "$2")
+        set_prefix "$2"
         remove
         ;;
     1:-* | 1:) fail 'give a prefix: ./install.sh PREFIX, or ./install.sh --remove PREFIX' ;;
     1:*)
-        prefix=$(readlink -m -- "$1")
+        set_prefix "$1"
+        "$root/mcaprec" info "$root/samples/one.mcap" >/dev/null </dev/null || fail 'the program is not built'
+        # Others may run it too, whatever the caller's files are for.
+        umask 022
         made=$(mktemp) || exit 1
         trap 'rm -f -- "$made"' EXIT
         folders=''
+        install_folders
         install_program
         install_texts
-        install_folders
         printf 'mcaprec is in %s\n' "$prefix/bin"
         ;;
     *) fail 'give a prefix: ./install.sh PREFIX, or ./install.sh --remove PREFIX' ;;
