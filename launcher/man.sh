@@ -1,6 +1,5 @@
 #!/bin/sh
-# Prints the man page: the usage, what --help says, and the manual, docs/RECORDING.md, without its chapters on the program's
-# inside. The number that is given is the version.
+# Prints the man page: the usage, what --help says, and the manual, docs/RECORDING.md. The text that is given is the version.
 root=$(dirname -- "$0")/..
 
 # A text of the manual's as one of the man page's.
@@ -52,9 +51,6 @@ convert() {
         for (i = 3; i <= n; i++) { line = line "; " head[i] " " cells[i] }
         print inline(line)
     }
-    /^## / { skip = is_inside[substr($0, 4)] }
-    BEGIN { is_inside["The intake"] = is_inside["The turn"] = is_inside["Blocks that are told while they are written"] = 1 }
-    skip { next }
     !/^    / { close_code() }
     !/^\|/ { in_table = 0 }
     /^#+ / { sub(/^#+ /, ""); print ".SH " toupper(plain($0)); next }

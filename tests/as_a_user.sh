@@ -1075,7 +1075,7 @@ tr -d '\\' <"$page" >page
 for number in $(grep -o '[0-9]\{3,\}' "$root/launcher/help.txt" | sort -u); do
     grep -qw -- "$number" page || say_wrong "the man page doesn't have the number $number"
 done
-compare 'the chapters of the man page' "$(sed -n 's/^##* //p' "$root/docs/RECORDING.md" | grep -vx -e 'The intake' -e 'The turn' -e 'Blocks that are told while they are written' | tr '[:lower:]' '[:upper:]')" \
+compare 'the chapters of the man page' "$(sed -n 's/^##* //p' "$root/docs/RECORDING.md" | tr '[:lower:]' '[:upper:]')" \
     "$(sed -n 's/^\.SH //p' page | sed 1,3d)"
 if command -v groff >/dev/null; then
     compare 'what groff says of the man page' '' "$(groff -man -Kutf8 -Tutf8 -ww -z "$page" 2>&1)"
@@ -1095,14 +1095,14 @@ expect_absent "$prefix"
 # A checkout of few crates, of which the program stands on one.
 mkdir -- "$room/checkout" "$room/checkout/crates" "$room/tools" "$room/builds"
 cp -R -- "$root/mcaprec" "$root/launcher" "$root/.ci" "$root/HANDLES" "$room/checkout/"
-for name in mcap_io listing command_words mcap_cli; do
+for name in mcap_io mcap_crc command_words mcap_cli; do
     (cd -- "$root/crates" && tar --exclude=out -cf - "$name") | tar -xf - -C "$room/checkout/crates"
 done
-printf 'mcap_io:\nlisting:\ncommand_words:\nmcap_cli: mcap_io\n' >"$room/checkout/crates.txt"
+printf '# A layer.\nmcap_cli: mcap_io\n\n# A lower one: another crate.\nmcap_crc:\nmcap_io:\ncommand_words:\n' >"$room/checkout/crates.txt"
 cat >"$room/tools/rt" <<'END'
 #!/bin/sh
 [ "$*" = ci ] && [ -d .git ] || exit 2
-ls -d crates/*/must-fail crates/*/out crates/listing 2>/dev/null && exit 2
+ls -d crates/*/must-fail crates/*/out crates/mcap_crc 2>/dev/null && exit 2
 if [ -n "$CUT" ]; then
     echo 'rt: mcap_io proved'
     exec sleep 30
@@ -1129,7 +1129,7 @@ compare 'what it leaves' '' "$(ls -A "$room/builds")"
 (building CUT= FAILS= "$room/checkout/mcaprec" check "$one") >"$room/stdout" 2>"$room/stderr" </dev/null
 compare 'the status of a first run' 0 $?
 compare 'what a first run prints' 'ok indexed messages=1 channels=1 schemas=0 chunks=1 attachments=0 metadata=0' "$(cat -- "$room/stdout")"
-compare 'the last line of a first build' 'mcaprec: N:N proved mcap_cli, crate 2 of 2' "$(sed -n '$s/: [0-9]*:[0-9]* /: N:N /p' "$room/stderr")"
+compare 'the last line of a first build' 'mcaprec: N:N proved mcap_io, crate 2 of 2' "$(sed -n '$s/: [0-9]*:[0-9]* /: N:N /p' "$room/stderr")"
 compare 'what a build leaves' '' "$(ls -A "$room/builds")"
 expect 0 "$one_told" '' "$room/checkout/mcaprec" info "$one"
 echo '# Another text.' >>"$room/checkout/crates.txt"
@@ -1215,6 +1215,15 @@ if command -v script >/dev/null; then
     { head -c 34 -- "$one" && printf '\006\065\0\0\0\0\0\0\0' && head -c 28 /dev/zero && printf '\004\0\0\0zstd\011\0\0\0\0\0\0\0compressed'; } >compressed.mcap
     expect_hint 'mcaprec cat compressed.mcap' 1 "mcaprec: compressed chunks aren't read: another tool has to decompress 'compressed.mcap' first, as mcap decompress of the mcap command line does"
     expect_hint 'MCAPREC_QUIET=1 mcaprec check missing.mcap' 3 'mcaprec: "missing.mcap": fault'
+    # Words and names that would run a command, or steer the terminal.
+    expect_hint 'mcaprec "$(printf "a//;e touch ran\n#")"' 2 "mcaprec: \$'a//;e touch ran\\n#' is no command; these are: record info check cat recover merge gen"
+    expect_hint 'mcaprec check "$(printf "\$(touch ran)\033[31m")"' 3 "mcaprec: there is no file \$'\$(touch ran)\\E[31m'"
+    expect_hint 'mcaprec check "$(printf "%s" "--\033[31m")"' 2 "mcaprec: '--\\033[31m' is no option of check, which has none; mcaprec --help says more"
+    ln -s "$(printf 'no\033[31m')" nowhere.mcap
+    expect_hint 'mcaprec check nowhere.mcap' 3 "mcaprec: 'nowhere.mcap' is a link to \$'no\\E[31m', which isn't there"
+    head -c 100 -- "$one" >./-cut.mcap
+    expect_hint 'mcaprec check -- -cut.mcap' 1 "mcaprec: '-cut.mcap' has no end: it was cut off, or is still being written. mcaprec recover './-cut.mcap' NEW saves all that is whole"
+    expect_absent ran
 
     # How far it is: of a feed that stands still in the midst.
     { sleep 2 && { head -c 292 -- "$session" && sleep 2 && tail -c +293 -- "$session"; } >pipe; } &
