@@ -23,6 +23,11 @@ has_back() {
     [ "$(tail -c 8 -- "$1" 2>/dev/null | od -An -tx1 | tr -d ' \n')" = 894d434150300d0a ]
 }
 
+# Whether it ends with a Data End, as a feed does, whose CRC may have any value.
+has_data_end() {
+    [ "$(tail -c 13 -- "$1" 2>/dev/null | head -c 9 | od -An -tx1 | tr -d ' \n')" = 0f0400000000000000 ]
+}
+
 # Whether the name is that of a file that the command writes.
 is_output() {
     [ "$1" = "${output-}" ] || [ "${1%.watch*}" = "${output-}" ]
@@ -120,6 +125,10 @@ explain_bytes() {
         hint="${file@Q} is empty"
     elif ! has_front "$file"; then
         hint="${file@Q} doesn't begin as an MCAP file does: it is another kind of file, or its front is lost"
+    elif [ "$command" = record ]; then
+        hint="${file@Q} was cut off there, is still being written, or breaks a rule of docs/FORMAT.md: what is before $place was read"
+    elif has_data_end "$file"; then
+        hint="${file@Q} ends with its Data End, as a feed does: mcaprec recover $word NEW makes a file of it"
     elif ! has_back "$file"; then
         hint="${file@Q} has no end: it was cut off, or is still being written. mcaprec recover $word NEW saves all that is whole"
     else
