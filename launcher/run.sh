@@ -125,6 +125,20 @@ give_report() {
     fi
 }
 
+# Prints the complaints. A name in one may have characters that steer a terminal.
+give_complaints() {
+    local line lines plain
+    if ! is_watched; then
+        printf '%s' "$complaints" >&2 2>/dev/null
+    elif [ -n "$complaints" ]; then
+        mapfile -t lines <<<"${complaints%$'\n'}"
+        for line in "${lines[@]}"; do
+            make_plain "$line"
+            printf '%s\n' "$plain" >&2 2>/dev/null
+        done
+    fi
+}
+
 # Whether all that the report says to be refused was so for a full buffer: with status 0 or 1 nothing else refuses a message,
 # and with 3 only a limit does, which is told of OUT.
 is_full_alone() {
@@ -172,7 +186,7 @@ attend() {
     ! is_watched || clear_line
     trap '' PIPE
     [ -z "$report_in" ] || give_report
-    printf '%s' "$complaints" >&2 2>/dev/null
+    give_complaints
     [ "$command" != record ] || say_loss
     if is_watched; then
         . "$root/launcher/hints.sh"

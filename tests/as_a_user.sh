@@ -1224,6 +1224,8 @@ if command -v script >/dev/null; then
     head -c 100 -- "$one" >./-cut.mcap
     expect_hint 'mcaprec check -- -cut.mcap' 1 "mcaprec: '-cut.mcap' has no end: it was cut off, or is still being written. mcaprec recover './-cut.mcap' NEW saves all that is whole"
     expect_absent ran
+    on_terminal 'mcaprec check "$(printf "a\302\233b\177")"'
+    compare 'a complaint of a name that steers a terminal' 'mcaprec: "a?b?": fault' "$(head -n 1 "$room/terminal")"
 
     # How far it is: of a feed that stands still in the midst.
     { sleep 2 && { head -c 292 -- "$session" && sleep 2 && tail -c +293 -- "$session"; } >pipe; } &
