@@ -13,7 +13,12 @@ use Rattle.clap.specs.Words.{Row, first_of}
 use Rattle.mcap_model.specs.declared.replay.Range.{Range}
 use Rattle.command_words.specs.Synopses.{IsOneOf, Synopsis}
 use Rattle.command_words.specs.Items.{Word, Item, flag, joined, apart, plain, IsFlag, IsFree, IsItem, IsOption, given, place_of, texts, words_of}
-use Rattle.command_words.specs.Commands.{AreAmounts, Flags, GivesNumber, GivesSpan, HasWatchers, IsCat, IsFileOptions, IsGenerate, IsMerge, IsNumber, IsOfFile, IsRange, IsRecord, IsRecover, ReadsWords, Recording, file_synopsis, synopsis_of}
+use Rattle.command_words.specs.Commands.{AreAmounts, Flags, GivesNumber, GivesSpan, HasWatchers, IsCat, IsFileOptions, IsGenerate, IsMerge, IsNumber, IsOfFile, IsRange, IsRecord, IsRecover, ReadsWords, file_synopsis, synopsis_of}
+use Rattle.command_words.specs.declared.command.FileMerge.{FileMerge}
+use Rattle.command_words.specs.declared.command.FileRecovery.{FileRecovery}
+use Rattle.command_words.specs.declared.command.Generation.{Generation}
+use Rattle.command_words.specs.declared.command.Printing.{Printing}
+use Rattle.command_words.specs.declared.command.Recording.{Recording}
 use Rattle.command_words.specs.Matches.{AreFeedNames, AreUnwatched, AtPlaces, AtPlacesIn, FitsSynopsis, TakesPositionals, HasRoomIn, IsLoose, IsReading, all_found}
 use Rattle.command_words.specs.declared.verbs.Verb.TheVariants as verb
 use Rattle.command_words.proofs.CutLemmas.{loose_cut, one_cut}
@@ -261,7 +266,7 @@ full_text : (w : Word) → (length w == 0) ≡ false → w ≢ []
 full_text w is same = let none : (length w == 0) ≡ true = ap (λ (v : Word). length v == 0) same in let wrong : false ≡ true = sym is ∙ none in cc
 
 pub generate_is : (words : List Word) (rows : List Row) (reading : IsReading (synopsis_of verb.Generate) words rows) (seed_word : Word) (seed feeds messages : ℕ) (found : List (Bor Word)) (d : Bor Word) → first_of (codes "seed") rows ≡ Some seed_word → texts found ≡ all_found (codes "rest") rows → length found ≡ 3
-    → IsNumber 0 18446744073709551615 seed_word seed → AreAmounts (get_or found 0 d).now (get_or found 1 d).now feeds messages → (length (get_or found 2 d).now == 0) ≡ false → IsGenerate words seed feeds messages (get_or found 2 d).now
+    → IsNumber 0 18446744073709551615 seed_word seed → AreAmounts (get_or found 0 d).now (get_or found 1 d).now feeds messages → (length (get_or found 2 d).now == 0) ≡ false → IsGenerate words (record { seed = seed; feeds = feeds; messages = messages; out = (get_or found 2 d).now })
 generate_is words rows reading seed_word seed feeds messages found d first same long seeded amounts named = record {
   items = reading.items;
   seed_word = seed_word;
@@ -275,29 +280,29 @@ generate_is words rows reading seed_word seed feeds messages found d first same 
 }
 
 -- the words of a generation stand at these places
-module _ (words : List Word) (rows : List Row) (reading : IsReading (synopsis_of verb.Generate) words rows) (seed feeds messages : ℕ) (out : Word) (is : IsGenerate words seed feeds messages out) where
-  pub generate_places : (first_of (codes "seed") rows ≡ Some is.seed_word) × (all_found (codes "rest") rows ≡ is.feeds_word ∷ is.messages_word ∷ out ∷ [])
-  generate_places = more_are (synopsis_of verb.Generate) words rows reading (codes "seed") (codes "rest") generated is.seed_word (is.feeds_word ∷ is.messages_word ∷ out ∷ [])
-      (sym (same_reading (synopsis_of verb.Generate) words rows reading is.items (is.seed_word ∷ is.feeds_word ∷ is.messages_word ∷ out ∷ []) is.reads).1)
+module _ (words : List Word) (rows : List Row) (reading : IsReading (synopsis_of verb.Generate) words rows) (generation : Generation) (is : IsGenerate words generation) where
+  pub generate_places : (first_of (codes "seed") rows ≡ Some is.seed_word) × (all_found (codes "rest") rows ≡ is.feeds_word ∷ is.messages_word ∷ generation.out ∷ [])
+  generate_places = more_are (synopsis_of verb.Generate) words rows reading (codes "seed") (codes "rest") generated is.seed_word (is.feeds_word ∷ is.messages_word ∷ generation.out ∷ [])
+      (sym (same_reading (synopsis_of verb.Generate) words rows reading is.items (is.seed_word ∷ is.feeds_word ∷ is.messages_word ∷ generation.out ∷ []) is.reads).1)
 
   module _ (found : List (Bor Word)) (same : texts found ≡ all_found (codes "rest") rows) where
     pub generate_long : length found ≡ 3
-    generate_long = three_long found is.feeds_word is.messages_word out (same ∙ generate_places.1)
+    generate_long = three_long found is.feeds_word is.messages_word generation.out (same ∙ generate_places.1)
 
     -- they are those that were found
-    each_same : (d : Bor Word) → ((get_or found 0 d).now ≡ is.feeds_word) × ((get_or found 1 d).now ≡ is.messages_word) × ((get_or found 2 d).now ≡ out)
-    each_same d = three_same is.feeds_word is.messages_word out (get_or found 0 d).now (get_or found 1 d).now (get_or found 2 d).now (sym (three_texts found d generate_long) ∙ (same ∙ generate_places.1))
+    each_same : (d : Bor Word) → ((get_or found 0 d).now ≡ is.feeds_word) × ((get_or found 1 d).now ≡ is.messages_word) × ((get_or found 2 d).now ≡ generation.out)
+    each_same d = three_same is.feeds_word is.messages_word generation.out (get_or found 0 d).now (get_or found 1 d).now (get_or found 2 d).now (sym (three_texts found d generate_long) ∙ (same ∙ generate_places.1))
 
-    pub generate_amounts : (d : Bor Word) → AreAmounts (get_or found 0 d).now (get_or found 1 d).now feeds messages
+    pub generate_amounts : (d : Bor Word) → AreAmounts (get_or found 0 d).now (get_or found 1 d).now generation.feeds generation.messages
     generate_amounts d =
-        subst (λ (w : Word). AreAmounts w (get_or found 1 d).now feeds messages) (sym (each_same d).0)
-        (subst (λ (w : Word). AreAmounts is.feeds_word w feeds messages) (sym (each_same d).1) is.amounts)
+        subst (λ (w : Word). AreAmounts w (get_or found 1 d).now generation.feeds generation.messages) (sym (each_same d).0)
+        (subst (λ (w : Word). AreAmounts is.feeds_word w generation.feeds generation.messages) (sym (each_same d).1) is.amounts)
 
     pub generate_named : (d : Bor Word) → (length (get_or found 2 d).now == 0) ≡ true → ⊥
     generate_named d empty = is.out_named (sym (each_same d).2 ∙ empty_text (get_or found 2 d).now empty)
 
 pub merge_is : (words : List Word) (rows : List Row) (reading : IsReading (synopsis_of verb.Merge) words rows) (out : Word) (inputs : List Word) (size : Option ℕ) → first_of (codes "out") rows ≡ Some out → all_found (codes "in") rows ≡ inputs → out ≢ [] → AreFeedNames out inputs
-    → GivesNumber 1 67108864 (option_to_list (first_of (codes "chunk") rows)) size → IsMerge words out inputs (unwrap_or size 786432)
+    → GivesNumber 1 67108864 (option_to_list (first_of (codes "chunk") rows)) size → IsMerge words (record { out = out; inputs = inputs; chunk = unwrap_or size 786432 })
 merge_is words rows reading out inputs size is is2 named feeding sized = record {
   items = reading.items;
   reads = subst (ReadsWords (synopsis_of verb.Merge) words reading.items) (more_places (synopsis_of verb.Merge) words rows reading (codes "out") (codes "in") merged out inputs is is2)
@@ -313,22 +318,22 @@ merge_is words rows reading out inputs size is is2 named feeding sized = record 
 }
 
 -- the words of a merge have these names and this size
-module _ (words : List Word) (rows : List Row) (reading : IsReading (synopsis_of verb.Merge) words rows) (out : Word) (inputs : List Word) (chunk : ℕ) (is : IsMerge words out inputs chunk) where
-  pub merge_names : (first_of (codes "out") rows ≡ Some out) × (all_found (codes "in") rows ≡ inputs)
-  merge_names = more_are (synopsis_of verb.Merge) words rows reading (codes "out") (codes "in") merged out inputs (sym (same_reading (synopsis_of verb.Merge) words rows reading is.items (out ∷ inputs) is.reads).1)
+module _ (words : List Word) (rows : List Row) (reading : IsReading (synopsis_of verb.Merge) words rows) (merge : FileMerge) (is : IsMerge words merge) where
+  pub merge_names : (first_of (codes "out") rows ≡ Some merge.out) × (all_found (codes "in") rows ≡ merge.inputs)
+  merge_names = more_are (synopsis_of verb.Merge) words rows reading (codes "out") (codes "in") merged merge.out merge.inputs (sym (same_reading (synopsis_of verb.Merge) words rows reading is.items (merge.out ∷ merge.inputs) is.reads).1)
 
   pub merge_size : GivesNumber 1 67108864 (option_to_list (first_of (codes "chunk") rows)) is.size
   merge_size =
-      let same = ap (given (codes "chunk")) (same_reading (synopsis_of verb.Merge) words rows reading is.items (out ∷ inputs) is.reads).0 ∙ reading.shows.options (codes "chunk") (inl refl) in
+      let same = ap (given (codes "chunk")) (same_reading (synopsis_of verb.Merge) words rows reading is.items (merge.out ∷ merge.inputs) is.reads).0 ∙ reading.shows.options (codes "chunk") (inl refl) in
       subst (λ (l : List Word). GivesNumber 1 67108864 l is.size) same is.sized
 
   -- the inputs are those that are found beside this output
   pub merge_fed : (name : Word) → first_of (codes "out") rows ≡ Some name → AreFeedNames name (all_found (codes "in") rows)
-  merge_fed name found = subst (λ (n : Word). AreFeedNames n (all_found (codes "in") rows)) (same_Some out name (sym merge_names.0 ∙ found))
-      (subst (AreFeedNames out) (sym merge_names.1) (is.some, is.few, λ i d less. (is.inputs_named i d less, is.differ i d less)))
+  merge_fed name found = subst (λ (n : Word). AreFeedNames n (all_found (codes "in") rows)) (same_Some merge.out name (sym merge_names.0 ∙ found))
+      (subst (AreFeedNames merge.out) (sym merge_names.1) (is.some, is.few, λ i d less. (is.inputs_named i d less, is.differ i d less)))
 
 pub recover_is : (words : List Word) (rows : List Row) (reading : IsReading (synopsis_of verb.Recover) words rows) (input out : Word) (size : Option ℕ) → first_of (codes "in") rows ≡ Some input → all_found (codes "out") rows ≡ out ∷ [] → input ≢ [] → out ≢ [] → input ≢ out
-    → GivesNumber 1 67108864 (option_to_list (first_of (codes "chunk") rows)) size → IsRecover words input out (unwrap_or size 786432)
+    → GivesNumber 1 67108864 (option_to_list (first_of (codes "chunk") rows)) size → IsRecover words (record { input = input; out = out; chunk = unwrap_or size 786432 })
 recover_is words rows reading input out size is is2 in_named out_named differ sized = record {
   items = reading.items;
   reads = subst (ReadsWords (synopsis_of verb.Recover) words reading.items) (more_places (synopsis_of verb.Recover) words rows reading (codes "in") (codes "out") recovered input (out ∷ []) is is2)
@@ -342,27 +347,27 @@ recover_is words rows reading input out size is is2 in_named out_named differ si
 }
 
 -- the words of a recovery have these names and this size
-module _ (words : List Word) (rows : List Row) (reading : IsReading (synopsis_of verb.Recover) words rows) (input out : Word) (chunk : ℕ) (is : IsRecover words input out chunk) where
-  pub recover_names : (first_of (codes "in") rows ≡ Some input) × (all_found (codes "out") rows ≡ out ∷ [])
-  recover_names = more_are (synopsis_of verb.Recover) words rows reading (codes "in") (codes "out") recovered input (out ∷ []) (sym (same_reading (synopsis_of verb.Recover) words rows reading is.items (input ∷ out ∷ []) is.reads).1)
+module _ (words : List Word) (rows : List Row) (reading : IsReading (synopsis_of verb.Recover) words rows) (recovery : FileRecovery) (is : IsRecover words recovery) where
+  pub recover_names : (first_of (codes "in") rows ≡ Some recovery.input) × (all_found (codes "out") rows ≡ recovery.out ∷ [])
+  recover_names = more_are (synopsis_of verb.Recover) words rows reading (codes "in") (codes "out") recovered recovery.input (recovery.out ∷ []) (sym (same_reading (synopsis_of verb.Recover) words rows reading is.items (recovery.input ∷ recovery.out ∷ []) is.reads).1)
 
   pub recover_size : GivesNumber 1 67108864 (option_to_list (first_of (codes "chunk") rows)) is.size
   recover_size =
-      let same = ap (given (codes "chunk")) (same_reading (synopsis_of verb.Recover) words rows reading is.items (input ∷ out ∷ []) is.reads).0 ∙ reading.shows.options (codes "chunk") (inl refl) in
+      let same = ap (given (codes "chunk")) (same_reading (synopsis_of verb.Recover) words rows reading is.items (recovery.input ∷ recovery.out ∷ []) is.reads).0 ∙ reading.shows.options (codes "chunk") (inl refl) in
       subst (λ (l : List Word). GivesNumber 1 67108864 l is.size) same is.sized
 
   -- the output is the one that is found beside this input
-  pub recover_out : (name : Word) → first_of (codes "in") rows ≡ Some name → name ≢ out
-  recover_out name found = subst (λ (n : Word). n ≢ out) (same_Some input name (sym recover_names.0 ∙ found)) is.differ
+  pub recover_out : (name : Word) → first_of (codes "in") rows ≡ Some name → name ≢ recovery.out
+  recover_out name found = subst (λ (n : Word). n ≢ recovery.out) (same_Some recovery.input name (sym recover_names.0 ∙ found)) is.differ
 
 -- what was found of a recording
-module _ (words : List Word) (rows : List Row) (reading : IsReading (synopsis_of verb.Record) words rows) (out : Word) (feeds : List Word) (told : Recording) (size : Option ℕ) where
-  pub record_is : first_of (codes "out") rows ≡ Some out → all_found (codes "feed") rows ≡ feeds → out ≢ [] → AreFeedNames out feeds → Flags (given (codes "lossless") reading.items) told.lossless
-      → IsFileOptions reading.items told.file → GivesNumber 1 1073741824 (option_to_list (first_of (codes "limit") rows)) size → told.limit ≡ unwrap_or size 104857600 → IsClean rows (codes "profile")
-      → AreUnwatched out told.watchers feeds → HasWatchers reading.items told.range told.watchers → IsRecord words out feeds told
+module _ (words : List Word) (rows : List Row) (reading : IsReading (synopsis_of verb.Record) words rows) (recording : Recording) (size : Option ℕ) where
+  pub record_is : first_of (codes "out") rows ≡ Some recording.out → all_found (codes "feed") rows ≡ recording.feeds → recording.out ≢ [] → AreFeedNames recording.out recording.feeds → Flags (given (codes "lossless") reading.items) recording.options.lossless
+      → IsFileOptions reading.items recording.options.file → GivesNumber 1 1073741824 (option_to_list (first_of (codes "limit") rows)) size → recording.options.limit ≡ unwrap_or size 104857600 → IsClean rows (codes "profile")
+      → AreUnwatched recording.out recording.watchers recording.feeds → HasWatchers reading.items recording.range recording.watchers → IsRecord words recording
   record_is is is2 named feeding flagged options sized limited clean unwatched watched = record {
     items = reading.items;
-    reads = subst (ReadsWords (synopsis_of verb.Record) words reading.items) (more_places (synopsis_of verb.Record) words rows reading (codes "out") (codes "feed") recorded out feeds is is2) (exact_reading (synopsis_of verb.Record) words rows reading all_clean);
+    reads = subst (ReadsWords (synopsis_of verb.Record) words reading.items) (more_places (synopsis_of verb.Record) words rows reading (codes "out") (codes "feed") recorded recording.out recording.feeds is is2) (exact_reading (synopsis_of verb.Record) words rows reading all_clean);
     some = feeding.0;
     few = feeding.1;
     out_named = named;
@@ -399,7 +404,7 @@ of_file_is v words rows reading file only is named = record {
 }
 
 pub cat_is : (words : List Word) (rows : List Row) (reading : IsReading (synopsis_of verb.Cat) words rows) (file : Word) (indexed : Bool) (range : Range) (topic : Option Word) → first_of (codes "file") rows ≡ Some file → file ≢ [] → Flags (given (codes "indexed") reading.items) indexed
-    → IsRange reading.items range → topic ≡ first_of (codes "topic") rows → IsClean rows (codes "topic") → IsCat words file indexed range topic
+    → IsRange reading.items range → topic ≡ first_of (codes "topic") rows → IsClean rows (codes "topic") → IsCat words (record { file = file; indexed = indexed; range = range; topic = topic })
 cat_is words rows reading file indexed range topic is named flagged ranged topical clean = record {
   items = reading.items;
   reads = subst (ReadsWords (synopsis_of verb.Cat) words reading.items) (one_places (synopsis_of verb.Cat) words rows reading (codes "file") printed file is) (exact_reading (synopsis_of verb.Cat) words rows reading all_clean);
@@ -458,8 +463,8 @@ fit_with v words items places reads options flags few = record {
   fits = record { options = each_of (Once items) v.options options; flags = each_of (Flagged items) v.flags flags; few = few };
 }
 
-pub fit_record : (words : List Word) (out : Word) (feeds : List Word) (told : Recording) → IsRecord words out feeds told → Fitting (synopsis_of verb.Record) words
-fit_record words out feeds told is = fit_with (synopsis_of verb.Record) words is.items (out ∷ feeds) is.reads (
+pub fit_record : (words : List Word) (recording : Recording) → IsRecord words recording → Fitting (synopsis_of verb.Record) words
+fit_record words recording is = fit_with (synopsis_of verb.Record) words is.items (recording.out ∷ recording.feeds) is.reads (
   once_number 1 1073741824 (given (codes "limit") is.items) is.size is.sized,
   (
     once_number 1 67108864 (given (codes "chunk") is.items) is.options.chunk.size is.options.chunk.sized,
@@ -469,14 +474,14 @@ fit_record words out feeds told is = fit_with (synopsis_of verb.Record) words is
     ),
   ),
 )
-    ((is.options.chunk.is_plain, is.options.chunk.plain), ((told.lossless, is.flagged), tt)) tt
+    ((is.options.chunk.is_plain, is.options.chunk.plain), ((recording.options.lossless, is.flagged), tt)) tt
 
-pub fit_cat : (words : List Word) (file : Word) (indexed : Bool) (range : Range) (topic : Option Word) → IsCat words file indexed range topic → Fitting (synopsis_of verb.Cat) words
-fit_cat words file indexed range topic is = fit_with (synopsis_of verb.Cat) words is.items (file ∷ []) is.reads (
+pub fit_cat : (words : List Word) (printing : Printing) → IsCat words printing → Fitting (synopsis_of verb.Cat) words
+fit_cat words printing is = fit_with (synopsis_of verb.Cat) words is.items (printing.file ∷ []) is.reads (
   once_number 0 18446744073709551615 (given (codes "start") is.items) is.ranged.start is.ranged.started,
-  (once_number 0 18446744073709551615 (given (codes "end") is.items) range.end is.ranged.ended, ((topic, is.topical), tt)),
+  (once_number 0 18446744073709551615 (given (codes "end") is.items) printing.range.end is.ranged.ended, ((printing.topic, is.topical), tt)),
 )
-    ((indexed, is.flagged), tt) (omega arith)
+    ((printing.indexed, is.flagged), tt) (omega arith)
 
 pub fit_file : (v : Synopsis) (words : List Word) (file : Word) → HasOnlyFile v → IsOfFile v words file → Fitting v words
 fit_file v words file only is = record {
@@ -512,44 +517,44 @@ reads_whole v words items places reads =
 -- ---- for the code that reads what was found
 
 -- the words of a recording have these names
-module _ (words : List Word) (rows : List Row) (reading : IsReading (synopsis_of verb.Record) words rows) (out : Word) (feeds : List Word) (told : Recording) (is : IsRecord words out feeds told) where
-  pub record_names : (first_of (codes "out") rows ≡ Some out) × (all_found (codes "feed") rows ≡ feeds)
-  record_names = more_are (synopsis_of verb.Record) words rows reading (codes "out") (codes "feed") recorded out feeds (sym (same_reading (synopsis_of verb.Record) words rows reading is.items (out ∷ feeds) is.reads).1)
+module _ (words : List Word) (rows : List Row) (reading : IsReading (synopsis_of verb.Record) words rows) (recording : Recording) (is : IsRecord words recording) where
+  pub record_names : (first_of (codes "out") rows ≡ Some recording.out) × (all_found (codes "feed") rows ≡ recording.feeds)
+  record_names = more_are (synopsis_of verb.Record) words rows reading (codes "out") (codes "feed") recorded recording.out recording.feeds (sym (same_reading (synopsis_of verb.Record) words rows reading is.items (recording.out ∷ recording.feeds) is.reads).1)
 
-  record_feeds : AreFeedNames out feeds
+  record_feeds : AreFeedNames recording.out recording.feeds
   record_feeds = (is.some, is.few, λ i d less. (is.feeds_named i d less, is.differ i d less))
 
   pub record_fed : (name : Word) → first_of (codes "out") rows ≡ Some name → AreFeedNames name (all_found (codes "feed") rows)
   record_fed name found =
-      let same : out ≡ name = same_Some out name (sym record_names.0 ∙ found) in
-      subst (λ (o : Word). AreFeedNames o (all_found (codes "feed") rows)) same (subst (AreFeedNames out) (sym record_names.1) record_feeds)
+      let same : recording.out ≡ name = same_Some recording.out name (sym record_names.0 ∙ found) in
+      subst (λ (o : Word). AreFeedNames o (all_found (codes "feed") rows)) same (subst (AreFeedNames recording.out) (sym record_names.1) record_feeds)
 
-  pub record_watching : HasWatchers reading.items told.range told.watchers
-  record_watching = subst (λ (l : List Item). HasWatchers l told.range told.watchers) (same_reading (synopsis_of verb.Record) words rows reading is.items (out ∷ feeds) is.reads).0 is.watched
+  pub record_watching : HasWatchers reading.items recording.range recording.watchers
+  record_watching = subst (λ (l : List Item). HasWatchers l recording.range recording.watchers) (same_reading (synopsis_of verb.Record) words rows reading is.items (recording.out ∷ recording.feeds) is.reads).0 is.watched
 
   -- and so are the feeds that aren't watchers' files, with what is found of watchers
   pub record_unwatched : (name : Word) (times : Range) (count : ℕ) → first_of (codes "out") rows ≡ Some name → HasWatchers reading.items times count → AreUnwatched name count (all_found (codes "feed") rows)
   record_unwatched name times count found has =
-      let same : out ≡ name = same_Some out name (sym record_names.0 ∙ found) in
-      let counts : told.watchers ≡ count = (one_watching reading.items times told.range count told.watchers has record_watching).1 in
+      let same : recording.out ≡ name = same_Some recording.out name (sym record_names.0 ∙ found) in
+      let counts : recording.watchers ≡ count = (one_watching reading.items times recording.range count recording.watchers has record_watching).1 in
       subst (λ (o : Word). AreUnwatched o count (all_found (codes "feed") rows)) same
-      (subst (λ (n : ℕ). AreUnwatched out n (all_found (codes "feed") rows)) counts (subst (AreUnwatched out told.watchers) (sym record_names.1) is.unwatched))
+      (subst (λ (n : ℕ). AreUnwatched recording.out n (all_found (codes "feed") rows)) counts (subst (AreUnwatched recording.out recording.watchers) (sym record_names.1) is.unwatched))
 
-  pub record_options : IsFileOptions reading.items told.file
-  record_options = subst (λ (l : List Item). IsFileOptions l told.file) (same_reading (synopsis_of verb.Record) words rows reading is.items (out ∷ feeds) is.reads).0 is.options
+  pub record_options : IsFileOptions reading.items recording.options.file
+  record_options = subst (λ (l : List Item). IsFileOptions l recording.options.file) (same_reading (synopsis_of verb.Record) words rows reading is.items (recording.out ∷ recording.feeds) is.reads).0 is.options
 
   pub record_limit : GivesNumber 1 1073741824 (option_to_list (first_of (codes "limit") rows)) is.size
   record_limit =
-      let same = ap (given (codes "limit")) (same_reading (synopsis_of verb.Record) words rows reading is.items (out ∷ feeds) is.reads).0 ∙ reading.shows.options (codes "limit") (inl refl) in
+      let same = ap (given (codes "limit")) (same_reading (synopsis_of verb.Record) words rows reading is.items (recording.out ∷ recording.feeds) is.reads).0 ∙ reading.shows.options (codes "limit") (inl refl) in
       subst (λ (l : List Word). GivesNumber 1 1073741824 l is.size) same is.sized
 
-pub file_of_cat : (words : List Word) (rows : List Row) (reading : IsReading (synopsis_of verb.Cat) words rows) (file : Word) (indexed : Bool) (range : Range) (topic : Option Word) → IsCat words file indexed range topic → first_of (codes "file") rows ≡ Some file
-file_of_cat words rows reading file indexed range topic is =
-    one_is (synopsis_of verb.Cat) words rows reading (codes "file") printed file (sym (same_reading (synopsis_of verb.Cat) words rows reading is.items (file ∷ []) is.reads).1)
+pub file_of_cat : (words : List Word) (rows : List Row) (reading : IsReading (synopsis_of verb.Cat) words rows) (printing : Printing) → IsCat words printing → first_of (codes "file") rows ≡ Some printing.file
+file_of_cat words rows reading printing is =
+    one_is (synopsis_of verb.Cat) words rows reading (codes "file") printed printing.file (sym (same_reading (synopsis_of verb.Cat) words rows reading is.items (printing.file ∷ []) is.reads).1)
 
-pub range_of_cat : (words : List Word) (rows : List Row) (reading : IsReading (synopsis_of verb.Cat) words rows) (file : Word) (indexed : Bool) (range : Range) (topic : Option Word) → IsCat words file indexed range topic → IsRange reading.items range
-range_of_cat words rows reading file indexed range topic is =
-    subst (λ (l : List Item). IsRange l range) (same_reading (synopsis_of verb.Cat) words rows reading is.items (file ∷ []) is.reads).0 is.ranged
+pub range_of_cat : (words : List Word) (rows : List Row) (reading : IsReading (synopsis_of verb.Cat) words rows) (printing : Printing) → IsCat words printing → IsRange reading.items printing.range
+range_of_cat words rows reading printing is =
+    subst (λ (l : List Item). IsRange l printing.range) (same_reading (synopsis_of verb.Cat) words rows reading is.items (printing.file ∷ []) is.reads).0 is.ranged
 
 -- the feeds among the words
 abbrev MayFeed : Word → Word → Type 0

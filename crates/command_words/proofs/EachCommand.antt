@@ -1,13 +1,16 @@
 -- What holds of each command, a line for each: it is listed, it is of one variant, its words fit it, and they are those of no other.
-use Rattle.std.proofs.Common.{◌≡◌, ◌⊎◌, ℕ, Bool, true, false, List, [], ◌∷◌, ◌++◌, map, Option, Some, None, refl, sym, ap, subst, inl, inr, codes, arith}
+use Rattle.std.proofs.Common.{◌≡◌, ◌⊎◌, Bool, true, false, List, [], ◌∷◌, ◌++◌, map, Option, Some, None, refl, sym, ap, subst, inl, inr, codes, arith}
 use Rattle.std.specs.Prelude.{if◌then◌else◌}
 use Rattle.std.specs.Str.{bytes_eq}
 use Rattle.std.proofs.lemmas.Option.{same_Some}
-use Rattle.mcap_model.specs.declared.options.FileOptions.{FileOptions}
-use Rattle.mcap_model.specs.declared.replay.Range.{Range}
 use Rattle.command_words.specs.Items.{Word, given}
-use Rattle.command_words.specs.Commands.{WordsMean, IsGenerate, IsMerge, IsRecover, command_name, file_commands, file_synopsis, synopsis_of, told_with, verb_of, verbs}
+use Rattle.command_words.specs.Commands.{WordsMean, IsGenerate, IsMerge, IsRecover, command_name, file_commands, file_synopsis, synopsis_of, verb_of, verbs}
 use Rattle.command_words.specs.declared.command.FileCommand.{FileCommand}
+use Rattle.command_words.specs.declared.command.FileMerge.{FileMerge}
+use Rattle.command_words.specs.declared.command.FileRecovery.{FileRecovery}
+use Rattle.command_words.specs.declared.command.Generation.{Generation}
+use Rattle.command_words.specs.declared.command.Printing.{Printing}
+use Rattle.command_words.specs.declared.command.Recording.{Recording}
 use Rattle.command_words.specs.declared.command.Command.{Command}
 use Rattle.command_words.specs.declared.command.Command.TheVariants.{Record, OfFile, Cat, Recover, Merge, Generate}
 use Rattle.command_words.specs.declared.verbs.Verb.{Verb}
@@ -62,48 +65,44 @@ listed verb.Generate = inr (listed_right (map verb.OfFile file_commands) others 
 
 -- it holds of each command with this verb
 abbrev pub OfVerb : Verb → (Command → Type 0) → Type 0
-OfVerb verb.Record P = (out : Word) (feeds : List Word) (file : FileOptions) (limit : ℕ) (lossless : Bool) (range : Range) (watchers : ℕ) → P (Record out feeds file limit lossless range watchers)
-OfVerb (verb.OfFile what) P = (file : Word) → P (OfFile what file)
-OfVerb verb.Cat P = (file : Word) (indexed : Bool) (range : Range) (topic : Option Word) → P (Cat file indexed range topic)
-OfVerb verb.Recover P = (input out : Word) (chunk : ℕ) → P (Recover input out chunk)
-OfVerb verb.Merge P = (out : Word) (inputs : List Word) (chunk : ℕ) → P (Merge out inputs chunk)
-OfVerb verb.Generate P = (seed feeds messages : ℕ) (out : Word) → P (Generate seed feeds messages out)
+OfVerb verb.Record P = (recording : Recording) → P (Record recording)
+OfVerb (verb.OfFile what) P = (file : Word) → P (OfFile (record { what = what; file = file }))
+OfVerb verb.Cat P = (printing : Printing) → P (Cat printing)
+OfVerb verb.Recover P = (recovery : FileRecovery) → P (Recover recovery)
+OfVerb verb.Merge P = (merge : FileMerge) → P (Merge merge)
+OfVerb verb.Generate P = (generation : Generation) → P (Generate generation)
 
 of_its : (P : Command → Type 0) (command : Command) → OfVerb (verb_of command) P → P command
-of_its P (Record out feeds file limit lossless range watchers) all = all out feeds file limit lossless range watchers
-of_its P (OfFile what file) all = all file
-of_its P (Cat file indexed range topic) all = all file indexed range topic
-of_its P (Recover input out chunk) all = all input out chunk
-of_its P (Merge out inputs chunk) all = all out inputs chunk
-of_its P (Generate seed feeds messages out) all = all seed feeds messages out
+of_its P (Record recording) all = all recording
+of_its P (OfFile inspection) all = all inspection.file
+of_its P (Cat printing) all = all printing
+of_its P (Recover recovery) all = all recovery
+of_its P (Merge merge) all = all merge
+of_its P (Generate generation) all = all generation
 
 pub of_verb : (v : Verb) (P : Command → Type 0) → OfVerb v P → (command : Command) → verb_of command ≡ v → P command
 of_verb v P all command same = of_its P command (subst (λ (u : Verb). OfVerb u P) (sym same) all)
 
 -- the words behind a command fit it
 pub fitting : (words : List Word) (command : Command) → WordsMean words command → Fitting (synopsis_of (verb_of command)) words
-fitting words (Record out feeds file limit lossless range watchers) is = fit_record words out feeds (told_with file limit lossless range watchers) is
-fitting words (OfFile what file) is = fit_file (file_synopsis (command_name what)) words file (command_name what, refl) is
-fitting words (Cat file indexed range topic) is = fit_cat words file indexed range topic is
-fitting words (Recover input out chunk) is =
-    let one : IsRecover words input out chunk = is in fit_with (synopsis_of verb.Recover) words one.items (input ∷ out ∷ []) one.reads (once_number 1 67108864 (given (codes "chunk") one.items) one.size one.sized, tt) tt tt
-fitting words (Merge out inputs chunk) is =
-    let one : IsMerge words out inputs chunk = is in fit_with (synopsis_of verb.Merge) words one.items (out ∷ inputs) one.reads (once_number 1 67108864 (given (codes "chunk") one.items) one.size one.sized, tt) tt tt
-fitting words (Generate seed feeds messages out) is =
-    let one : IsGenerate words seed feeds messages out = is in fit_with (synopsis_of verb.Generate) words one.items (one.seed_word ∷ one.feeds_word ∷ one.messages_word ∷ out ∷ []) one.reads tt tt tt
+fitting words (Record recording) is = fit_record words recording is
+fitting words (OfFile inspection) is = fit_file (file_synopsis (command_name inspection.what)) words inspection.file (command_name inspection.what, refl) is
+fitting words (Cat printing) is = fit_cat words printing is
+fitting words (Recover recovery) is =
+    let one : IsRecover words recovery = is in
+    fit_with (synopsis_of verb.Recover) words one.items (recovery.input ∷ recovery.out ∷ []) one.reads (once_number 1 67108864 (given (codes "chunk") one.items) one.size one.sized, tt) tt tt
+fitting words (Merge merge) is =
+    let one : IsMerge words merge = is in fit_with (synopsis_of verb.Merge) words one.items (merge.out ∷ merge.inputs) one.reads (once_number 1 67108864 (given (codes "chunk") one.items) one.size one.sized, tt) tt tt
+fitting words (Generate generation) is =
+    let one : IsGenerate words generation = is in fit_with (synopsis_of verb.Generate) words one.items (one.seed_word ∷ one.feeds_word ∷ one.messages_word ∷ generation.out ∷ []) one.reads tt tt tt
 
 -- two with one verb are the same
 pub one_behind : (words : List Word) (a b : Command) → verb_of b ≡ verb_of a → WordsMean words a → WordsMean words b → b ≡ a
-one_behind words (Record out feeds file limit lossless range watchers) b same is =
-    of_verb verb.Record (λ c. WordsMean words c → c ≡ Record out feeds file limit lossless range watchers)
-    (λ out' feeds' file' limit' lossless' range' watchers' other. one_record words out feeds (told_with file limit lossless range watchers) out' feeds' (told_with file' limit' lossless' range' watchers') is other) b same
-one_behind words (OfFile what file) b same is =
-    of_verb (verb.OfFile what) (λ c. WordsMean words c → c ≡ OfFile what file) (λ file' other. ap (OfFile what) (one_file (file_synopsis (command_name what)) words file file' is other)) b same
-one_behind words (Cat file indexed range topic) b same is =
-    of_verb verb.Cat (λ c. WordsMean words c → c ≡ Cat file indexed range topic) (λ file' indexed' range' topic' other. one_cat words file indexed range topic file' indexed' range' topic' is other) b same
-one_behind words (Recover input out chunk) b same is =
-    of_verb verb.Recover (λ c. WordsMean words c → c ≡ Recover input out chunk) (λ input' out' chunk' other. one_recover words input out chunk input' out' chunk' is other) b same
-one_behind words (Merge out inputs chunk) b same is =
-    of_verb verb.Merge (λ c. WordsMean words c → c ≡ Merge out inputs chunk) (λ out' inputs' chunk' other. one_merge words out inputs chunk out' inputs' chunk' is other) b same
-one_behind words (Generate seed feeds messages out) b same is =
-    of_verb verb.Generate (λ c. WordsMean words c → c ≡ Generate seed feeds messages out) (λ seed' feeds' messages' out' other. one_generate words seed feeds messages out seed' feeds' messages' out' is other) b same
+one_behind words (Record recording) b same is = of_verb verb.Record (λ c. WordsMean words c → c ≡ Record recording) (λ recording' other. ap Record (one_record words recording recording' is other)) b same
+one_behind words (OfFile inspection) b same is =
+    of_verb (verb.OfFile inspection.what) (λ c. WordsMean words c → c ≡ OfFile inspection)
+    (λ file' other. ap (λ (f : Word). OfFile (record { what = inspection.what; file = f })) (one_file (file_synopsis (command_name inspection.what)) words inspection.file file' is other)) b same
+one_behind words (Cat printing) b same is = of_verb verb.Cat (λ c. WordsMean words c → c ≡ Cat printing) (λ printing' other. ap Cat (one_cat words printing printing' is other)) b same
+one_behind words (Recover recovery) b same is = of_verb verb.Recover (λ c. WordsMean words c → c ≡ Recover recovery) (λ recovery' other. ap Recover (one_recover words recovery recovery' is other)) b same
+one_behind words (Merge merge) b same is = of_verb verb.Merge (λ c. WordsMean words c → c ≡ Merge merge) (λ merge' other. ap Merge (one_merge words merge merge' is other)) b same
+one_behind words (Generate generation) b same is = of_verb verb.Generate (λ c. WordsMean words c → c ≡ Generate generation) (λ generation' other. ap Generate (one_generate words generation generation' is other)) b same

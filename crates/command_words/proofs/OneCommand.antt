@@ -5,12 +5,16 @@ use Rattle.std.specs.Option.{option_to_list}
 use Rattle.std.specs.Str.Parse.{AllDigits, IsNumeral, digits_value}
 use Rattle.std.proofs.lemmas.Str.Parse.{not_in_digits, numerals_by_value, tells_digits}
 use Rattle.mcap_model.specs.declared.options.FileOptions.{FileOptions}
+use Rattle.mcap_model.specs.declared.options.RecordOptions.{RecordOptions}
 use Rattle.mcap_model.specs.declared.replay.Range.{Range}
 use Rattle.command_words.specs.Synopses.{Synopsis}
 use Rattle.command_words.specs.Items.{Word, Item, given}
-use Rattle.command_words.specs.Commands.{Flags, GivesNumber, GivesSpan, HasChunks, HasProfile, HasWatchers, IsCat, IsFileOptions, IsGenerate, IsMerge, IsNumber, IsOfFile, IsRange, IsRecord, IsRecover, IsSpan, Recording, SizesChunks, synopsis_of, watchers_with, whole_time}
-use Rattle.command_words.specs.declared.command.Command.{Command}
-use Rattle.command_words.specs.declared.command.Command.TheVariants.{Record, Cat, Recover, Merge, Generate}
+use Rattle.command_words.specs.Commands.{Flags, GivesNumber, GivesSpan, HasChunks, HasProfile, HasWatchers, IsCat, IsFileOptions, IsGenerate, IsMerge, IsNumber, IsOfFile, IsRange, IsRecord, IsRecover, IsSpan, SizesChunks, synopsis_of, watchers_with, whole_time}
+use Rattle.command_words.specs.declared.command.FileMerge.{FileMerge}
+use Rattle.command_words.specs.declared.command.FileRecovery.{FileRecovery}
+use Rattle.command_words.specs.declared.command.Generation.{Generation}
+use Rattle.command_words.specs.declared.command.Printing.{Printing}
+use Rattle.command_words.specs.declared.command.Recording.{Recording}
 use Rattle.command_words.specs.declared.verbs.Verb.TheVariants as verb
 use Rattle.command_words.proofs.CutLemmas.{one_reading}
 use Rattle.command_words.proofs.ItemLemmas.{Lacks, marked_once}
@@ -108,63 +112,88 @@ one_watching items range range' count count' is other =
 
 -- ---- commands
 
-abbrev record_with : Word → List Word → Recording → Command
-record_with out feeds told = Record out feeds told.file told.limit told.lossless told.range told.watchers
+abbrev record_options_with : FileOptions → ℕ → Bool → RecordOptions
+record_options_with file limit lossless = record { file = file; limit = limit; lossless = lossless }
 
-pub one_record : (words : List Word) (out : Word) (feeds : List Word) (told : Recording) (out' : Word) (feeds' : List Word) (told' : Recording) → IsRecord words out feeds told → IsRecord words out' feeds' told' → record_with out' feeds' told' ≡ record_with out feeds told
-one_record words out feeds told out' feeds' told' is other =
-    let same = one_reading (synopsis_of verb.Record) words is.items other.items (out ∷ feeds) (out' ∷ feeds') is.reads other.reads in
-    let places : out' ∷ feeds' ≡ out ∷ feeds = same.1 in
-    let flags : told'.lossless ≡ told.lossless = one_flag (given (codes "lossless") is.items) told.lossless told'.lossless is.flagged (subst (λ (l : List Item). Flags (given (codes "lossless") l) told'.lossless) same.0 other.flagged) in
-    let files : told'.file ≡ told.file = one_options is.items told.file told'.file is.options (subst (λ (l : List Item). IsFileOptions l told'.file) same.0 other.options) in
+record_options_same : (f g : FileOptions) (m n : ℕ) (b d : Bool) → g ≡ f → n ≡ m → d ≡ b → record_options_with g n d ≡ record_options_with f m b
+record_options_same f g m n b d file limit lossless = cc
+
+abbrev recording_with : Word → List Word → RecordOptions → Range → ℕ → Recording
+recording_with out feeds options range watchers = record { out = out; feeds = feeds; options = options; range = range; watchers = watchers }
+
+recording_same : (out out' : Word) (feeds feeds' : List Word) (c d : RecordOptions) (r s : Range) (m n : ℕ) → out' ∷ feeds' ≡ out ∷ feeds → d ≡ c → s ≡ r → n ≡ m → recording_with out' feeds' d s n ≡ recording_with out feeds c r m
+recording_same out out' feeds feeds' c d r s m n places options range watchers = cc
+
+pub one_record : (words : List Word) (a b : Recording) → IsRecord words a → IsRecord words b → b ≡ a
+one_record words a b is other =
+    let same = one_reading (synopsis_of verb.Record) words is.items other.items (a.out ∷ a.feeds) (b.out ∷ b.feeds) is.reads other.reads in
+    let flags = one_flag (given (codes "lossless") is.items) a.options.lossless b.options.lossless is.flagged (subst (λ (l : List Item). Flags (given (codes "lossless") l) b.options.lossless) same.0 other.flagged) in
+    let files = one_options is.items a.options.file b.options.file is.options (subst (λ (l : List Item). IsFileOptions l b.options.file) same.0 other.options) in
     let size = one_number 1 1073741824 (given (codes "limit") is.items) is.size other.size is.sized (subst (λ (l : List Item). GivesNumber 1 1073741824 (given (codes "limit") l) other.size) same.0 other.sized) in
-    let limits : told'.limit ≡ told.limit = other.limited ∙ ap (λ (v : Option ℕ). unwrap_or v 104857600) size ∙ sym is.limited in
-    let watched = one_watching is.items told.range told'.range told.watchers told'.watchers is.watched (subst (λ (l : List Item). HasWatchers l told'.range told'.watchers) same.0 other.watched) in
-    let ranges : told'.range ≡ told.range = watched.0 in
-    let counts : told'.watchers ≡ told.watchers = watched.1 in
-    cc
+    let limits : b.options.limit ≡ a.options.limit = other.limited ∙ ap (λ (v : Option ℕ). unwrap_or v 104857600) size ∙ sym is.limited in
+    let watched = one_watching is.items a.range b.range a.watchers b.watchers is.watched (subst (λ (l : List Item). HasWatchers l b.range b.watchers) same.0 other.watched) in
+    let options = record_options_same a.options.file b.options.file a.options.limit b.options.limit a.options.lossless b.options.lossless files limits flags in
+    recording_same a.out b.out a.feeds b.feeds a.options b.options a.range b.range a.watchers b.watchers same.1 options watched.0 watched.1
 
 pub one_file : (v : Synopsis) (words : List Word) (file file' : Word) → IsOfFile v words file → IsOfFile v words file' → file' ≡ file
 one_file v words file file' is other = let same = one_reading v words is.items other.items (file ∷ []) (file' ∷ []) is.reads other.reads in let places = same.1 in cc
 
-pub one_cat : (words : List Word) (file : Word) (indexed : Bool) (range : Range) (topic : Option Word) (file' : Word) (indexed' : Bool) (range' : Range) (topic' : Option Word) → IsCat words file indexed range topic → IsCat words file' indexed' range' topic'
-    → Cat file' indexed' range' topic' ≡ Cat file indexed range topic
-one_cat words file indexed range topic file' indexed' range' topic' is other =
-    let same = one_reading (synopsis_of verb.Cat) words is.items other.items (file ∷ []) (file' ∷ []) is.reads other.reads in
-    let places = same.1 in
-    let flags : indexed' ≡ indexed = one_flag (given (codes "indexed") is.items) indexed indexed' is.flagged (subst (λ (l : List Item). Flags (given (codes "indexed") l) indexed') same.0 other.flagged) in
-    let ranges : range' ≡ range = one_range is.items range range' is.ranged (subst (λ (l : List Item). IsRange l range') same.0 other.ranged) in
-    let topics : topic' ≡ topic = one_value topic topic' (sym is.topical ∙ subst (λ (l : List Item). given (codes "topic") l ≡ option_to_list topic') same.0 other.topical) in
-    cc
+abbrev printing_with : Word → Bool → Range → Option Word → Printing
+printing_with file indexed range topic = record { file = file; indexed = indexed; range = range; topic = topic }
 
-pub one_recover : (words : List Word) (input out : Word) (chunk : ℕ) (input' out' : Word) (chunk' : ℕ) → IsRecover words input out chunk → IsRecover words input' out' chunk' → Recover input' out' chunk' ≡ Recover input out chunk
-one_recover words input out chunk input' out' chunk' is other =
-    let same = one_reading (synopsis_of verb.Recover) words is.items other.items (input ∷ out ∷ []) (input' ∷ out' ∷ []) is.reads other.reads in
-    let places : input' ∷ out' ∷ [] ≡ input ∷ out ∷ [] = same.1 in
-    let size = one_number 1 67108864 (given (codes "chunk") is.items) is.size other.size is.sized (subst (λ (l : List Item). GivesNumber 1 67108864 (given (codes "chunk") l) other.size) same.0 other.sized) in
-    let chunks : chunk' ≡ chunk = other.chunk_is ∙ ap (λ (v : Option ℕ). unwrap_or v 786432) size ∙ sym is.chunk_is in
-    cc
+printing_same : (file file' : Word) (b d : Bool) (r s : Range) (t u : Option Word) → file' ∷ [] ≡ file ∷ [] → d ≡ b → s ≡ r → u ≡ t → printing_with file' d s u ≡ printing_with file b r t
+printing_same file file' b d r s t u places indexed range topic = cc
 
-pub one_merge : (words : List Word) (out : Word) (inputs : List Word) (chunk : ℕ) (out' : Word) (inputs' : List Word) (chunk' : ℕ) → IsMerge words out inputs chunk → IsMerge words out' inputs' chunk' → Merge out' inputs' chunk' ≡ Merge out inputs chunk
-one_merge words out inputs chunk out' inputs' chunk' is other =
-    let same = one_reading (synopsis_of verb.Merge) words is.items other.items (out ∷ inputs) (out' ∷ inputs') is.reads other.reads in
-    let places : out' ∷ inputs' ≡ out ∷ inputs = same.1 in
+pub one_cat : (words : List Word) (a b : Printing) → IsCat words a → IsCat words b → b ≡ a
+one_cat words a b is other =
+    let same = one_reading (synopsis_of verb.Cat) words is.items other.items (a.file ∷ []) (b.file ∷ []) is.reads other.reads in
+    let flags = one_flag (given (codes "indexed") is.items) a.indexed b.indexed is.flagged (subst (λ (l : List Item). Flags (given (codes "indexed") l) b.indexed) same.0 other.flagged) in
+    let ranges = one_range is.items a.range b.range is.ranged (subst (λ (l : List Item). IsRange l b.range) same.0 other.ranged) in
+    let topics = one_value a.topic b.topic (sym is.topical ∙ subst (λ (l : List Item). given (codes "topic") l ≡ option_to_list b.topic) same.0 other.topical) in
+    printing_same a.file b.file a.indexed b.indexed a.range b.range a.topic b.topic same.1 flags ranges topics
+
+abbrev recovery_with : Word → Word → ℕ → FileRecovery
+recovery_with input out chunk = record { input = input; out = out; chunk = chunk }
+
+recovery_same : (input input' out out' : Word) (m n : ℕ) → input' ∷ out' ∷ [] ≡ input ∷ out ∷ [] → n ≡ m → recovery_with input' out' n ≡ recovery_with input out m
+recovery_same input input' out out' m n places chunk = cc
+
+pub one_recover : (words : List Word) (a b : FileRecovery) → IsRecover words a → IsRecover words b → b ≡ a
+one_recover words a b is other =
+    let same = one_reading (synopsis_of verb.Recover) words is.items other.items (a.input ∷ a.out ∷ []) (b.input ∷ b.out ∷ []) is.reads other.reads in
     let size = one_number 1 67108864 (given (codes "chunk") is.items) is.size other.size is.sized (subst (λ (l : List Item). GivesNumber 1 67108864 (given (codes "chunk") l) other.size) same.0 other.sized) in
-    let chunks : chunk' ≡ chunk = other.chunk_is ∙ ap (λ (v : Option ℕ). unwrap_or v 786432) size ∙ sym is.chunk_is in
-    cc
+    recovery_same a.input b.input a.out b.out a.chunk b.chunk same.1 (other.chunk_is ∙ ap (λ (v : Option ℕ). unwrap_or v 786432) size ∙ sym is.chunk_is)
+
+abbrev merge_with : Word → List Word → ℕ → FileMerge
+merge_with out inputs chunk = record { out = out; inputs = inputs; chunk = chunk }
+
+merge_same : (out out' : Word) (inputs inputs' : List Word) (m n : ℕ) → out' ∷ inputs' ≡ out ∷ inputs → n ≡ m → merge_with out' inputs' n ≡ merge_with out inputs m
+merge_same out out' inputs inputs' m n places chunk = cc
+
+pub one_merge : (words : List Word) (a b : FileMerge) → IsMerge words a → IsMerge words b → b ≡ a
+one_merge words a b is other =
+    let same = one_reading (synopsis_of verb.Merge) words is.items other.items (a.out ∷ a.inputs) (b.out ∷ b.inputs) is.reads other.reads in
+    let size = one_number 1 67108864 (given (codes "chunk") is.items) is.size other.size is.sized (subst (λ (l : List Item). GivesNumber 1 67108864 (given (codes "chunk") l) other.size) same.0 other.sized) in
+    merge_same a.out b.out a.inputs b.inputs a.chunk b.chunk same.1 (other.chunk_is ∙ ap (λ (v : Option ℕ). unwrap_or v 786432) size ∙ sym is.chunk_is)
 
 number_same : (least most : ℕ) (word word' : Word) (m n : ℕ) → word' ≡ word → IsNumber least most word m → IsNumber least most word' n → n ≡ m
 number_same least most word word' m n same is other = other.value ∙ ap (λ (w : Word). digits_value 10 w) same ∙ sym is.value
 
-pub one_generate : (words : List Word) (seed feeds messages : ℕ) (out : Word) (seed' feeds' messages' : ℕ) (out' : Word) → IsGenerate words seed feeds messages out → IsGenerate words seed' feeds' messages' out' → Generate seed' feeds' messages' out' ≡ Generate seed feeds messages out
-one_generate words seed feeds messages out seed' feeds' messages' out' is other =
-    let same = one_reading (synopsis_of verb.Generate) words is.items other.items (is.seed_word ∷ is.feeds_word ∷ is.messages_word ∷ out ∷ []) (other.seed_word ∷ other.feeds_word ∷ other.messages_word ∷ out' ∷ []) is.reads other.reads in
-    let places : other.seed_word ∷ other.feeds_word ∷ other.messages_word ∷ out' ∷ [] ≡ is.seed_word ∷ is.feeds_word ∷ is.messages_word ∷ out ∷ [] = same.1 in
+abbrev generation_with : ℕ → ℕ → ℕ → Word → Generation
+generation_with seed feeds messages out = record { seed = seed; feeds = feeds; messages = messages; out = out }
+
+generation_same : (seed seed' feeds feeds' messages messages' : ℕ) (out out' : Word) → seed' ≡ seed → feeds' ≡ feeds → messages' ≡ messages → out' ≡ out → generation_with seed' feeds' messages' out' ≡ generation_with seed feeds messages out
+generation_same seed seed' feeds feeds' messages messages' out out' seeds counts each last = cc
+
+pub one_generate : (words : List Word) (a b : Generation) → IsGenerate words a → IsGenerate words b → b ≡ a
+one_generate words a b is other =
+    let same = one_reading (synopsis_of verb.Generate) words is.items other.items (is.seed_word ∷ is.feeds_word ∷ is.messages_word ∷ a.out ∷ []) (other.seed_word ∷ other.feeds_word ∷ other.messages_word ∷ b.out ∷ []) is.reads other.reads in
+    let places : other.seed_word ∷ other.feeds_word ∷ other.messages_word ∷ b.out ∷ [] ≡ is.seed_word ∷ is.feeds_word ∷ is.messages_word ∷ a.out ∷ [] = same.1 in
     let first : other.seed_word ≡ is.seed_word = cc in
     let second : other.feeds_word ≡ is.feeds_word = cc in
     let third : other.messages_word ≡ is.messages_word = cc in
-    let last : out' ≡ out = cc in
-    let seeds : seed' ≡ seed = number_same 0 18446744073709551615 is.seed_word other.seed_word seed seed' first is.seeded other.seeded in
-    let counts : feeds' ≡ feeds = number_same 1 64 is.feeds_word other.feeds_word feeds feeds' second is.amounts.feeds_are other.amounts.feeds_are in
-    let each : messages' ≡ messages = number_same 0 1000000 is.messages_word other.messages_word messages messages' third is.amounts.messages_are other.amounts.messages_are in
-    cc
+    let last : b.out ≡ a.out = cc in
+    let seeds = number_same 0 18446744073709551615 is.seed_word other.seed_word a.seed b.seed first is.seeded other.seeded in
+    let counts = number_same 1 64 is.feeds_word other.feeds_word a.feeds b.feeds second is.amounts.feeds_are other.amounts.feeds_are in
+    let each = number_same 0 1000000 is.messages_word other.messages_word a.messages b.messages third is.amounts.messages_are other.amounts.messages_are in
+    generation_same a.seed b.seed a.feeds b.feeds a.messages b.messages a.out b.out seeds counts each last

@@ -12,6 +12,11 @@ use Rattle.command_words.specs.Defaults.{Word, usual_chunk_size, usual_limit, wa
 use Rattle.command_words.specs.Items.{Item, WordsAreItems, given, place_of}
 use Rattle.command_words.specs.declared.command.Command.{Command}
 use Rattle.command_words.specs.declared.command.FileCommand.{FileCommand}
+use Rattle.command_words.specs.declared.command.FileMerge.{FileMerge}
+use Rattle.command_words.specs.declared.command.FileRecovery.{FileRecovery}
+use Rattle.command_words.specs.declared.command.Generation.{Generation}
+use Rattle.command_words.specs.declared.command.Printing.{Printing}
+use Rattle.command_words.specs.declared.command.Recording.{Recording}
 use Rattle.command_words.specs.declared.command.FileCommand.TheVariants.{Info, Check}
 use Rattle.command_words.specs.declared.command.Command.TheVariants.{Record, OfFile, Cat, Recover, Merge, Generate}
 use Rattle.command_words.specs.declared.verbs.Verb.{Verb}
@@ -224,39 +229,22 @@ pub record HasWatchers (items : List Item) (range : Range) (watchers : ℕ) : Ty
   pub range_is : range ≡ unwrap_or span whole_time
   pub watchers_are : watchers ≡ watchers_with number span
 
--- what a recording is told by its options
-pub record Recording : Type 0 where
-  pub file : FileOptions
-  pub limit : ℕ
-  pub lossless : Bool
-  pub range : Range
-  pub watchers : ℕ
-
-abbrev pub told_with : FileOptions → ℕ → Bool → Range → ℕ → Recording
-told_with file limit lossless range watchers = record {
-  file = file;
-  limit = limit;
-  lossless = lossless;
-  range = range;
-  watchers = watchers;
-}
-
 -- record, its options, OUT and each FEED
-pub record IsRecord (words : List Word) (out : Word) (feeds : List Word) (told : Recording) : Type 0 where
+pub record IsRecord (words : List Word) (recording : Recording) : Type 0 where
   pub items : List Item
-  pub reads : ReadsWords (synopsis_of verb.Record) words items (out ∷ feeds)
-  pub some : 1 ≤ length feeds
-  pub few : length feeds ≤ feed_limit
-  pub out_named : out ≢ []
-  pub feeds_named : All (λ feed. feed ≢ []) feeds
-  pub differ : All (λ feed. out ≢ feed) feeds
-  pub unwatched : All (IsUnwatched out told.watchers) feeds
-  pub flagged : Flags (given (codes "lossless") items) told.lossless
-  pub options : IsFileOptions items told.file
+  pub reads : ReadsWords (synopsis_of verb.Record) words items (recording.out ∷ recording.feeds)
+  pub some : 1 ≤ length recording.feeds
+  pub few : length recording.feeds ≤ feed_limit
+  pub out_named : recording.out ≢ []
+  pub feeds_named : All (λ feed. feed ≢ []) recording.feeds
+  pub differ : All (λ feed. recording.out ≢ feed) recording.feeds
+  pub unwatched : All (IsUnwatched recording.out recording.watchers) recording.feeds
+  pub flagged : Flags (given (codes "lossless") items) recording.options.lossless
+  pub options : IsFileOptions items recording.options.file
   pub size : Option ℕ
   pub sized : GivesNumber 1 buffer_limit (given (codes "limit") items) size
-  pub limited : told.limit ≡ unwrap_or size usual_limit
-  pub watched : HasWatchers items told.range told.watchers
+  pub limited : recording.options.limit ≡ unwrap_or size usual_limit
+  pub watched : HasWatchers items recording.range recording.watchers
 
 -- a command without options, and FILE
 pub record IsOfFile (synopsis : Synopsis) (words : List Word) (file : Word) : Type 0 where
@@ -272,37 +260,37 @@ pub record IsRange (items : List Item) (range : Range) : Type 0 where
   pub ended : GivesNumber 0 latest (given (codes "end") items) range.end
 
 -- cat, its options, and FILE
-pub record IsCat (words : List Word) (file : Word) (indexed : Bool) (range : Range) (topic : Option Word) : Type 0 where
+pub record IsCat (words : List Word) (printing : Printing) : Type 0 where
   pub items : List Item
-  pub reads : ReadsWords (synopsis_of verb.Cat) words items (file ∷ [])
-  pub named : file ≢ []
-  pub flagged : Flags (given (codes "indexed") items) indexed
-  pub ranged : IsRange items range
-  pub topical : given (codes "topic") items ≡ option_to_list topic
+  pub reads : ReadsWords (synopsis_of verb.Cat) words items (printing.file ∷ [])
+  pub named : printing.file ≢ []
+  pub flagged : Flags (given (codes "indexed") items) printing.indexed
+  pub ranged : IsRange items printing.range
+  pub topical : given (codes "topic") items ≡ option_to_list printing.topic
 
 -- recover, --chunk, IN and OUT
-pub record IsRecover (words : List Word) (input out : Word) (chunk : ℕ) : Type 0 where
+pub record IsRecover (words : List Word) (recovery : FileRecovery) : Type 0 where
   pub items : List Item
-  pub reads : ReadsWords (synopsis_of verb.Recover) words items (input ∷ out ∷ [])
-  pub in_named : input ≢ []
-  pub out_named : out ≢ []
-  pub differ : input ≢ out
+  pub reads : ReadsWords (synopsis_of verb.Recover) words items (recovery.input ∷ recovery.out ∷ [])
+  pub in_named : recovery.input ≢ []
+  pub out_named : recovery.out ≢ []
+  pub differ : recovery.input ≢ recovery.out
   pub size : Option ℕ
   pub sized : GivesNumber 1 chunk_size_limit (given (codes "chunk") items) size
-  pub chunk_is : chunk ≡ unwrap_or size usual_chunk_size
+  pub chunk_is : recovery.chunk ≡ unwrap_or size usual_chunk_size
 
 -- merge, --chunk, OUT and each IN
-pub record IsMerge (words : List Word) (out : Word) (inputs : List Word) (chunk : ℕ) : Type 0 where
+pub record IsMerge (words : List Word) (merge : FileMerge) : Type 0 where
   pub items : List Item
-  pub reads : ReadsWords (synopsis_of verb.Merge) words items (out ∷ inputs)
-  pub some : 1 ≤ length inputs
-  pub few : length inputs ≤ feed_limit
-  pub out_named : out ≢ []
-  pub inputs_named : All (λ input. input ≢ []) inputs
-  pub differ : All (λ input. out ≢ input) inputs
+  pub reads : ReadsWords (synopsis_of verb.Merge) words items (merge.out ∷ merge.inputs)
+  pub some : 1 ≤ length merge.inputs
+  pub few : length merge.inputs ≤ feed_limit
+  pub out_named : merge.out ≢ []
+  pub inputs_named : All (λ input. input ≢ []) merge.inputs
+  pub differ : All (λ input. merge.out ≢ input) merge.inputs
   pub size : Option ℕ
   pub sized : GivesNumber 1 chunk_size_limit (given (codes "chunk") items) size
-  pub chunk_is : chunk ≡ unwrap_or size usual_chunk_size
+  pub chunk_is : merge.chunk ≡ unwrap_or size usual_chunk_size
 
 -- FEEDS and MESSAGES: how many feeds there are, and how many messages each has
 pub record AreAmounts (feeds_word messages_word : Word) (feeds messages : ℕ) : Type 0 where
@@ -311,33 +299,33 @@ pub record AreAmounts (feeds_word messages_word : Word) (feeds messages : ℕ) :
   pub few : feeds * messages ≤ generated_limit
 
 -- gen, SEED, FEEDS, MESSAGES and OUT
-pub record IsGenerate (words : List Word) (seed feeds messages : ℕ) (out : Word) : Type 0 where
+pub record IsGenerate (words : List Word) (generation : Generation) : Type 0 where
   pub items : List Item
   pub seed_word : Word
   pub feeds_word : Word
   pub messages_word : Word
-  pub reads : ReadsWords (synopsis_of verb.Generate) words items (seed_word ∷ feeds_word ∷ messages_word ∷ out ∷ [])
-  pub seeded : IsNumber 0 largest_seed seed_word seed
-  pub amounts : AreAmounts feeds_word messages_word feeds messages
-  pub out_named : out ≢ []
+  pub reads : ReadsWords (synopsis_of verb.Generate) words items
+      (seed_word ∷ feeds_word ∷ messages_word ∷ generation.out ∷ [])
+  pub seeded : IsNumber 0 largest_seed seed_word generation.seed
+  pub amounts : AreAmounts feeds_word messages_word generation.feeds generation.messages
+  pub out_named : generation.out ≢ []
 
 -- the words behind the command are those of this one
 abbrev pub WordsMean : List Word → Command → Type 0
-WordsMean words (Record out feeds file limit lossless range watchers) =
-    IsRecord words out feeds (told_with file limit lossless range watchers)
-WordsMean words (OfFile what file) = IsOfFile (file_synopsis (command_name what)) words file
-WordsMean words (Cat file indexed range topic) = IsCat words file indexed range topic
-WordsMean words (Recover input out chunk) = IsRecover words input out chunk
-WordsMean words (Merge out inputs chunk) = IsMerge words out inputs chunk
-WordsMean words (Generate seed feeds messages out) = IsGenerate words seed feeds messages out
+WordsMean words (Record recording) = IsRecord words recording
+WordsMean words (OfFile inspection) = IsOfFile (file_synopsis (command_name inspection.what)) words inspection.file
+WordsMean words (Cat printing) = IsCat words printing
+WordsMean words (Recover recovery) = IsRecover words recovery
+WordsMean words (Merge merge) = IsMerge words merge
+WordsMean words (Generate generation) = IsGenerate words generation
 
 abbrev pub verb_of : Command → Verb
-verb_of (Record out feeds file limit lossless range watchers) = verb.Record
-verb_of (OfFile what file) = verb.OfFile what
-verb_of (Cat file indexed range topic) = verb.Cat
-verb_of (Recover input out chunk) = verb.Recover
-verb_of (Merge out inputs chunk) = verb.Merge
-verb_of (Generate seed feeds messages out) = verb.Generate
+verb_of (Record recording) = verb.Record
+verb_of (OfFile inspection) = verb.OfFile inspection.what
+verb_of (Cat printing) = verb.Cat
+verb_of (Recover recovery) = verb.Recover
+verb_of (Merge merge) = verb.Merge
+verb_of (Generate generation) = verb.Generate
 
 -- the words are those of the command
 pub record Derives (words : List Word) (command : Command) : Type 0 where

@@ -3,7 +3,7 @@ ghost use Rattle.std.specs.Prelude.{◌≡◌, ◌≢◌, MatchOption};
 ghost use Rattle.command_words.specs.Commands.{command_name, usage_text};
 ghost use Rattle.command_words.specs.declared.command.FileCommand.{FileCommand as Named};
 
-use mcap_model::{FileOptions, Range};
+use mcap_model::{Range, RecordOptions};
 use mcap_wire::Text;
 use std::marker::Model;
 
@@ -88,53 +88,74 @@ pub fn usage() -> &'static str
 "
 }
 
+/// A recording of the feeds under the names `feeds` to the file `out`, as `options` say. So many `watchers` replay the
+/// messages in `range` meanwhile, at most 16.
+#[derive(Drop)]
+pub struct Recording {
+    pub out: Text,
+    pub feeds: Names,
+    pub options: RecordOptions,
+    pub range: Range,
+    pub watchers: u32,
+}
+
+/// A command without options, and its file.
+#[derive(Drop)]
+pub struct Inspection {
+    pub what: FileCommand,
+    pub file: Text,
+}
+
+/// A printing of the messages in the range of log times, those of one topic where it is named, by the file's indexes
+/// where `indexed` says so.
+#[derive(Drop)]
+pub struct Printing {
+    pub file: Text,
+    pub indexed: bool,
+    pub range: Range,
+    pub topic: Option<Text>,
+}
+
+/// A new file `out` of what a reading of the file `input` keeps, in chunks of `chunk` bytes of records.
+#[derive(Drop)]
+pub struct FileRecovery {
+    pub input: Text,
+    pub out: Text,
+    pub chunk: u64,
+}
+
+/// A new file `out` of the files under the names `inputs`, in chunks of `chunk` bytes of records.
+#[derive(Drop)]
+pub struct FileMerge {
+    pub out: Text,
+    pub inputs: Names,
+    pub chunk: u64,
+}
+
+/// A recording of `feeds` feeds of `messages` messages each, which follow from `seed`, to the file `out`.
+#[derive(Drop)]
+pub struct Generation {
+    pub seed: u64,
+    pub feeds: u64,
+    pub messages: u32,
+    pub out: Text,
+}
+
 /// What the program is to do, with what the words give.
 #[derive(Drop)]
 pub enum Command {
-    /// Record the feeds under the names `feeds` to the file `out`, with a buffer of `limit` bytes. Where `lossless` says so
-    /// a feed waits for a full buffer, in place of losing its message. So many `watchers` replay the messages in `range`
-    /// meanwhile, at most 16.
-    Record {
-        out: Text,
-        feeds: Names,
-        file: FileOptions,
-        limit: u64,
-        lossless: bool,
-        range: Range,
-        watchers: u32,
-    },
+    /// Record the feeds.
+    Record(Recording),
     /// Do this with the file.
-    OfFile {
-        what: FileCommand,
-        file: Text,
-    },
-    /// Print the messages in the range of log times, those of one topic where it is named, by the file's indexes where
-    /// `indexed` says so.
-    Cat {
-        file: Text,
-        indexed: bool,
-        range: Range,
-        topic: Option<Text>,
-    },
-    /// Write what a reading of the file `input` keeps to the file `out`, in chunks of `chunk` bytes of records.
-    Recover {
-        input: Text,
-        out: Text,
-        chunk: u64,
-    },
-    /// Merge the files under the names `inputs` to the file `out`, in chunks of `chunk` bytes of records.
-    Merge {
-        out: Text,
-        inputs: Names,
-        chunk: u64,
-    },
-    /// Record `feeds` feeds of `messages` messages each, which follow from `seed`, to the file `out`, and read that back.
-    Generate {
-        seed: u64,
-        feeds: u64,
-        messages: u32,
-        out: Text,
-    },
+    OfFile(Inspection),
+    /// Print the messages.
+    Cat(Printing),
+    /// Write what is left of a file.
+    Recover(FileRecovery),
+    /// Write one file of several.
+    Merge(FileMerge),
+    /// Record made feeds, and read that back.
+    Generate(Generation),
 }
 
 /// Why words give no command.

@@ -10,7 +10,10 @@ mod read;
 mod verbs;
 mod watches;
 
-pub use command::{Command, FileCommand, Names, WordsRefused, usage};
+pub use command::{
+    Command, FileCommand, FileMerge, FileRecovery, Generation, Inspection, Names, Printing,
+    Recording, WordsRefused, usage,
+};
 pub use options::USUAL_CHUNK;
 pub use parse::{USUAL_LIMIT, parse_words};
 pub use watches::watch_names;

@@ -3,12 +3,19 @@ ghost use Rattle.std.specs.Prelude.{◌≡◌, ◌≢◌, ◌≤◌, ◌↔◌, 
 ghost use Rattle.std.specs.List.{All};
 ghost use Rattle.clap.specs.Words.{subcommand_rows_of};
 ghost use Rattle.command_words.specs.Items.{Word, texts};
-ghost use Rattle.command_words.specs.Commands.{AreAmounts, AreBad, WordsMean, Derives, IsCat, IsGenerate, IsMerge, IsOnly, IsRecord, IsRecover, Recording, synopsis_of, verb_of};
+ghost use Rattle.command_words.specs.Commands.{AreAmounts, AreBad, WordsMean, Derives, IsCat, IsGenerate, IsMerge, IsOnly, IsRecord, IsRecover, synopsis_of, verb_of};
 ghost use Rattle.command_words.specs.Matches.{AreFeedNames, EntersSubcommand, AreUnwatched, IsReading, rows_found, value_in, values_in};
 ghost use Rattle.command_words.specs.declared.command.Command.{Command as Wanted};
-ghost use Rattle.mcap_model.specs.declared.replay.Range.{Range as Times};
+ghost use Rattle.command_words.specs.declared.command.Recording.{Recording as Recorded};
+ghost use Rattle.command_words.specs.declared.command.Printing.{Printing as Printed};
+ghost use Rattle.command_words.specs.declared.command.FileRecovery.{FileRecovery as Recovered};
+ghost use Rattle.command_words.specs.declared.command.FileMerge.{FileMerge as Merged};
+ghost use Rattle.command_words.specs.declared.command.Generation.{Generation as Generated};
 
-use crate::command::{Command, Names, WordsRefused};
+use crate::command::{
+    Command, FileMerge, FileRecovery, Generation, Inspection, Names, Printing, Recording,
+    WordsRefused,
+};
 use crate::found::{
     BadValue, has_flag, is_dash, name_of_file, number_at, number_of, parse_number, value_of,
     values_of,
@@ -18,6 +25,7 @@ use crate::read::{are_whole, plain_words, read_words};
 use crate::verbs::{Verb, named_verb};
 use crate::watches::feeds_are_unwatched;
 use clap::ArgMatches;
+use mcap_model::RecordOptions;
 use mcap_wire::Text;
 use std::alloc::Global;
 
@@ -163,8 +171,8 @@ fn record_of(alloc: Global, found: &ArgMatches) -> Result<Command, WordsRefused>
     ensures command { (words : List Word) → IsReading (synopsis_of Verb.Record) words (rows_found found.now)
         → IfOk result (λ command. WordsMean words command × (verb_of command ≡ Verb.Record)) }
     ensures bad { (words : List Word) → IsReading (synopsis_of Verb.Record) words (rows_found found.now)
-        → IfErr result (λ refused. refused ≡ WordsRefused.BadWords → (out : Word) (feeds : List Word) (told : Recording)
-        → IsRecord words out feeds told → ⊥) }
+        → IfErr result (λ refused. refused ≡ WordsRefused.BadWords → (recording : Recorded)
+        → IsRecord words recording → ⊥) }
 {
     if is_dash(found, "profile") {
         return Err(WordsRefused::BadWords);
@@ -188,18 +196,22 @@ fn record_of(alloc: Global, found: &ArgMatches) -> Result<Command, WordsRefused>
         Ok(file) => file,
         Err(refused) => return Err(refused),
     };
-    match copy_of(alloc, out) {
-        Ok(out) => return Ok(Command::Record {
-            out,
-            feeds,
-            file,
-            limit: limit.unwrap_or(USUAL_LIMIT),
-            lossless: has_flag(found, "lossless"),
-            range: watchers.range,
-            watchers: watchers.count,
-        }),
+    let out = match copy_of(alloc, out) {
+        Ok(out) => out,
         Err(refused) => return Err(refused),
-    }
+    };
+    let options = RecordOptions {
+        file,
+        limit: limit.unwrap_or(USUAL_LIMIT),
+        lossless: has_flag(found, "lossless"),
+    };
+    Ok(Command::Record(Recording {
+        out,
+        feeds,
+        options,
+        range: watchers.range,
+        watchers: watchers.count,
+    }))
 }
 
 // What was found behind `cat`.
@@ -207,9 +219,7 @@ fn cat_of(alloc: Global, found: &ArgMatches) -> Result<Command, WordsRefused>
     ensures command { (words : List Word) → IsReading (synopsis_of Verb.Cat) words (rows_found found.now)
         → IfOk result (λ command. WordsMean words command × (verb_of command ≡ Verb.Cat)) }
     ensures bad { (words : List Word) → IsReading (synopsis_of Verb.Cat) words (rows_found found.now)
-        → IfErr result (λ refused. refused ≡ WordsRefused.BadWords
-        → (file : Word) (indexed : Bool) (range : Times) (topic : Option Word) → IsCat words file indexed range topic
-        → ⊥) }
+        → IfErr result (λ refused. refused ≡ WordsRefused.BadWords → (printing : Printed) → IsCat words printing → ⊥) }
 {
     if is_dash(found, "topic") {
         return Err(WordsRefused::BadWords);
@@ -223,12 +233,12 @@ fn cat_of(alloc: Global, found: &ArgMatches) -> Result<Command, WordsRefused>
         Err(refused) => return Err(refused),
     };
     match maybe_copy(alloc, value_of(found, "topic")) {
-        Ok(topic) => return Ok(Command::Cat {
+        Ok(topic) => return Ok(Command::Cat(Printing {
             file,
             indexed: has_flag(found, "indexed"),
             range,
             topic,
-        }),
+        })),
         Err(refused) => return Err(refused),
     }
 }
@@ -253,8 +263,8 @@ fn recover_of(alloc: Global, found: &ArgMatches) -> Result<Command, WordsRefused
     ensures command { (words : List Word) → IsReading (synopsis_of Verb.Recover) words (rows_found found.now)
         → IfOk result (λ command. WordsMean words command × (verb_of command ≡ Verb.Recover)) }
     ensures bad { (words : List Word) → IsReading (synopsis_of Verb.Recover) words (rows_found found.now)
-        → IfErr result (λ refused. refused ≡ WordsRefused.BadWords → (input out : Word) (chunk : ℕ)
-        → IsRecover words input out chunk → ⊥) }
+        → IfErr result (λ refused. refused ≡ WordsRefused.BadWords → (recovery : Recovered)
+        → IsRecover words recovery → ⊥) }
 {
     let Some(input) = name_of_file(found, "in") else {
         return Err(WordsRefused::BadWords);
@@ -271,7 +281,7 @@ fn recover_of(alloc: Global, found: &ArgMatches) -> Result<Command, WordsRefused
         Err(refused) => return Err(refused),
     };
     match copy_of(alloc, out) {
-        Ok(out) => return Ok(Command::Recover { input, out, chunk }),
+        Ok(out) => return Ok(Command::Recover(FileRecovery { input, out, chunk })),
         Err(refused) => return Err(refused),
     }
 }
@@ -281,8 +291,8 @@ fn merge_of(alloc: Global, found: &ArgMatches) -> Result<Command, WordsRefused>
     ensures command { (words : List Word) → IsReading (synopsis_of Verb.Merge) words (rows_found found.now)
         → IfOk result (λ command. WordsMean words command × (verb_of command ≡ Verb.Merge)) }
     ensures bad { (words : List Word) → IsReading (synopsis_of Verb.Merge) words (rows_found found.now)
-        → IfErr result (λ refused. refused ≡ WordsRefused.BadWords → (out : Word) (inputs : List Word) (chunk : ℕ)
-        → IsMerge words out inputs chunk → ⊥) }
+        → IfErr result (λ refused. refused ≡ WordsRefused.BadWords → (merge : Merged) → IsMerge words merge
+        → ⊥) }
 {
     let Some(out) = name_of_file(found, "out") else {
         return Err(WordsRefused::BadWords);
@@ -296,7 +306,7 @@ fn merge_of(alloc: Global, found: &ArgMatches) -> Result<Command, WordsRefused>
         Err(refused) => return Err(refused),
     };
     match copy_of(alloc, out) {
-        Ok(out) => return Ok(Command::Merge { out, inputs, chunk }),
+        Ok(out) => return Ok(Command::Merge(FileMerge { out, inputs, chunk })),
         Err(refused) => return Err(refused),
     }
 }
@@ -337,8 +347,8 @@ fn generate_of(alloc: Global, found: &ArgMatches) -> Result<Command, WordsRefuse
     ensures command { (words : List Word) → IsReading (synopsis_of Verb.Generate) words (rows_found found.now)
         → IfOk result (λ command. WordsMean words command × (verb_of command ≡ Verb.Generate)) }
     ensures bad { (words : List Word) → IsReading (synopsis_of Verb.Generate) words (rows_found found.now)
-        → IfErr result (λ refused. refused ≡ WordsRefused.BadWords → (seed feeds messages : ℕ) (out : Word)
-        → IsGenerate words seed feeds messages out → ⊥) }
+        → IfErr result (λ refused. refused ≡ WordsRefused.BadWords → (generation : Generated)
+        → IsGenerate words generation → ⊥) }
 {
     let seed = match number_at(found, "seed", 0, u64::MAX) {
         Ok(seed) => seed,
@@ -355,12 +365,12 @@ fn generate_of(alloc: Global, found: &ArgMatches) -> Result<Command, WordsRefuse
         Err(BadValue) => return Err(WordsRefused::BadWords),
     };
     match copy_of(alloc, rest[2]) {
-        Ok(out) => return Ok(Command::Generate {
+        Ok(out) => return Ok(Command::Generate(Generation {
             seed,
             feeds: amounts.feeds,
             messages: amounts.messages,
             out,
-        }),
+        })),
         Err(refused) => return Err(refused),
     }
 }
@@ -376,7 +386,7 @@ fn command_of(alloc: Global, verb: Verb, found: &ArgMatches) -> Result<Command, 
     match verb {
         Verb::Record => return record_of(alloc, found),
         Verb::OfFile { what } => match one_name(alloc, found) {
-            Ok(file) => return Ok(Command::OfFile { what, file }),
+            Ok(file) => return Ok(Command::OfFile(Inspection { what, file })),
             Err(refused) => return Err(refused),
         },
         Verb::Cat => return cat_of(alloc, found),

@@ -9,17 +9,17 @@ use Rattle.command_words.proofs.CommandLemmas.{cat_is, dash_bad, file_of_cat, pl
 use Rattle.command_words.proofs.parse.cat_of.Goals as goal
 
 pub returns-then-is_dash-clause-bad : goal.returns-then-is_dash-clause-bad
-returns-then-is_dash-clause-bad c = λ words reading why file indexed range topic is.
+returns-then-is_dash-clause-bad c = λ words reading why printing is.
     let dash : first_of (codes "topic") (rows_found c.args.found.now) ≡ Some (codes "-") = search rules in
-    dash_bad (synopsis_of verb.Cat) words (rows_found c.args.found.now) reading is.items (file ∷ []) (codes "topic") (inr (inr (inl refl))) dash is.reads
+    dash_bad (synopsis_of verb.Cat) words (rows_found c.args.found.now) reading is.items (printing.file ∷ []) (codes "topic") (inr (inr (inl refl))) dash is.reads
 
 pub returns-in-Err-clause-bad : goal.returns-in-Err-clause-bad
-returns-in-Err-clause-bad c = λ words reading why file indexed range topic is.
-    c.in-Err.ensures.bad reading.items (places_in reading) reading.shows range (range_of_cat words (rows_found c.args.found.now) reading file indexed range topic is)
+returns-in-Err-clause-bad c = λ words reading why printing is.
+    c.in-Err.ensures.bad reading.items (places_in reading) reading.shows printing.range (range_of_cat words (rows_found c.args.found.now) reading printing is)
 
 pub returns-in-Err-one_name-clause-bad : goal.returns-in-Err-one_name-clause-bad
-returns-in-Err-one_name-clause-bad c = λ words reading why file indexed range topic is.
-    c.in-Err-one_name.ensures.bad why file is.named (file_of_cat words (rows_found c.args.found.now) reading file indexed range topic is)
+returns-in-Err-one_name-clause-bad c = λ words reading why printing is.
+    c.in-Err-one_name.ensures.bad why printing.file is.named (file_of_cat words (rows_found c.args.found.now) reading printing is)
 
 pub returns-in-Ok-maybe_copy-clause-command : goal.returns-in-Ok-maybe_copy-clause-command
 returns-in-Ok-maybe_copy-clause-command c = λ words reading.

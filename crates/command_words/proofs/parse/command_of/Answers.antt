@@ -5,7 +5,7 @@ use Rattle.std.specs.declared.result.Result.{Result}
 use Rattle.std.proofs.lemmas.Result.{IfErr-weaker}
 use Rattle.clap.specs.Words.{Row}
 use Rattle.command_words.specs.Items.{Word}
-use Rattle.command_words.specs.Commands.{WordsMean, command_name, file_synopsis, synopsis_of, told_with, verb_of}
+use Rattle.command_words.specs.Commands.{WordsMean, command_name, file_synopsis, synopsis_of, verb_of}
 use Rattle.command_words.specs.Matches.{IsReading, rows_found}
 use Rattle.command_words.specs.declared.command.Command.{Command}
 use Rattle.command_words.specs.declared.command.WordsRefused.{WordsRefused}
@@ -28,8 +28,7 @@ returns-in-Record-clause-command c = subst (Gives (rows_found c.args.found.now) 
 
 pub returns-in-Record-clause-bad : goal.returns-in-Record-clause-bad
 returns-in-Record-clause-bad c = subst (Refuses (rows_found c.args.found.now) c.record_of.result) (sym c.in-Record.is)
-    (λ words reading. IfErr-weaker c.record_of.result _ _ (λ refused bad why. of_verb verb.Record (λ command. WordsMean words command → ⊥)
-    (λ out feeds file limit lossless range watchers. bad why out feeds (told_with file limit lossless range watchers))) (c.record_of.ensures.bad words reading))
+    (λ words reading. IfErr-weaker c.record_of.result _ _ (λ refused bad why. of_verb verb.Record (λ command. WordsMean words command → ⊥) (bad why)) (c.record_of.ensures.bad words reading))
 
 pub returns-in-Ok-clause-command : goal.returns-in-Ok-clause-command
 returns-in-Ok-clause-command c = λ words reading.

@@ -5,16 +5,16 @@ use Rattle.command_words.proofs.CommandLemmas.{merge_fed, merge_is, merge_names,
 use Rattle.command_words.proofs.parse.merge_of.Goals as goal
 
 pub returns-in_default-clause-bad : goal.returns-in_default-clause-bad
-returns-in_default-clause-bad c = λ words reading why out inputs chunk is.
-    c.in_default.ensures out is.out_named (merge_names words (rows_found c.args.found.now) reading out inputs chunk is).0
+returns-in_default-clause-bad c = λ words reading why merge is.
+    c.in_default.ensures merge.out is.out_named (merge_names words (rows_found c.args.found.now) reading merge is).0
 
 pub returns-in-Err-clause-bad : goal.returns-in-Err-clause-bad
-returns-in-Err-clause-bad c = λ words reading why out inputs chunk is.
-    c.in-Err.ensures.bad is.size (merge_size words (rows_found c.args.found.now) reading out inputs chunk is)
+returns-in-Err-clause-bad c = λ words reading why merge is.
+    c.in-Err.ensures.bad is.size (merge_size words (rows_found c.args.found.now) reading merge is)
 
 pub returns-in-Err-feeds_of-clause-bad : goal.returns-in-Err-feeds_of-clause-bad
-returns-in-Err-feeds_of-clause-bad c = λ words reading why out inputs chunk is.
-    c.in-Err-feeds_of.ensures.bad why (merge_fed words (rows_found c.args.found.now) reading out inputs chunk is c.in-Some.out.now c.in-Some.ensures.1)
+returns-in-Err-feeds_of-clause-bad c = λ words reading why merge is.
+    c.in-Err-feeds_of.ensures.bad why (merge_fed words (rows_found c.args.found.now) reading merge is c.in-Some.out.now c.in-Some.ensures.1)
 
 pub returns-in-Ok-copy_of-clause-command : goal.returns-in-Ok-copy_of-clause-command
 returns-in-Ok-copy_of-clause-command c = λ words reading.

@@ -5,17 +5,17 @@ use Rattle.command_words.proofs.CommandLemmas.{recover_is, recover_names, recove
 use Rattle.command_words.proofs.parse.recover_of.Goals as goal
 
 pub returns-in_default-clause-bad : goal.returns-in_default-clause-bad
-returns-in_default-clause-bad c = λ words reading why input out chunk is.
-    c.in_default.ensures input is.in_named (recover_names words (rows_found c.args.found.now) reading input out chunk is).0
+returns-in_default-clause-bad c = λ words reading why recovery is.
+    c.in_default.ensures recovery.input is.in_named (recover_names words (rows_found c.args.found.now) reading recovery is).0
 
 pub returns-in_default-only_output-clause-bad : goal.returns-in_default-only_output-clause-bad
-returns-in_default-only_output-clause-bad c = λ words reading why input out chunk is.
-    c.in_default-only_output.ensures out is.out_named (recover_out words (rows_found c.args.found.now) reading input out chunk is c.in-Some.input.now c.in-Some.ensures.1)
-    (recover_names words (rows_found c.args.found.now) reading input out chunk is).1
+returns-in_default-only_output-clause-bad c = λ words reading why recovery is.
+    c.in_default-only_output.ensures recovery.out is.out_named (recover_out words (rows_found c.args.found.now) reading recovery is c.in-Some.input.now c.in-Some.ensures.1)
+    (recover_names words (rows_found c.args.found.now) reading recovery is).1
 
 pub returns-in-Err-clause-bad : goal.returns-in-Err-clause-bad
-returns-in-Err-clause-bad c = λ words reading why input out chunk is.
-    c.in-Err.ensures.bad is.size (recover_size words (rows_found c.args.found.now) reading input out chunk is)
+returns-in-Err-clause-bad c = λ words reading why recovery is.
+    c.in-Err.ensures.bad is.size (recover_size words (rows_found c.args.found.now) reading recovery is)
 
 pub returns-in-Ok-copy_of-2-clause-command : goal.returns-in-Ok-copy_of-2-clause-command
 returns-in-Ok-copy_of-2-clause-command c = λ words reading.
