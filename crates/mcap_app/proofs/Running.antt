@@ -4,17 +4,22 @@ use Rattle.std.proofs.lemmas.Option.{same_Some}
 use Rattle.std.proofs.lemmas.List.FromFn.{length-map-range_with_len}
 use Rattle.command_words.specs.declared.command.Command.{Command}
 use Rattle.command_words.specs.declared.command.Command.TheVariants as commands
+use Rattle.command_words.specs.declared.command.Recording.{Recording}
 use Rattle.mcap_model.specs.declared.options.FileOptions.{FileOptions}
 use Rattle.mcap_model.specs.declared.replay.Range.{Range}
 use Rattle.command_words.specs.Items.{Item, given}
 use Rattle.command_words.specs.Commands.{GivesNumber, SizesChunks, Derives, IsFileOptions, Flags, HasWatchers, MayWatch, watchers_with}
 use Rattle.command_words.specs.Defaults.{watch_name, watch_names}
+use Rattle.recorder.specs.declared.report.Report.{Report}
 use Rattle.command_base.specs.declared.statuses.Status.{Status}
 use Rattle.command_base.specs.declared.statuses.Status.TheVariants as statuses
 use Rattle.command_base.specs.Texts.{status_number}
+use Rattle.command_base.specs.Ran.{Scene}
 use Rattle.command_generate.specs.Allowed.{OptionsAllowed}
+use Rattle.command_record.specs.Watched.{requested}
+use Rattle.command_record.specs.WatchedAnswer.{Records}
 use Rattle.mcap_app.specs.Runs.{generate_options}
-use Rattle.mcap_app.specs.Ways.{IsAllowed, IsWatchable}
+use Rattle.mcap_app.specs.Allowed.{IsAllowed, IsWatchable}
 
 -- no status has the number of bad words
 pub no_bad_words : (status : Status) (number : ℕ) → number ≡ status_number status → number ≡ 2 → ⊥
@@ -36,6 +41,28 @@ few_names out watchers names few named = let long = names_long out watchers name
 -- without watchers there are none
 pub none_named : (P : List (List ℕ) → Type 0) (out : List ℕ) (watchers : ℕ) (names : List (List ℕ)) → watchers ≡ 0 → names ≡ [] → P names → P (watch_names out watchers)
 none_named P out watchers names none empty holds = subst (λ (n : ℕ). P (watch_names out n)) (sym none) (subst P empty holds)
+
+-- what is said of these names is said of those that are equal
+with_names : (out out' : List ℕ) (feeds feeds' : List (List ℕ)) (P : List ℕ → List (List ℕ) → Type 0) → out' ≡ out → feeds' ≡ feeds → P out' feeds' → P out feeds
+with_names out out' feeds feeds' P same same2 is = subst (P out) same2 (subst (λ (o : List ℕ). P o feeds') same is)
+
+-- ---- a recording as the words ask for it
+
+-- without watchers
+pub recorded_alone : (recording : Recording) (out : List ℕ) (names feeds : List (List ℕ)) (old new : Scene) (report : Option Report) (status : Status) → out ≡ recording.out → feeds ≡ recording.feeds → recording.watchers ≡ 0 → names ≡ []
+    → Records (requested recording.options recording.range out names feeds) old new report status
+    → Records (requested recording.options recording.range recording.out (watch_names recording.out recording.watchers) recording.feeds) old new report status
+recorded_alone recording out names feeds old new report status same same2 none empty records =
+    with_names recording.out out recording.feeds feeds (λ o f. Records (requested recording.options recording.range o (watch_names recording.out recording.watchers) f) old new report status) same same2
+    (none_named (λ (l : List (List ℕ)). Records (requested recording.options recording.range out l feeds) old new report status) recording.out recording.watchers names none empty records)
+
+-- with the names that were made for them
+pub recorded_watched : (recording : Recording) (out : List ℕ) (names feeds : List (List ℕ)) (old new : Scene) (report : Option Report) (status : Status) → out ≡ recording.out → feeds ≡ recording.feeds → names ≡ watch_names out recording.watchers
+    → Records (requested recording.options recording.range out names feeds) old new report status
+    → Records (requested recording.options recording.range recording.out (watch_names recording.out recording.watchers) recording.feeds) old new report status
+recorded_watched recording out names feeds old new report status same same2 named records =
+    with_names recording.out out recording.feeds feeds (λ o f. Records (requested recording.options recording.range o (watch_names o recording.watchers) f) old new report status) same same2
+    (subst (λ (l : List (List ℕ)). Records (requested recording.options recording.range out l feeds) old new report status) named records)
 
 -- ---- ranges
 
@@ -86,30 +113,30 @@ watchable items file range watchers options watched = (
 
 -- words give numbers in their ranges
 pub allowed : (words : List (List ℕ)) (command : Command) → Derives words command → IsAllowed command
-allowed words (commands.Record out feeds file limit lossless range watchers) derives =
+allowed words (commands.Record recording) derives =
     let is = derives.behind in
-    let limited : limit ≡ unwrap_or is.size 104857600 = is.limited in
+    let limited : recording.options.limit ≡ unwrap_or is.size 104857600 = is.limited in
     let limits = in_range 1 1073741824 104857600 _ is.size is.sized (omega arith) (omega arith) in (
       record {
         some = omega (arith, limited, limits.0);
         small = omega (arith, limited, limits.1);
-        size = chunk_in_range is.options.chunk.is_plain _ is.options.chunk.size file.chunk is.options.chunk.sizes is.options.chunk.sized;
+        size = chunk_in_range is.options.chunk.is_plain _ is.options.chunk.size recording.options.file.chunk is.options.chunk.sizes is.options.chunk.sized;
         short = is.options.profile.short;
       },
       (is.some, is.few),
-      watchable is.items file range watchers is.options is.watched,
+      watchable is.items recording.options.file recording.range recording.watchers is.options is.watched,
     )
-allowed words (commands.OfFile what file) derives = tt
-allowed words (commands.Cat file indexed range topic) derives = tt
-allowed words (commands.Recover input out chunk) derives =
+allowed words (commands.OfFile inspection) derives = tt
+allowed words (commands.Cat printing) derives = tt
+allowed words (commands.Recover recovery) derives =
     let is = derives.behind in
     let sizes = in_range 1 67108864 786432 _ is.size is.sized (omega arith) (omega arith) in
     (omega (arith, is.chunk_is, sizes.0), omega (arith, is.chunk_is, sizes.1))
-allowed words (commands.Merge out inputs chunk) derives =
+allowed words (commands.Merge merge) derives =
     let is = derives.behind in
     let sizes = in_range 1 67108864 786432 _ is.size is.sized (omega arith) (omega arith) in
     (omega (arith, is.chunk_is, sizes.0), omega (arith, is.chunk_is, sizes.1), (is.some, is.few))
-allowed words (commands.Generate seed feeds messages out) derives = let amounts = derives.behind.amounts.feeds_are in (amounts.above, amounts.below)
+allowed words (commands.Generate generation) derives = let amounts = derives.behind.amounts.feeds_are in (amounts.above, amounts.below)
 
 -- and so are those of a generation
 pub generate_allowed : OptionsAllowed generate_options

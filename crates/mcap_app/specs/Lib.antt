@@ -1,5 +1,5 @@
 -- What `Runs` of mcap_app reaches, in the order to read it.
 pub mod Runs
 -- What the functions of this crate and its proofs say besides.
-pub mod Ways
+pub mod Allowed
 pub mod Laws

@@ -1,5 +1,5 @@
 -- What the program does, command by command.
-use Rattle.std.specs.Prelude.{◌≡◌, ◌⊎◌, ℕ, [], ◌∷◌, true, false, Option, None, Some}
+use Rattle.std.specs.Prelude.{◌≡◌, ◌⊎◌, ℕ, Bool, true, false, List, [], ◌∷◌, Option, None, Some}
 use Rattle.command_words.specs.declared.command.Command.{Command}
 use Rattle.command_words.specs.declared.command.Command.TheVariants as commands
 use Rattle.recorder.specs.declared.report.Report.{Report}
@@ -11,7 +11,7 @@ use Rattle.command_base.specs.Ran.{Scene}
 use Rattle.command_record.specs.Watched.{requested}
 use Rattle.command_record.specs.WatchedAnswer.{Records}
 use Rattle.command_read.specs.FileCommand.{RunsOnFile}
-use Rattle.command_read.specs.Cat.{selection, Cats}
+use Rattle.command_read.specs.Cat.{Selection, selection, Cats}
 use Rattle.command_read.specs.Indexed.{IndexedCats}
 use Rattle.command_write.specs.Recover.{RecoversFile}
 use Rattle.command_write.specs.Merge.{MergesFiles}
@@ -27,24 +27,28 @@ generate_options = record {
   lossless = true;
 }
 
+-- a printing in the order of log time, by the file's indexes where they are asked for
+abbrev pub PrintsBy : Bool → Selection → List ℕ → Scene → Scene → Status → Type 0
+PrintsBy false asked file old new status = Cats asked file old new status
+PrintsBy true asked file old new status = IndexedCats asked file old new status
+
 -- What a command does; only a recording has a report, of feeds that are read or generated. Where there are watchers they write to
 -- the files under their names.
 abbrev pub Does : Command → Scene → Scene → Option Report → Status → Type 0
-Does (commands.Record out feeds file limit lossless range watchers) old new report status =
-    Records
-    (requested (record { file = file; limit = limit; lossless = lossless }) range out (watch_names out watchers) feeds)
-    old new report status
-Does (commands.OfFile what file) old new report status = RunsOnFile what file old new status × (report ≡ None)
-Does (commands.Cat file false range topic) old new report status =
-    Cats (selection range topic) file old new status × (report ≡ None)
-Does (commands.Cat file true range topic) old new report status =
-    IndexedCats (selection range topic) file old new status × (report ≡ None)
-Does (commands.Recover input out chunk) old new report status =
-    RecoversFile chunk input out old new status × (report ≡ None)
-Does (commands.Merge out inputs chunk) old new report status =
-    MergesFiles chunk inputs out old new status × (report ≡ None)
-Does (commands.Generate seed feeds messages out) old new report status =
-    Generates generate_options (record { seed = seed; feeds = feeds; messages = messages }) out old new report status
+Does (commands.Record recording) old new report status = Records
+    (requested recording.options recording.range recording.out (watch_names recording.out recording.watchers)
+    recording.feeds) old new report status
+Does (commands.OfFile inspection) old new report status =
+    RunsOnFile inspection.what inspection.file old new status × (report ≡ None)
+Does (commands.Cat printing) old new report status =
+    PrintsBy printing.indexed (selection printing.range printing.topic) printing.file old new status × (report ≡ None)
+Does (commands.Recover recovery) old new report status =
+    RecoversFile recovery.chunk recovery.input recovery.out old new status × (report ≡ None)
+Does (commands.Merge merge) old new report status =
+    MergesFiles merge.chunk merge.inputs merge.out old new status × (report ≡ None)
+Does (commands.Generate generation) old new report status = Generates generate_options
+    (record { seed = generation.seed; feeds = generation.feeds; messages = generation.messages })
+    generation.out old new report status
 
 -- memory lacked for reading the words or for the names of watchers' files, and nothing else was done
 pub record LacksForWords (old new : Scene) (report : Option Report) (status : Status) : Type 0 where

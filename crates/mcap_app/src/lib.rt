@@ -5,7 +5,10 @@ pub mod laws;
 mod program;
 
 pub use command_base::{BAD_WORDS_STATUS, Status, refuse_for_memory};
-pub use command_words::{Command, FileCommand, Names, WordsRefused, parse_words};
+pub use command_words::{
+    Command, FileCommand, FileMerge, FileRecovery, Generation, Inspection, Names, Printing,
+    Recording, WordsRefused, parse_words,
+};
 pub use mcap_model::{End, ReadingRefused, Stop};
 pub use program::{Exit, run};
 pub use recorder::{

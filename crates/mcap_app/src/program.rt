@@ -2,29 +2,27 @@
 ghost use Rattle.std.specs.Prelude.{◌≡◌, ◌⊎◌, ◌++◌, [], ◌∷◌, length, None, Some};
 ghost use Rattle.recorder.specs.Lanes.{AreMessagesListed};
 ghost use Rattle.command_words.specs.declared.command.Command.{Command as Wanted};
+ghost use Rattle.command_words.specs.declared.command.Command.TheVariants as commands;
 ghost use Rattle.command_words.specs.Commands.{AreBad, Derives, usage_text};
 ghost use Rattle.command_base.specs.declared.statuses.Status.TheVariants as statuses;
 ghost use Rattle.command_base.specs.Texts.{no_memory, said, status_number};
 ghost use Rattle.command_base.specs.ComplaintTroubles.{bad_words_line};
 ghost use Rattle.command_base.specs.Printing.{Takes};
 ghost use Rattle.command_base.specs.Scenes.{scene};
-ghost use Rattle.command_record.specs.RecordSteps.{AreAllowed, AreFew};
-ghost use Rattle.command_words.specs.Defaults.{watch_names as names_of_watches};
-ghost use Rattle.command_record.specs.Watched.{requested};
-ghost use Rattle.command_record.specs.WatchedAnswer.{Records};
 ghost use Rattle.mcap_app.specs.Runs.{Does, LacksForWords, Runs, generate_options};
-ghost use Rattle.mcap_app.specs.Ways.{IsAllowed, IsWatchable, records, generates, reads, writes, way_of};
+ghost use Rattle.mcap_app.specs.Allowed.{IsAllowed};
 
 use command_base::{BAD_WORDS_STATUS, Status, refuse_for_memory, refuse_words};
 use command_generate::{Generated, Numbers, generate_file};
 use command_read::{print_file, print_indexed, run_file_command};
 use command_record::{Ended, record_file};
 use command_words::{
-    Command, USUAL_CHUNK, USUAL_LIMIT, WordsRefused, parse_words, usage, watch_names,
+    Command, FileMerge, FileRecovery, Generation, Inspection, Printing, Recording, USUAL_CHUNK,
+    USUAL_LIMIT, WordsRefused, parse_words, usage, watch_names,
 };
 use command_write::{merge_file, recover_file};
 use mcap_io::{Sink, World};
-use mcap_model::{FileOptions, Range, RecordOptions};
+use mcap_model::{FileOptions, RecordOptions};
 use mcap_wire::{Memory, Text};
 use recorder::Report;
 use std::alloc::Global;
@@ -67,74 +65,52 @@ fn generated_options(alloc: Global) -> RecordOptions
 #[tactic(auto, using(crate::proofs::Running::generate_allowed))]
 fn run_generate<R: AllocGlobal + Threads + Wait + Sync, W: World, O: Sink, E: Sink>(
     rt: &R,
-    command: Command,
+    generation: &Generation,
     world: &mut W,
     out: &mut O,
     err: &mut E,
     listed: bool,
 ) -> Ended
-    requires allowed { IsAllowed command }
-    requires way { way_of command ≡ generates }
-    ensures runs { Does command
+    requires { IsAllowed (commands.Generate generation.now) }
+    ensures runs { Does (commands.Generate generation.now)
         (scene (W.state world.old) (O.state out.old) (E.state err.old))
         (scene (W.state world.new) (O.state out.new) (E.state err.new))
         result.report result.status }
     ensures listed { AreMessagesListed result.report listed }
 {
-    let Command::Generate {
-        seed,
-        feeds,
-        messages,
-        out: name,
-    } = command
-    else {
-        unreachable!()
-    };
     let numbers = Numbers {
-        seed,
-        feeds,
-        messages,
+        seed: generation.seed,
+        feeds: generation.feeds,
+        messages: generation.messages,
     };
     let options = generated_options(rt.alloc());
-    let name = name.as_str();
+    let name = generation.out.as_str();
     let Generated { status, report } = generate_file(
         rt, &options, numbers, name, world, out, err, listed,
     );
     Ended { status, report }
 }
 
-// How many watchers a recording has, and the times of the messages that they replay.
-#[derive(Clone, Copy)]
-struct Watching {
-    range: Range,
-    watchers: u32,
-}
-
 // Records feeds, beside watchers where there are any. Where memory lacks for the names of their files nothing is opened.
 fn run_record<R: AllocGlobal + Threads + Wait + Sync, W: World, O: Sink, E: Sink>(
     rt: &R,
-    options: &RecordOptions,
-    watching: Watching,
-    name: &str,
-    feeds: &[Text],
+    recording: &Recording,
     world: &mut W,
     out: &mut O,
     err: &mut E,
     listed: bool,
 ) -> Ended
-    requires allowed { AreAllowed options.now }
-    requires few { AreFew feeds.now }
-    requires watchable { IsWatchable options.now.file watching.watchers }
-    ensures runs { Records
-        (requested options.now watching.range name.now (names_of_watches name.now watching.watchers) feeds.now)
+    requires { IsAllowed (commands.Record recording.now) }
+    ensures runs { Does (commands.Record recording.now)
         (scene (W.state world.old) (O.state out.old) (E.state err.old))
         (scene (W.state world.new) (O.state out.new) (E.state err.new)) result.report result.status
         ⊎ LacksForWords (scene (W.state world.old) (O.state out.old) (E.state err.old))
         (scene (W.state world.new) (O.state out.new) (E.state err.new)) result.report result.status }
     ensures listed { AreMessagesListed result.report listed }
 {
-    let Watching { range, watchers } = watching;
-    if watchers == 0 {
+    let (options, range) = (&recording.options, recording.range);
+    let (name, feeds) = (recording.out.as_str(), recording.feeds.as_slice());
+    if recording.watchers == 0 {
         return record_file(
             rt,
             options,
@@ -148,7 +124,7 @@ fn run_record<R: AllocGlobal + Threads + Wait + Sync, W: World, O: Sink, E: Sink
             listed,
         );
     }
-    match watch_names(rt.alloc(), name, watchers) {
+    match watch_names(rt.alloc(), name, recording.watchers) {
         Ok(names) => {
             let names = names.as_slice();
             return record_file(
@@ -162,116 +138,25 @@ fn run_record<R: AllocGlobal + Threads + Wait + Sync, W: World, O: Sink, E: Sink
     }
 }
 
-// Records feeds as the command says, or does nothing where memory lacks for the names of watchers' files.
-fn run_recording<R: AllocGlobal + Threads + Wait + Sync, W: World, O: Sink, E: Sink>(
-    rt: &R,
-    command: Command,
-    world: &mut W,
-    out: &mut O,
-    err: &mut E,
-    listed: bool,
-) -> Ended
-    requires allowed { IsAllowed command }
-    requires way { way_of command ≡ records }
-    ensures runs { Does command
-        (scene (W.state world.old) (O.state out.old) (E.state err.old))
-        (scene (W.state world.new) (O.state out.new) (E.state err.new))
-        result.report result.status
-        ⊎ LacksForWords
-        (scene (W.state world.old) (O.state out.old) (E.state err.old))
-        (scene (W.state world.new) (O.state out.new) (E.state err.new))
-        result.report result.status }
-    ensures listed { AreMessagesListed result.report listed }
-{
-    let Command::Record {
-        out: name,
-        feeds,
-        file,
-        limit,
-        lossless,
-        range,
-        watchers,
-    } = command
-    else {
-        unreachable!()
-    };
-    let options = RecordOptions {
-        file,
-        limit,
-        lossless,
-    };
-    let watching = Watching { range, watchers };
-    let (name, feeds) = (name.as_str(), feeds.as_slice());
-    run_record(rt, &options, watching, name, feeds, world, out, err, listed)
-}
-
-// Reads one file as the command says.
-fn run_reading<W: World, O: Sink, E: Sink>(
+// Prints the messages of a file, by its indexes where they are asked for.
+fn run_cat<W: World, O: Sink, E: Sink>(
     alloc: Global,
-    command: Command,
+    printing: &Printing,
     world: &mut W,
     out: &mut O,
     err: &mut E,
 ) -> Status
-    requires { way_of command ≡ reads }
-    ensures { Does command
+    ensures { Does (commands.Cat printing.now)
         (scene (W.state world.old) (O.state out.old) (E.state err.old))
         (scene (W.state world.new) (O.state out.new) (E.state err.new))
         None result }
 {
-    match command {
-        Command::OfFile { what, file } => {
-            return run_file_command(alloc, what, file.as_str(), world, out, err);
-        }
-        Command::Cat {
-            file,
-            indexed,
-            range,
-            topic,
-        } => {
-            let (name, topic) = (file.as_str(), topic.as_ref());
-            if indexed {
-                return print_indexed(alloc, name, range, topic, world, out, err);
-            }
-            return print_file(alloc, name, range, topic, world, out, err);
-        }
-        _ => unreachable!(),
+    let (name, range) = (printing.file.as_str(), printing.range);
+    let topic = printing.topic.as_ref();
+    if printing.indexed {
+        return print_indexed(alloc, name, range, topic, world, out, err);
     }
-}
-
-// Reads some files and writes one as the command says.
-fn run_writing<W: World, O: Sink, E: Sink>(
-    alloc: Global,
-    command: Command,
-    world: &mut W,
-    out: &mut O,
-    err: &mut E,
-) -> Status
-    requires allowed { IsAllowed command }
-    requires way { way_of command ≡ writes }
-    ensures { Does command
-        (scene (W.state world.old) (O.state out.old) (E.state err.old))
-        (scene (W.state world.new) (O.state out.new) (E.state err.new))
-        None result }
-{
-    match command {
-        Command::Recover {
-            input,
-            out: name,
-            chunk,
-        } => {
-            return recover_file(alloc, chunk, &input, name.as_str(), world, out, err);
-        }
-        Command::Merge {
-            out: name,
-            inputs,
-            chunk,
-        } => {
-            let (inputs, name) = (inputs.as_slice(), name.as_str());
-            return merge_file(alloc, chunk, inputs, name, world, out, err);
-        }
-        _ => unreachable!(),
-    }
+    print_file(alloc, name, range, topic, world, out, err)
 }
 
 // Does what the command says, or nothing where memory lacks for the names of watchers' files.
@@ -294,14 +179,34 @@ fn run_command<R: AllocGlobal + Threads + Wait + Sync, W: World, O: Sink, E: Sin
         result.report result.status }
     ensures listed { AreMessagesListed result.report listed }
 {
+    let alloc = rt.alloc();
     match command {
-        Command::Record { .. } => return run_recording(rt, command, world, out, err, listed),
-        Command::Generate { .. } => return run_generate(rt, command, world, out, err, listed),
-        Command::OfFile { .. } | Command::Cat { .. } => {
-            return unreported(run_reading(rt.alloc(), command, world, out, err));
+        Command::Record(recording) => return run_record(rt, &recording, world, out, err, listed),
+        Command::OfFile(Inspection { what, file }) => {
+            return unreported(run_file_command(alloc, what, file.as_str(), world, out, err));
         }
-        Command::Recover { .. } | Command::Merge { .. } => {
-            return unreported(run_writing(rt.alloc(), command, world, out, err));
+        Command::Cat(printing) => return unreported(run_cat(alloc, &printing, world, out, err)),
+        Command::Recover(
+            FileRecovery {
+                input,
+                out: name,
+                chunk,
+            },
+        ) => {
+            return unreported(recover_file(alloc, chunk, &input, name.as_str(), world, out, err));
+        }
+        Command::Merge(
+            FileMerge {
+                out: name,
+                inputs,
+                chunk,
+            },
+        ) => {
+            let (inputs, name) = (inputs.as_slice(), name.as_str());
+            return unreported(merge_file(alloc, chunk, inputs, name, world, out, err));
+        }
+        Command::Generate(generation) => {
+            return run_generate(rt, &generation, world, out, err, listed);
         }
     }
 }
