@@ -2,7 +2,10 @@
 use crate::building::{Pieces, add_text, piece};
 use crate::halt::{Halt, unread};
 use crate::tokens::{Token, tokens_of};
-use mcap_app::{Command, Names, WordsRefused, parse_words};
+use mcap_app::{
+    Command, FileMerge, FileRecovery, Generation, Inspection, Names, Printing, Recording,
+    WordsRefused, parse_words,
+};
 use mcap_wire::Text;
 use std::alloc::{AllocError, Global};
 
@@ -55,60 +58,55 @@ fn watched(
     format!(in alloc; " watchers={watchers} start={start} end={end:?}")
 }
 
+// A recording with all its options.
+fn said_of_recording(alloc: Global, recording: &Recording) -> Result<String, AllocError> {
+    let (out, feeds) = (recording.out.as_str(), joined(alloc, &recording.feeds)?);
+    let options = &recording.options;
+    let profile = options.file.profile.as_str();
+    let (chunk, limit) = (options.file.chunk, options.limit);
+    let waits = if options.lossless { " lossless" } else { "" };
+    let range = recording.range;
+    let watched = watched(alloc, recording.watchers, range.start, range.end)?;
+    format!(in alloc;
+        "record {out}{feeds} profile='{profile}' chunk={chunk:?} limit={limit}{waits}{watched}"
+    )
+}
+
+// A printing with all its options.
+fn said_of_printing(alloc: Global, printing: &Printing) -> Result<String, AllocError> {
+    let (file, indexed) = (printing.file.as_str(), printing.indexed);
+    let (start, end) = (printing.range.start, printing.range.end);
+    let topic = match &printing.topic {
+        Some(topic) => Some(topic.as_str()),
+        None => None,
+    };
+    format!(in alloc; "cat {file} indexed={indexed} start={start} end={end:?} topic={topic:?}")
+}
+
 fn said(alloc: Global, command: &Command) -> Result<String, AllocError> {
     match command {
-        Command::Record {
-            out,
-            feeds,
-            file,
-            limit,
-            lossless,
-            range,
-            watchers,
-        } => {
-            let (out, profile) = (out.as_str(), file.profile.as_str());
-            let feeds = joined(alloc, feeds)?;
-            let chunk = file.chunk;
-            let waits = if *lossless { " lossless" } else { "" };
-            let watched = watched(alloc, *watchers, range.start, range.end)?;
-            format!(in alloc;
-                "record {out}{feeds} profile='{profile}' chunk={chunk:?} limit={limit}{waits}{watched}"
-            )
-        }
-        Command::OfFile { what, file } => {
+        Command::Record(recording) => said_of_recording(alloc, recording),
+        Command::OfFile(Inspection { what, file }) => {
             let (what, file) = (what.name(), file.as_str());
             format!(in alloc; "{what} {file}")
         }
-        Command::Cat {
-            file,
-            indexed,
-            range,
-            topic,
-        } => {
-            let file = file.as_str();
-            let (start, end) = (range.start, range.end);
-            let topic = match topic {
-                Some(topic) => Some(topic.as_str()),
-                None => None,
-            };
-            format!(in alloc;
-                "cat {file} indexed={indexed} start={start} end={end:?} topic={topic:?}"
-            )
-        }
-        Command::Recover { input, out, chunk } => {
+        Command::Cat(printing) => said_of_printing(alloc, printing),
+        Command::Recover(FileRecovery { input, out, chunk }) => {
             let (input, out) = (input.as_str(), out.as_str());
             format!(in alloc; "recover {input} {out} chunk={chunk}")
         }
-        Command::Merge { out, inputs, chunk } => {
+        Command::Merge(FileMerge { out, inputs, chunk }) => {
             let (out, inputs) = (out.as_str(), joined(alloc, inputs)?);
             format!(in alloc; "merge {out}{inputs} chunk={chunk}")
         }
-        Command::Generate {
-            seed,
-            feeds,
-            messages,
-            out,
-        } => {
+        Command::Generate(
+            Generation {
+                seed,
+                feeds,
+                messages,
+                out,
+            },
+        ) => {
             let out = out.as_str();
             format!(in alloc; "gen {seed} {feeds} {messages} {out}")
         }
