@@ -29,7 +29,6 @@ use Rattle.mcap_model.proofs.Asides.{no_extras}
 use Rattle.mcap_model.proofs.Places.{at_none}
 use Rattle.mcap_model.proofs.Lists.{each_joined, filter_passed}
 use Rattle.mcap_model.proofs.NamedTopics.{zip_back}
-use Rattle.mcap_model.proofs.Logging.{few_filtered}
 use Rattle.mcap_model.proofs.Histories.{numbered_ids_agree}
 use Rattle.mcap_model.proofs.WrittenChunks.{empty_utf8}
 use Rattle.mcap_laws.proofs.Ranges.{small_blocks_fit}
@@ -45,7 +44,7 @@ use Rattle.command_write.specs.declared.merging.Merging.{Merging}
 use Rattle.command_write.specs.declared.merging.Merging.TheVariants as mergings
 use Rattle.command_write.specs.Merge.{HoldsBytes, HoldsMerged, store_entry, Reached, unopened_so, some_refused, merging_of, IsMerging, merged_line, MergesFiles}
 use Rattle.command_write.proofs.Merges.{was_merged}
-use Rattle.mcap_app.specs.Laws.{IsChunkSize, MergesAreSound}
+use Rattle.mcap_app.specs.Laws.{IsChunkSize, AreCounted, MergesAreSound}
 
 -- ---- the inputs are good lists
 
@@ -114,7 +113,7 @@ small_enough : (bytes : ℕ) → bytes ≤ file_limit → bytes < 2 ^ 64
 small_enough bytes small = omega (arith, small)
 
 can_be_written : (files : List (List ℕ)) (profile : List ℕ) (extras : List Top) (history : List Rec) (chunk : ℕ) → MergesTo files profile extras history → Each IsReadBack history → IsChunkSize chunk
-    → Holds (length (blocks_in (pieces_of (Some chunk) None history))) (length (file_of (merged_options profile chunk) extras history)) → length extras < 2 ^ 32 → CanBeWritten (merged_options profile chunk) extras history
+    → Holds (length (blocks_in (pieces_of (Some chunk) None history))) (length (file_of (merged_options profile chunk) extras history)) → AreCounted extras → CanBeWritten (merged_options profile chunk) extras history
 can_be_written files profile extras history chunk it back size within few =
     let good = good_inputs files it.inputs it.read in
     let fits = profile_fits it.inputs profile good it.merge.profile_is in
@@ -129,8 +128,8 @@ can_be_written files profile extras history chunk it back size within few =
       extras_meet = subst (Each IsExtra) (sym (alone ∙ it.merge.extras_are)) (extras_meet it.inputs good);
       entries_fit = small_blocks_fit chunk None history (omega (arith, size.0)) size.1;
       few_blocks = few_enough (length (blocks_in (pieces_of (Some chunk) None history))) within.few;
-      few_attachments = omega (arith, few, few_filtered (λ t. t.op == 9) extras, ap (count_of 9) alone);
-      few_metadata = omega (arith, few, few_filtered (λ t. t.op == 12) extras, ap (count_of 12) alone);
+      few_attachments = omega (arith, few.0, ap (count_of 9) alone);
+      few_metadata = omega (arith, few.1, ap (count_of 12) alone);
       size_fits = small_enough (length (file_of (merged_options profile chunk) extras history)) within.small;
     }
 
@@ -219,7 +218,7 @@ merges_are_sound chunk inputs out old new told size it here =
     let all = made chunk inputs out old new told it here in
     let holds = all.holds in
     let options : FileOptions = merged_options holds.profile chunk in
-    let written : length holds.extras < 2 ^ 32 → CanBeWritten options holds.extras holds.history = λ few.
+    let written : AreCounted holds.extras → CanBeWritten options holds.extras holds.history = λ few.
     can_be_written all.files holds.profile holds.extras holds.history chunk holds.merges holds.back size holds.within few in
     record {
       merged = all.merged;

@@ -8,7 +8,6 @@ use Rattle.mcap_model.specs.declared.options.FileOptions.{FileOptions}
 use Rattle.mcap_model.specs.File.{file_of}
 use Rattle.mcap_model.specs.Laws.{CanBeWritten}
 use Rattle.mcap_model.specs.Recovery.{RepairsCanBeWritten}
-use Rattle.mcap_model.proofs.Logging.{few_filtered}
 use Rattle.mcap_laws.proofs.Validity.{files_are_valid, files_are_indexed}
 use Rattle.mcap_recover.specs.declared.answers.Recovered.{Recovered}
 use Rattle.mcap_recover.specs.declared.answers.RecoverRefused.{RecoverRefused}
@@ -20,7 +19,7 @@ use Rattle.command_write.specs.declared.recovering.Recovery.{Recovery}
 use Rattle.command_write.specs.declared.recovering.Recovery.TheVariants as recoveries
 use Rattle.command_write.specs.Recover.{HoldsRecovered, BothReached, RefusesRecovery, recovery_of, IsRecovery, recovered_line, RecoversFile}
 use Rattle.command_write.proofs.Recoveries.{was_recovered}
-use Rattle.mcap_app.specs.Laws.{RecoveriesAreSound}
+use Rattle.mcap_app.specs.Laws.{AreCounted, RecoveriesAreSound}
 
 -- ---- what it came to
 
@@ -107,16 +106,19 @@ recoveries_are_sound repairs_can_be_written chunk input out old new told size it
     let all = made chunk input out old new told it here in
     let holds = all.holds in
     let options : FileOptions = recovered_options holds.profile chunk in
-    let written : all.recovered.extras < 2 ^ 32 → CanBeWritten options holds.extras holds.history = λ few.
+    let written : AreCounted holds.extras → CanBeWritten options holds.extras holds.history = λ few.
     repairs_can_be_written options holds.tops holds.extras holds.history chunk holds.halts.kept.good holds.repairs refl (omega (arith, size.0)) size.1 holds.within.few holds.within.small
-    (omega (arith, few, holds.extras_are, few_filtered (λ t. t.op == 9) holds.extras)) (omega (arith, few, holds.extras_are, few_filtered (λ t. t.op == 12) holds.extras)) in
+    few.0 few.1 in
     record {
       recovered = all.recovered;
       is_made = all.is;
       line = all.line;
       told = all.now;
       tells = all.tells;
-      file = file_of options holds.extras holds.history;
+      profile = holds.profile;
+      extras = holds.extras;
+      history = holds.history;
+      extras_are = holds.extras_are;
       there = holds.placed;
       valid = λ few. files_are_valid options holds.extras holds.history (written few);
       indexed = λ few. files_are_indexed options holds.extras holds.history chunk refl (written few);

@@ -5,6 +5,7 @@ use Rattle.std.specs.List.{AllZip, flat_map}
 use Rattle.mcap_wire.specs.Limits.{chunk_size_limit}
 use Rattle.mcap_io.specs.Outside.{SinkState, Told}
 use Rattle.rec_data.specs.declared.owned.Rec.{Rec}
+use Rattle.rec_data.specs.Records.{attachment_opcode, metadata_opcode}
 use Rattle.mcap_model.specs.declared.checked.Verdict.{Verdict}
 use Rattle.mcap_model.specs.declared.checked.Verdict.TheVariants as verdicts
 use Rattle.mcap_model.specs.declared.ends.End.TheVariants as ends
@@ -19,6 +20,7 @@ use Rattle.mcap_model.specs.Scan.{Seen, Scan, Replay}
 use Rattle.mcap_model.specs.Blocks.{pieces_of, blocks_in}
 use Rattle.mcap_model.specs.File.{file_of, IsPrefix}
 use Rattle.mcap_model.specs.Valid.{IsFullyIndexed}
+use Rattle.mcap_model.specs.Whole.{count_of}
 use Rattle.mcap_model.specs.Laws.{IsValid, HoldsSeen}
 use Rattle.mcap_model.specs.Recovery.{piece_records, FrontIsRepaired}
 use Rattle.time_player.specs.Text.{cat_text}
@@ -108,24 +110,31 @@ RecordingsAreSound = (options : RecordOptions) (range : Range) (out : List ℕ) 
 abbrev pub IsChunkSize : ℕ → Type 0
 IsChunkSize chunk = (1 ≤ chunk) × (chunk ≤ chunk_size_limit)
 
--- A recovery was made, and its line was printed. Under the output's name stands a file, which is valid and fully indexed where
--- fewer than 2^32 extras are told: a summary has no more room for the number of Attachments, nor for that of Metadata.
-pub record LeavesSound (out : List ℕ) (old new : Scene) (recovery : Recovery) : Type 0 where
+-- a summary has room for the number of Attachments among these extras, and for that of Metadata
+abbrev pub AreCounted : List Top → Type 0
+AreCounted extras = (count_of attachment_opcode extras < 2 ^ 32) × (count_of metadata_opcode extras < 2 ^ 32)
+
+-- A recovery was made, and its line was printed. Under the output's name stands the file of some extras, which it counts, and of a
+-- history; it is valid and fully indexed where a summary has room for the numbers of the extras.
+pub record LeavesSound (chunk : ℕ) (out : List ℕ) (old new : Scene) (recovery : Recovery) : Type 0 where
   pub recovered : Recovered
   pub is_made : recovery ≡ recoveries.Made recovered
   pub line : TellsAll old.out new.out (recovered_line recovered)
   pub told : Told
   pub tells : new.world.told ≡ Some told
-  pub file : List ℕ
-  pub there : told.names out ≡ Some file
-  pub valid : recovered.extras < 2 ^ 32 → IsValid file
-  pub indexed : recovered.extras < 2 ^ 32 → IsFullyIndexed file
+  pub profile : List ℕ
+  pub extras : List Top
+  pub history : List Rec
+  pub extras_are : recovered.extras ≡ length extras
+  pub there : told.names out ≡ Some (file_of (recovered_options profile chunk) extras history)
+  pub valid : AreCounted extras → IsValid (file_of (recovered_options profile chunk) extras history)
+  pub indexed : AreCounted extras → IsFullyIndexed (file_of (recovered_options profile chunk) extras history)
 
 -- A recovery in which all was done, in a world that tells, leaves such a file, whatever its input was.
 abbrev pub RecoveriesAreSound : Type 0
 RecoveriesAreSound = (chunk : ℕ) (input out : List ℕ) (old new : Scene) (told : Told) → IsChunkSize chunk
     → (it : RecoversFile chunk input out old new statuses.Done) → old.world.told ≡ Some told
-    → LeavesSound out old new it.recovery
+    → LeavesSound chunk out old new it.recovery
 
 -- ---- what is merged keeps all rules
 
@@ -135,8 +144,7 @@ merged_file chunk profile extras history = file_of (merged_options profile chunk
 
 -- A merge was made, and its line was printed. These were the files under the inputs' names, and under the output's name stands what
 -- merging makes of them, with its numbers: all messages of all files, each once, in order. That file is valid and fully indexed
--- where the files have fewer than 2^32 extras: a summary has no more room for the number of Attachments, nor for that of
--- Metadata.
+-- where a summary has room for the numbers of the files' extras.
 pub record LeavesMerged (chunk : ℕ) (inputs : List (List ℕ)) (out : List ℕ) (old new : Scene) (before : Told)
     (merging : Merging) : Type 0 where
   pub merged : Merged
@@ -153,8 +161,8 @@ pub record LeavesMerged (chunk : ℕ) (inputs : List (List ℕ)) (out : List ℕ
   pub told : Told
   pub tells : new.world.told ≡ Some told
   pub there : told.names out ≡ Some (merged_file chunk profile extras history)
-  pub valid : length extras < 2 ^ 32 → IsValid (merged_file chunk profile extras history)
-  pub indexed : length extras < 2 ^ 32 → IsFullyIndexed (merged_file chunk profile extras history)
+  pub valid : AreCounted extras → IsValid (merged_file chunk profile extras history)
+  pub indexed : AreCounted extras → IsFullyIndexed (merged_file chunk profile extras history)
 
 -- A merge in which all was done, in a world that tells, leaves such a file, whatever its inputs were.
 abbrev pub MergesAreSound : Type 0

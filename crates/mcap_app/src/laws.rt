@@ -14,7 +14,8 @@ pub fn recordings_are_sound()
     ensures { RecordingsAreSound }
 {}
 
-/// What is recovered, where all was done, is a valid and fully indexed file, where it has fewer than 2^32 extras.
+/// What is recovered, where all was done, is a valid and fully indexed file, where it has fewer than 2^32 Attachments and fewer
+/// than 2^32 Metadata.
 pub fn recoveries_are_sound()
     ensures { RecoveriesAreSound }
 {
@@ -22,7 +23,7 @@ pub fn recoveries_are_sound()
 }
 
 /// What is merged, where all was done, is a valid and fully indexed file of all messages of the inputs, where these have fewer than
-/// 2^32 extras.
+/// 2^32 Attachments and fewer than 2^32 Metadata.
 pub fn merges_are_sound()
     ensures { MergesAreSound }
 {}
