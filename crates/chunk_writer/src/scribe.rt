@@ -1,5 +1,5 @@
-//! The scribe appends the pieces of a file to its store: the magic and the Header; each block, or each record where there are
-//! no chunks; and the Data End with all behind it.
+//! The scribe appends the pieces of a file to its store: the magic and the Header; each block and each extra among them, or each
+//! record where there are no chunks; the extras that are given beside the history; and the Data End with all after it.
 ghost use Rattle.std.specs.Prelude.{◌≡◌, ◌<◌, ◌≤◌, ◌+◌, List, Option, [], ◌∷◌, ◌++◌, length, map, get_or, false, Some, None, IsSome, Ok, Err, IfOk, IfErr, OnOk, OnErr};
 ghost use Rattle.mcap_wire.specs.Layout.{content_limit};
 ghost use Rattle.mcap_wire.specs.Limits.{file_limit};

@@ -56,9 +56,10 @@ impl Gathering {
         place: Place,
         content: &[u8],
     ) -> Result<Option<u64>, Memory>
-        requires { (place.top ≡ self.old.at → ⊥) → StandBefore self.old.tops place.top }
+        requires v6 { V6 (top op content.now) }
+        requires before { (place.top ≡ self.old.at → ⊥) → StandBefore self.old.tops place.top }
         ensures { (given ahead : List Placed) (tops : List Top) → GatheredTo given self.old → Good reading_limits tops
-            → V6 (top op content.now) → walked tops ≡ (given ++ placed_at place op content.now ∷ []) ++ ahead
+            → walked tops ≡ (given ++ placed_at place op content.now ∷ []) ++ ahead
             → RecordGathered (given ++ placed_at place op content.now ∷ []) tops self.new result }
     {
         match self.counts.take(op, content) {

@@ -75,15 +75,16 @@ impl LastChunk {
         offset: u64,
         content: &[u8],
     ) -> Result<Option<u64>, Memory>
-        ensures { (tops : List Top) → LastOf tops self.old → Keeps V9 tops → V6 (top message_index_opcode content.now)
-            → offset ≡ offset_behind tops → LastTaken tops (top message_index_opcode content.now) self.new result }
+        requires { V6 (top message_index_opcode content.now) }
+        ensures { (tops : List Top) → LastOf tops self.old → Keeps V9 tops → offset ≡ offset_behind tops
+            → LastTaken tops (top message_index_opcode content.now) self.new result }
     {
         if !self.is_open {
             return Ok(Some(offset));
         }
         let index = match MessageIndex::parse(content) {
             Ok(index) => index,
-            Err(_) => return Ok(None),
+            Err(_) => unreachable!(),
         };
         match is_index_right(alloc, &self.messages, &self.channels, &index) {
             Ok(true) => {}
@@ -116,8 +117,9 @@ impl LastChunk {
         offset: u64,
         content: &[u8],
     ) -> Result<Option<u64>, Memory>
-        ensures { (tops : List Top) → LastOf tops self.old → Keeps V9 tops → V6 (top op content.now)
-            → offset ≡ offset_behind tops → LastTaken tops (top op content.now) self.new result }
+        requires { V6 (top op content.now) }
+        ensures { (tops : List Top) → LastOf tops self.old → Keeps V9 tops → offset ≡ offset_behind tops
+            → LastTaken tops (top op content.now) self.new result }
     {
         if op == MESSAGE_INDEX {
             return self.take_index(alloc, offset, content);
@@ -131,7 +133,7 @@ impl LastChunk {
         }
         let chunk = match Chunk::parse(content) {
             Ok(chunk) => chunk,
-            Err(_) => return Ok(None),
+            Err(_) => unreachable!(),
         };
         match self.begin(alloc, offset, chunk.records) {
             Ok(()) => return Ok(None),

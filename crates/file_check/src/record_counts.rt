@@ -1,6 +1,7 @@
 //! What Statistics count of Schemas, Channels and Messages.
-ghost use Rattle.std.specs.Prelude.{◌≡◌, ◌+◌, ◌^◌, ◌<◌, ◌∷◌, ◌++◌, [], List, length, filter, OnOk};
-ghost use Rattle.rec_data.specs.Records.{schema_opcode, channel_opcode, message_opcode};
+ghost use Rattle.std.specs.Prelude.{◌≡◌, ◌+◌, ◌^◌, ◌<◌, ◌∷◌, ◌++◌, [], List, ℕ, length, filter, OnOk};
+ghost use Rattle.rec_data.specs.Records.{message_opcode, ShowsMessage};
+ghost use Rattle.rec_data.specs.Parsed.{message_fields};
 ghost use Rattle.mcap_model.specs.Tops.{Top, is_flat_kind};
 ghost use Rattle.mcap_model.specs.Rules.{V6};
 ghost use Rattle.mcap_model.specs.Made.{top};
@@ -8,8 +9,9 @@ ghost use Rattle.file_check.specs.RecordCounts.{CountsOf, CountsMessage};
 
 use crate::message_counts::MessageCounts;
 use index_check::Ids;
+use mcap_model::{RecordView, view_record};
 use mcap_wire::Memory;
-use rec_data::{CHANNEL, Channel, MESSAGE, Message, SCHEMA, Schema};
+use rec_data::Message;
 use std::alloc::Global;
 
 /// What was counted of Schemas, Channels and Messages: the number of Messages, the least and the greatest of their log times
@@ -55,53 +57,27 @@ impl RecordCounts {
         }
     }
 
-    fn take_message(&mut self, content: &[u8]) -> Result<(), Memory>
-        ensures { OnOk result ((records : List Top) → CountsOf records self.old → V6 (top message_opcode content.now)
-            → length records + 1 < 2 ^ 64 → CountsOf (records ++ top message_opcode content.now ∷ []) self.new) }
+    fn take_message(&mut self, message: &Message) -> Result<(), Memory>
+        ensures { OnOk result ((records : List Top) (content : List ℕ) → CountsOf records self.old
+            → ShowsMessage content message.now.channel_id (message_fields message.now)
+            → length records + 1 < 2 ^ 64 → CountsOf (records ++ top message_opcode content ∷ []) self.new) }
     {
-        let message = match Message::parse(content) {
-            Ok(message) => message,
-            Err(_) => return Ok(()),
-        };
-        match self.by_channel.add(message.channel_id) {
-            Ok(()) => {}
-            Err(memory) => return Err(memory),
-        }
+        self.by_channel.add(message.channel_id)?;
         self.hear(message.log_time);
         return Ok(());
-    }
-
-    fn take_schema(&mut self, content: &[u8]) -> Result<(), Memory>
-        ensures { OnOk result ((records : List Top) → CountsOf records self.old → V6 (top schema_opcode content.now)
-            → CountsOf (records ++ top schema_opcode content.now ∷ []) self.new) }
-    {
-        match Schema::parse(content) {
-            Ok(schema) => return self.schemas.add_once(schema.id),
-            Err(_) => return Ok(()),
-        }
-    }
-
-    fn take_channel(&mut self, content: &[u8]) -> Result<(), Memory>
-        ensures { OnOk result ((records : List Top) → CountsOf records self.old → V6 (top channel_opcode content.now)
-            → CountsOf (records ++ top channel_opcode content.now ∷ []) self.new) }
-    {
-        match Channel::parse(content) {
-            Ok(channel) => return self.channels.add_once(channel.id),
-            Err(_) => return Ok(()),
-        }
     }
 
     /// Takes the next record, of the top level or of a chunk: others than Schemas, Channels and Messages aren't counted. After a
     /// want of memory the counts are of no use.
     pub(crate) fn take(&mut self, op: u8, content: &[u8]) -> Result<(), Memory>
-        ensures { OnOk result ((records : List Top) → CountsOf records self.old → V6 (top op content.now)
-            → length records + 1 < 2 ^ 64
+        requires { V6 (top op content.now) }
+        ensures { OnOk result ((records : List Top) → CountsOf records self.old → length records + 1 < 2 ^ 64
             → CountsOf (records ++ filter is_flat_kind (top op content.now ∷ [])) self.new) }
     {
-        match op {
-            SCHEMA => return self.take_schema(content),
-            CHANNEL => return self.take_channel(content),
-            MESSAGE => return self.take_message(content),
+        match view_record(op, content) {
+            RecordView::Schema(schema) => return self.schemas.add_once(schema.id),
+            RecordView::Channel(channel) => return self.channels.add_once(channel.id),
+            RecordView::Message(message) => return self.take_message(&message),
             _ => return Ok(()),
         }
     }

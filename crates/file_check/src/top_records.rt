@@ -4,6 +4,7 @@ ghost use Rattle.mcap_model.specs.Places.{Each};
 ghost use Rattle.mcap_model.specs.Tops.{Top, offset_behind};
 ghost use Rattle.mcap_model.specs.Kept.{reading_limits, Fits};
 ghost use Rattle.mcap_model.specs.Made.{top};
+ghost use Rattle.mcap_model.specs.Rules.{V6};
 ghost use Rattle.file_check.specs.TopRecords.{TopsOf, TopTaken};
 
 use crate::indexed_records::IndexedRecords;
@@ -40,6 +41,7 @@ impl TopRecords {
         offset: u64,
         content: &[u8],
     ) -> Result<Option<u64>, Memory>
+        requires v6 { V6 (top op content.now) }
         requires chunks { Each (λ s. s.offset < offset) self.old.indexed.chunks.spots }
         requires attachments { Each (λ s. s.offset < offset) self.old.indexed.attachments.spots }
         requires metadata { Each (λ s. s.offset < offset) self.old.indexed.metadata.spots }

@@ -45,7 +45,7 @@ module _ (tops : List Top) (i : ℕ) (t : Top) (id : ℕ) (f : ChannelFields) (a
     covers = covered channels channels were (λ k d here. here) there;
   }
 
-  channel_shows : ShowsChannel (channel_text id f) id f
+  pub channel_shows : ShowsChannel (channel_text id f) id f
   channel_shows = let layout = is.layout in let row = layout.1 in ([], record { spelled_there = refl; fit = row.fit })
 
   abbrev added : Declared

@@ -16,7 +16,6 @@ use crate::spots::{Request, Spot};
 use mcap_io::{Failed, OutsideRefused, Store, read_part};
 use mcap_model::{IndexedRefused, NotIndexed, Range, ReadingRefused, Rule, Tables, is_within};
 use mcap_wire::{EntriesRef, HEAD_LENGTH, Text};
-use rec_data::Channel;
 use rec_index::{MESSAGE_INDEX, MessageIndex};
 use std::alloc::Global;
 use time_player::Kept;
@@ -106,13 +105,9 @@ fn is_wanted(tables: &Tables, channel: u16, topic: Option<&Text>) -> bool
     ensures { DeclareChannels tables.now.channels
         → IsTrue result ↔ IsWantedChannel tables.now.channels channel (asked_topic topic.entry) }
 {
-    let content = match tables.channels.find(channel) {
-        Some(content) => content,
+    let found = match tables.channels.view(channel) {
+        Some(found) => found,
         None => return false,
-    };
-    let found = match Channel::parse(content) {
-        Ok(found) => found,
-        Err(_) => return false,
     };
     match topic {
         Some(asked) => return asked.is(found.topic),

@@ -34,6 +34,7 @@ pub mod Maps
 pub mod Firsts
 pub mod Agreeing
 pub mod TablePlaces
+pub mod ChannelTables
 pub mod Attachments
 pub mod Spans
 pub mod Walks

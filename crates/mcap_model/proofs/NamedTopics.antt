@@ -113,13 +113,6 @@ topics_named channels shown ids topics rising ids_are zip = record {
 }
 
 -- what is found of an id is the content of its channel
-pub unnamed : (channels : List Declared) (id : ℕ) (content : List ℕ) → (k : ℕ) × (d : Declared) × At channels k d × (d.id ≡ id) × (d.content ≡ content) → DeclareChannels channels
-    → ((other : ℕ) (g : ChannelFields) → ShowsChannel content other g → ⊥) → ⊥
-unnamed channels id content (k, d, at, id_is, same) are none =
-    let f = are.are k d at in
-    let is = subst (λ (l : List ℕ). IsChannel (top 4 l) d.id f.0) same f.1 in
-    none d.id f.0 is.layout
-
 pub named : (channels : List Declared) (id : ℕ) (content : List ℕ) (other : ℕ) (g : ChannelFields) → (k : ℕ) × (d : Declared) × At channels k d × (d.id ≡ id) × (d.content ≡ content) → DeclareChannels channels
     → ShowsChannel content other g → HasDeclaredTopic channels id g.topic
 named channels id content other g (k, d, at, id_is, same) are shows =

@@ -11,11 +11,12 @@ use Rattle.mcap_model.specs.declared.inner.Inner.{Inner}
 use Rattle.mcap_model.specs.Places.{At, Each}
 use Rattle.mcap_model.specs.Tops.{Top, top_bytes, spelled, offset_behind, records_in, inner_tops, is_chunk, is_flat_kind, Placed, placed, placed_from, placed_inside, placed_one}
 use Rattle.mcap_model.specs.Fields.{ChunkFields, IsChunk}
-use Rattle.mcap_model.specs.Rules.{V6}
+use Rattle.mcap_model.specs.Rules.{V6, V8}
+use Rattle.mcap_model.specs.Kept.{NamesCompression}
 use Rattle.mcap_model.specs.Scan.{is_message_top}
 use Rattle.mcap_model.specs.Walk.{inner_top, StepsOver}
 use Rattle.mcap_model.specs.Made.{top}
-use Rattle.mcap_model.specs.Plain.{IsShown, AddsThose, AddsMessage, AddsInside, AddsMessages}
+use Rattle.mcap_model.specs.Plain.{IsShown, AddsThose}
 use Rattle.mcap_model.proofs.Unpacking.{chunks_are_opened}
 use Rattle.mcap_model.proofs.Flat.{named_or}
 
@@ -88,10 +89,10 @@ pub record AddsSoFar (records : List ℕ) (offset at : ℕ) (rest : List ℕ) (o
   pub done : List Top
   pub place : at ≡ length (spelled done)
   pub split : records_in records ≡ done ++ records_in rest
-  pub adds : Each V6 (records_in records) → AddsThose (placed_inside offset 0 done) old now
+  pub adds : AddsThose (placed_inside offset 0 done) old now
 
 pub inside_none : (records : List ℕ) (offset at : ℕ) (rest : List ℕ) (old : List Shown) → at ≡ 0 → rest ≡ records → AddsSoFar records offset at rest old old
-inside_none records offset at rest old is all = record { done = []; place = is; split = ap records_in (sym all); adds = λ meet. adds_none old }
+inside_none records offset at rest old is all = record { done = []; place = is; split = ap records_in (sym all); adds = adds_none old }
 
 pub inside_joined : (offset at : ℕ) (done : List Top) (t : Top) → placed_inside offset at (done ++ t ∷ []) ≡ placed_inside offset at done ++ record { place = record { top = offset; inner = at + length (spelled done) }; top = t } ∷ []
 inside_joined offset at [] t = ap (λ (n : ℕ). placed_at offset n t ∷ []) (omega arith)
@@ -114,8 +115,14 @@ met_there records done t more split meet = meet (length done) t (subst (λ (l : 
     stands [] = refl
     stands (u ∷ us) = stands us
 
+-- a Message to which a walk comes over the records of a chunk, all of which meet their layouts
+pub met_message : (records rest rest_new : List ℕ) (done : List Top) (inner : Inner) → Each V6 (records_in records) → records_in records ≡ done ++ records_in rest → records_in rest ≡ inner_top inner ∷ records_in rest_new → inner.op ≡ 5 → V6 (top 5 inner.content.now)
+met_message records rest rest_new done inner meet split first is =
+    let five : top 5 inner.content.now ≡ inner_top inner = ap (λ (n : ℕ). top n inner.content.now) (sym is) in
+    subst V6 (sym five) (met_there records done (inner_top inner) (records_in rest_new) (split ∙ ap (λ (l : List Top). done ++ l) first) meet)
+
 inside_step : (records : List ℕ) (offset at at_new : ℕ) (rest rest_new : List ℕ) (old now new : List Shown) (inner : Inner) → AddsSoFar records offset at rest old now → StepsOver at rest at_new rest_new inner
-    → (V6 (inner_top inner) → AddsThose (record { place = record { top = offset; inner = at }; top = inner_top inner } ∷ []) now new) → AddsSoFar records offset at_new rest_new old new
+    → AddsThose (record { place = record { top = offset; inner = at }; top = inner_top inner } ∷ []) now new → AddsSoFar records offset at_new rest_new old new
 inside_step records offset at at_new rest rest_new old now new inner was steps one =
     let t = inner_top inner in
     let split : records_in records ≡ was.done ++ t ∷ records_in rest_new = was.split ∙ ap (λ (l : List Top). was.done ++ l) steps.first in
@@ -127,49 +134,52 @@ inside_step records offset at at_new rest rest_new old now new inner was steps o
           let place = was.place in
           omega (arith, size, behind, place, length-append (spelled was.done) (top_bytes t ++ []), length-append (top_bytes t) []);
       split = split ∙ sym (append_assoc was.done (t ∷ []) (records_in rest_new));
-      adds = λ meet.
-          let there : AddsThose (record { place = record { top = offset; inner = 0 + length (spelled was.done) }; top = t } ∷ []) now new = subst (λ (n : ℕ). AddsThose (record { place = record { top = offset; inner = n }; top = t } ∷ []) now new) (let place = was.place in omega (arith, place)) (one (met_there records was.done t (records_in rest_new) split meet)) in
+      adds =
+          let there : AddsThose (record { place = record { top = offset; inner = 0 + length (spelled was.done) }; top = t } ∷ []) now new = subst (λ (n : ℕ). AddsThose (record { place = record { top = offset; inner = n }; top = t } ∷ []) now new) (let place = was.place in omega (arith, place)) one in
           subst (λ (l : List Placed). AddsThose l old new) (sym (inside_joined offset 0 was.done t))
-          (adds_more (placed_inside offset 0 was.done) (record { place = record { top = offset; inner = 0 + length (spelled was.done) }; top = t } ∷ []) old now new (was.adds meet) there);
+          (adds_more (placed_inside offset 0 was.done) (record { place = record { top = offset; inner = 0 + length (spelled was.done) }; top = t } ∷ []) old now new was.adds there);
     }
 
 pub inside_message : (records : List ℕ) (offset at at_new : ℕ) (rest rest_new : List ℕ) (old now new : List Shown) (inner : Inner) → AddsSoFar records offset at rest old now → StepsOver at rest at_new rest_new inner → inner.op ≡ 5
-    → AddsMessage (record { top = offset; inner = inner.offset }) inner.content.now now new → AddsSoFar records offset at_new rest_new old new
+    → AddsThose (record { place = record { top = offset; inner = inner.offset }; top = top 5 inner.content.now } ∷ []) now new → AddsSoFar records offset at_new rest_new old new
 inside_message records offset at at_new rest rest_new old now new inner was steps is adds =
-    inside_step records offset at at_new rest rest_new old now new inner was steps (λ v6.
     let five : top 5 inner.content.now ≡ inner_top inner = ap (λ (n : ℕ). top n inner.content.now) (sym is) in
-    subst (λ (n : ℕ). AddsThose (record { place = record { top = offset; inner = n }; top = inner_top inner } ∷ []) now new) steps.offset
-    (subst (λ (t : Top). AddsThose (record { place = record { top = offset; inner = inner.offset }; top = t } ∷ []) now new) five (adds (subst V6 (sym five) v6))))
+    inside_step records offset at at_new rest rest_new old now new inner was steps
+    (subst (λ (n : ℕ). AddsThose (record { place = record { top = offset; inner = n }; top = inner_top inner } ∷ []) now new) steps.offset
+    (subst (λ (t : Top). AddsThose (record { place = record { top = offset; inner = inner.offset }; top = t } ∷ []) now new) five adds))
 
 pub inside_other : (records : List ℕ) (offset at at_new : ℕ) (rest rest_new : List ℕ) (old now : List Shown) (inner : Inner) → AddsSoFar records offset at rest old now → StepsOver at rest at_new rest_new inner → (inner.op ≡ 5 → ⊥) → AddsSoFar records offset at_new rest_new old now
 inside_other records offset at at_new rest rest_new old now inner was steps other =
-    inside_step records offset at at_new rest rest_new old now now inner was steps (λ v6. other_kind (record { place = record { top = offset; inner = at }; top = inner_top inner }) now other)
+    inside_step records offset at at_new rest rest_new old now now inner was steps (other_kind (record { place = record { top = offset; inner = at }; top = inner_top inner }) now other)
 
-pub inside_all : (records : List ℕ) (offset at : ℕ) (rest : List ℕ) (old now : List Shown) → AddsSoFar records offset at rest old now → records_in rest ≡ [] → AddsInside offset records old now
-inside_all records offset at rest old now was none meet =
+pub inside_all : (records : List ℕ) (offset at : ℕ) (rest : List ℕ) (old now : List Shown) → AddsSoFar records offset at rest old now → records_in rest ≡ [] → AddsThose (placed_inside offset 0 (records_in records)) old now
+inside_all records offset at rest old now was none =
     let all : was.done ≡ records_in records = sym (was.split ∙ ap (λ (l : List Top). was.done ++ l) none ∙ append-nil was.done) in
-    subst (λ (l : List Top). AddsThose (placed_inside offset 0 l) old now) all (was.adds meet)
+    subst (λ (l : List Top). AddsThose (placed_inside offset 0 l) old now) all was.adds
 
 -- ---- a record of the top level
 
-pub message_alone : (offset op : ℕ) (content : List ℕ) (old new : List Shown) → op ≡ 5 → AddsMessage (record { top = offset; inner = 0 }) content old new → AddsMessages offset (top op content) old new
+pub message_alone : (offset op : ℕ) (content : List ℕ) (old new : List Shown) → op ≡ 5 → AddsThose (record { place = record { top = offset; inner = 0 }; top = top 5 content } ∷ []) old new → AddsThose (placed_one offset (top op content)) old new
 message_alone offset op content old new is adds =
-    subst (λ (n : ℕ). AddsMessages offset (top n content) old new) (sym is) (λ v6 v8 plain. adds v6)
+    subst (λ (n : ℕ). AddsThose (placed_one offset (top n content)) old new) (sym is) adds
 
-pub chunk_opened : (offset op : ℕ) (content : List ℕ) (f : ChunkFields) (old new : List Shown) → op ≡ 6 → IsChunk (top 6 content) f → AddsInside offset f.records old new → AddsMessages offset (top op content) old new
-chunk_opened offset op content f old new is shown adds =
-    subst (λ (n : ℕ). AddsMessages offset (top n content) old new) (sym is) (λ v6 v8 plain.
+-- the records of a chunk that keeps the rules meet their layouts
+pub chunk_layouts : (op : ℕ) (content : List ℕ) (f : ChunkFields) → op ≡ 6 → IsChunk (top 6 content) f → V8 (top op content) → ((name : List ℕ) → NamesCompression (top op content) name → ⊥) → Each V6 (records_in f.records)
+chunk_layouts op content f is shown =
+    subst (λ (n : ℕ). V8 (top n content) → ((name : List ℕ) → NamesCompression (top n content) name → ⊥) → Each V6 (records_in f.records)) (sym is) (λ v8 plain.
     let t = top 6 content in
     let right = v8 f shown (named_or t f f.compression shown refl plain) in
+    right.layouts)
+
+pub chunk_opened : (offset op : ℕ) (content : List ℕ) (f : ChunkFields) (old new : List Shown) → op ≡ 6 → IsChunk (top 6 content) f → AddsThose (placed_inside offset 0 (records_in f.records)) old new → AddsThose (placed_one offset (top op content)) old new
+chunk_opened offset op content f old new is shown adds =
+    subst (λ (n : ℕ). AddsThose (placed_one offset (top n content)) old new) (sym is)
+    (let t = top 6 content in
     let same : records_in f.records ≡ inner_tops t = ap records_in (sym (chunks_are_opened t f shown)) in
-    adds_flat (placed_inside offset 0 (inner_tops t)) old new (subst (λ (l : List Top). AddsThose (placed_inside offset 0 l) old new) same (adds right.layouts)))
+    adds_flat (placed_inside offset 0 (inner_tops t)) old new (subst (λ (l : List Top). AddsThose (placed_inside offset 0 l) old new) same adds))
 
-pub chunk_unread : (offset op : ℕ) (content : List ℕ) (old new : List Shown) → op ≡ 6 → ((f : ChunkFields) → IsChunk (top 6 content) f → ⊥) → AddsMessages offset (top op content) old new
-chunk_unread offset op content old new is none =
-    subst (λ (n : ℕ). AddsMessages offset (top n content) old new) (sym is) (λ v6 v8 plain. let shown = v6.chunk refl in absurd (none shown.0 shown.1))
-
-pub other_silent : (offset op : ℕ) (content : List ℕ) (old : List Shown) → (op ≡ 5 → ⊥) → (op ≡ 6 → ⊥) → AddsMessages offset (top op content) old old
-other_silent offset op content old none closed v6 v8 plain =
+pub other_silent : (offset op : ℕ) (content : List ℕ) (old : List Shown) → (op ≡ 5 → ⊥) → (op ≡ 6 → ⊥) → AddsThose (placed_one offset (top op content)) old old
+other_silent offset op content old none closed =
     let p : Placed = record { place = record { top = offset; inner = 0 }; top = top op content } in
     let alone : (p ∷ []) ≡ (if is_chunk (top op content) then placed_inside offset 0 (inner_tops (top op content)) else p ∷ []) = ap (λ (b : Bool). if b then placed_inside offset 0 (inner_tops (top op content)) else p ∷ []) (sym (ne_eqb op 6 closed)) in
     subst (λ (l : List Placed). AddsThose (filter (λ q. is_flat_kind q.top) l) old old) alone (adds_flat (p ∷ []) old old (other_kind p old none))

@@ -1,6 +1,8 @@
 -- What a scanner knows of the Schemas and Channels so far, and how it judges one more record.
 use Rattle.std.specs.Prelude.{◌≡◌, ◌⊎◌, ℕ, List, ◌∷◌, [], ◌++◌, Option, Some, None, Result, Ok, Err}
-use Rattle.rec_data.specs.Records.{attachment_opcode}
+use Rattle.rec_data.specs.declared.channel.Channel.{Channel}
+use Rattle.rec_data.specs.Records.{attachment_opcode, ShowsChannel}
+use Rattle.rec_data.specs.Parsed.{channel_fields}
 use Rattle.mcap_model.specs.Places.{At, Has}
 use Rattle.mcap_model.specs.Tops.{Top}
 use Rattle.mcap_model.specs.Fields.{IsSchema, SameChannel, IsChannel, MessageFields, IsMessage, AttachmentFields, IsAttachment}
@@ -21,6 +23,12 @@ use Rattle.mcap_model.specs.WantsOfMemory.{AgreesButMetadata}
 abbrev pub FindsFirst : List Declared → ℕ → Option (Bor (List ℕ)) → Type 0
 FindsFirst first id (Some content) = (k : ℕ) × (d : Declared) × At first k d × (d.id ≡ id) × (d.content ≡ content.now)
 FindsFirst first id None = (k : ℕ) (d : Declared) → At first k d → d.id ≡ id → ⊥
+
+-- the Channel that declared an id, or that none did
+abbrev pub ViewsFirst : List Declared → ℕ → Option Channel → Type 0
+ViewsFirst first id (Some channel) = (k : ℕ) × (d : Declared) × At first k d × (d.id ≡ id)
+    × ShowsChannel d.content channel.id (channel_fields channel)
+ViewsFirst first id None = FindsFirst first id None
 
 abbrev pub SomeFirst : List Declared → ℕ → Type 0
 SomeFirst first id = (k : ℕ) × (d : Declared) × At first k d × (d.id ≡ id)

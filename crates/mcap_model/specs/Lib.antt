@@ -14,6 +14,7 @@ pub mod Led
 pub mod Made
 pub mod Written
 pub mod Repaired
+pub mod Needed
 pub mod Merged
 pub mod Pieces
 pub mod ReadBack
@@ -34,6 +35,7 @@ pub mod Found
 pub mod Walk
 pub mod Times
 pub mod Indexed
+pub mod ChannelTables
 pub mod Declarations
 pub mod Chunked
 pub mod Judging

@@ -6,8 +6,7 @@ use Rattle.mcap_wire.specs.declared.faults.Cut.{Cut}
 use Rattle.mcap_wire.specs.declared.faults.CutFault.{CutFault}
 use Rattle.mcap_wire.specs.declared.faults.CutFault.TheVariants as cut_faults
 use Rattle.mcap_wire.specs.Layout.{part}
-use Rattle.rec_data.specs.Records.{channel_opcode, message_opcode}
-use Rattle.mcap_model.specs.declared.replay.Place.{Place}
+use Rattle.rec_data.specs.Records.{channel_opcode}
 use Rattle.mcap_model.specs.declared.replay.Range.{Range}
 use Rattle.mcap_model.specs.declared.replay.Shown.{Shown}
 use Rattle.mcap_model.specs.declared.replay.Topic.{Topic}
@@ -16,11 +15,11 @@ use Rattle.mcap_model.specs.declared.refusals.ReadingRefused.{ReadingRefused}
 use Rattle.mcap_model.specs.declared.refusals.ReadingRefused.TheVariants as refusals
 use Rattle.mcap_model.specs.declared.table.Declared.{Declared}
 use Rattle.mcap_model.specs.declared.tables.Tables.{Tables}
-use Rattle.mcap_model.specs.Places.{At, Each, Has}
-use Rattle.mcap_model.specs.Tops.{Top, Tops, Placed, placed_inside, placed_one, records_in, top_bytes, offset_behind, flat}
+use Rattle.mcap_model.specs.Places.{At, Has}
+use Rattle.mcap_model.specs.Tops.{Top, Tops, Placed, top_bytes, offset_behind, flat}
 use Rattle.mcap_model.specs.Fields.{IsMessage, ChannelFields, IsChannel}
-use Rattle.mcap_model.specs.Rules.{V6, V8, HasDataEnd}
-use Rattle.mcap_model.specs.Kept.{reading_limits, Fits, Good, at_end, grammar, compressed, beyond, NamesCompression, Halts}
+use Rattle.mcap_model.specs.Rules.{HasDataEnd}
+use Rattle.mcap_model.specs.Kept.{reading_limits, Fits, Good, at_end, grammar, compressed, beyond, Halts}
 use Rattle.mcap_model.specs.Scan.{Seen, Scan, is_message_top, is_within}
 use Rattle.mcap_model.specs.Declarations.{TablesOf}
 use Rattle.mcap_model.specs.Made.{top}
@@ -105,19 +104,6 @@ pub record AddsThose (records : List Placed) (old new : List Shown) : Type 0 whe
   pub more : List Shown
   pub added : new ≡ old ++ more
   pub shows : AllZip IsShown (filter (λ p. is_message_top p.top) records) more
-
-abbrev pub AddsMessage : Place → List ℕ → List Shown → List Shown → Type 0
-AddsMessage place content old new = V6 (top message_opcode content)
-    → AddsThose (record { place = place; top = top message_opcode content } ∷ []) old new
-
-abbrev pub AddsInside : ℕ → List ℕ → List Shown → List Shown → Type 0
-AddsInside offset records old new =
-    Each V6 (records_in records) → AddsThose (placed_inside offset 0 (records_in records)) old new
-
--- a record that keeps the rules on layouts and on chunks, and names no compression
-abbrev pub AddsMessages : ℕ → Top → List Shown → List Shown → Type 0
-AddsMessages offset t old new =
-    V6 t → V8 t → ((name : List ℕ) → NamesCompression t name → ⊥) → AddsThose (placed_one offset t) old new
 
 -- ---- topics
 

@@ -6,7 +6,8 @@ use Rattle.rec_data.specs.Owned.{rec_opcode, rec_text, ShowsRec}
 use Rattle.mcap_model.specs.Tops.{Top}
 use Rattle.mcap_model.specs.Rules.{V6, V10}
 
--- the record is read back as itself: its numbers and lengths fit, its texts are UTF-8 and its keys differ
+-- the record is read back as itself: its numbers and lengths fit, its texts are UTF-8 and its keys differ; an extra has the
+-- opcode of one, and meets its layout
 abbrev pub IsReadBack : Rec → Type 0
 IsReadBack r = ShowsRec (rec_opcode r) (rec_text r) r
 

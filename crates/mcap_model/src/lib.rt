@@ -4,6 +4,7 @@
 #![tactic(auto)]
 
 mod block;
+mod channel_table;
 mod checked;
 mod chunks;
 mod contents;
@@ -26,6 +27,7 @@ mod tops;
 mod views;
 
 pub use block::{Block, IndexPart};
+pub use channel_table::ChannelTable;
 pub use checked::{Counts, Verdict};
 pub use ends::{End, Stop};
 pub use inner::{Inner, InnerWalk};

@@ -1,7 +1,12 @@
 //! The messages of a record, as they are shown.
-ghost use Rattle.std.specs.Prelude.{◌≡◌, OnOk, IfOk};
+ghost use Rattle.std.specs.Prelude.{◌≡◌, ◌∷◌, [], ℕ, List, OnOk, IfOk};
+ghost use Rattle.rec_data.specs.Records.{message_opcode};
+ghost use Rattle.mcap_model.specs.Places.{Each};
+ghost use Rattle.mcap_model.specs.Tops.{records_in, placed_inside, placed_one};
+ghost use Rattle.mcap_model.specs.Rules.{V6, V8};
+ghost use Rattle.mcap_model.specs.Kept.{NamesCompression};
 ghost use Rattle.mcap_model.specs.Made.{top};
-ghost use Rattle.mcap_model.specs.Plain.{AddsMessage, AddsMessages, AddsInside};
+ghost use Rattle.mcap_model.specs.Plain.{AddsThose};
 
 use crate::inner::InnerWalk;
 use crate::replay::{Place, Shown};
@@ -36,16 +41,15 @@ fn add_message(
     place: Place,
     content: &[u8],
 ) -> Result<(), Memory>
-    ensures { OnOk result (AddsMessage place content.now shown.old.items shown.new.items) }
+    requires { V6 (top message_opcode content.now) }
+    ensures { OnOk result (AddsThose (record { place = place; top = top message_opcode content.now } ∷ [])
+        shown.old.items shown.new.items) }
 {
     let message = match Message::parse(content) {
         Ok(message) => message,
-        Err(_) => return Ok(()),
+        Err(_) => unreachable!(),
     };
-    let payload = match Bytes::copied(alloc, message.payload) {
-        Ok(payload) => payload,
-        Err(memory) => return Err(memory),
-    };
+    let payload = Bytes::copied(alloc, message.payload)?;
     match shown.push(Shown {
         place,
         log_time: message.log_time,
@@ -66,7 +70,9 @@ fn add_inside(
     offset: u64,
     records: &[u8],
 ) -> Result<(), Memory>
-    ensures { OnOk result (AddsInside offset records.now shown.old.items shown.new.items) }
+    requires { Each V6 (records_in records.now) }
+    ensures { OnOk result (AddsThose (placed_inside offset 0 (records_in records.now))
+        shown.old.items shown.new.items) }
 {
     let mut walk = InnerWalk::new(records);
     'records: while let Some(inner) = walk.next() {
@@ -75,16 +81,14 @@ fn add_inside(
                 top: offset,
                 inner: inner.offset,
             };
-            match add_message(alloc, shown, place, inner.content) {
-                Ok(()) => {}
-                Err(memory) => return Err(memory),
-            }
+            add_message(alloc, shown, place, inner.content)?;
         }
     }
     return Ok(());
 }
 
-/// Adds the Messages that the record at that offset is or holds.
+/// Adds the Messages that the record at that offset is or holds, which keeps the rules on layouts and on chunks, and names no
+/// compression.
 pub(crate) fn add_messages(
     alloc: Global,
     shown: &mut Vec<Shown>,
@@ -92,7 +96,10 @@ pub(crate) fn add_messages(
     op: u8,
     content: &[u8],
 ) -> Result<(), Memory>
-    ensures { OnOk result (AddsMessages offset (top op content.now) shown.old.items shown.new.items) }
+    requires v6 { V6 (top op content.now) }
+    requires v8 { V8 (top op content.now) }
+    requires plain { (name : List ℕ) → NamesCompression (top op content.now) name → ⊥ }
+    ensures { OnOk result (AddsThose (placed_one offset (top op content.now)) shown.old.items shown.new.items) }
 {
     match op {
         MESSAGE => {
@@ -104,7 +111,7 @@ pub(crate) fn add_messages(
         }
         CHUNK => match Chunk::parse(content) {
             Ok(chunk) => return add_inside(alloc, shown, offset, chunk.records),
-            Err(_) => return Ok(()),
+            Err(_) => unreachable!(),
         },
         _ => return Ok(()),
     }

@@ -5,6 +5,7 @@ ghost use Rattle.mcap_model.specs.Tops.{Top};
 ghost use Rattle.mcap_model.specs.Declarations.{TakesDeclaration, TablesOf, Hears, SomeFirst};
 ghost use Rattle.mcap_model.specs.Made.{top};
 
+use crate::channel_table::ChannelTable;
 use crate::rules::Rule;
 use crate::same::{is_same_channel, is_same_schema};
 use crate::table::Table;
@@ -25,7 +26,7 @@ pub enum Ruling {
 #[derive(Drop)]
 pub struct Tables {
     pub schemas: Table,
-    pub channels: Table,
+    pub channels: ChannelTable,
 }
 
 impl Tables {
@@ -35,7 +36,7 @@ impl Tables {
     {
         Tables {
             schemas: Table::new(alloc),
-            channels: Table::new(alloc),
+            channels: ChannelTable::new(alloc),
         }
     }
 

@@ -6,7 +6,6 @@ ghost use Rattle.mcap_model.specs.Plain.{AddsTopic, is_used, AreNamed};
 use crate::replay::{Shown, Topic};
 use crate::tables::Tables;
 use mcap_wire::{Memory, Text};
-use rec_data::Channel;
 use std::alloc::Global;
 
 // The ids of the channels of messages, in ascending order.
@@ -30,18 +29,11 @@ fn channels_of(alloc: Global, shown: &[Shown]) -> Result<Vec<u16>, Memory>
 fn add_topic(alloc: Global, tables: &Tables, id: u16, topics: &mut Vec<Topic>) -> Result<(), Memory>
     ensures { OnOk result (AddsTopic tables.now.channels id topics.old.items topics.new.items) }
 {
-    let content = match tables.channels.find(id) {
-        Some(content) => content,
+    let channel = match tables.channels.view(id) {
+        Some(channel) => channel,
         None => return Ok(()),
     };
-    let channel = match Channel::parse(content) {
-        Ok(channel) => channel,
-        Err(_) => return Ok(()),
-    };
-    let topic = match Text::copied(alloc, channel.topic) {
-        Ok(topic) => topic,
-        Err(memory) => return Err(memory),
-    };
+    let topic = Text::copied(alloc, channel.topic)?;
     match topics.push(Topic { channel: id, topic }) {
         Ok(()) => return Ok(()),
         Err(_) => return Err(Memory),
@@ -52,16 +44,10 @@ fn add_topic(alloc: Global, tables: &Tables, id: u16, topics: &mut Vec<Topic>) -
 pub fn topics_of(alloc: Global, tables: &Tables, shown: &[Shown]) -> Result<Vec<Topic>, Memory>
     ensures { IfOk result (λ topics. AreNamed tables.now.channels shown.now topics.items) }
 {
-    let ids = match channels_of(alloc, shown) {
-        Ok(ids) => ids,
-        Err(memory) => return Err(memory),
-    };
+    let ids = channels_of(alloc, shown)?;
     let mut topics = Vec::new(alloc);
     'ids: for i in 0..ids.len() {
-        match add_topic(alloc, tables, ids[i], &mut topics) {
-            Ok(()) => {}
-            Err(memory) => return Err(memory),
-        }
+        add_topic(alloc, tables, ids[i], &mut topics)?;
     }
     return Ok(topics);
 }
@@ -85,10 +71,7 @@ pub(crate) fn used_topics(
     'topics: for i in 0..topics.len() {
         let entry = &topics[i];
         if is_used_by(shown, entry.channel) {
-            let topic = match Text::copied(alloc, entry.topic.as_str()) {
-                Ok(topic) => topic,
-                Err(memory) => return Err(memory),
-            };
+            let topic = Text::copied(alloc, entry.topic.as_str())?;
             match used.push(Topic {
                 channel: entry.channel,
                 topic,

@@ -11,6 +11,7 @@ use rec_index::{CHUNK, Chunk, MESSAGE_INDEX, MessageIndex};
 
 /// What a record shows whose content was judged by the layout of its kind (MCAP specification, "Records"). Records of other
 /// kinds aren't looked into.
+#[derive(Drop)]
 pub enum RecordView<'a> {
     Header(Header<'a>),
     Schema(Schema<'a>),
@@ -24,6 +25,8 @@ pub enum RecordView<'a> {
 }
 
 /// The record of that opcode and content, which meets its layout. What a record shows is borrowed from its content.
+// Inlined, so that a caller that looks at some kinds parses no others, and no view goes through memory.
+#[inline(always)]
 pub fn view_record<'a>(op: u8, content: &'a [u8]) -> RecordView<'a>
     requires { V6 (top op content.now) }
     ensures { IsView op content.now result }

@@ -22,14 +22,7 @@ fn add_channel(ids: &mut Ids, op: u8, content: &[u8]) -> Result<(), Memory>
 {
     match view_record(op, content) {
         RecordView::Channel(channel) => return ids.add_once(channel.id),
-        RecordView::Header(_)
-        | RecordView::Schema(_)
-        | RecordView::Message(_)
-        | RecordView::Chunk(_)
-        | RecordView::MessageIndex(_)
-        | RecordView::Attachment(_)
-        | RecordView::Metadata(_)
-        | RecordView::Other => return Ok(()),
+        _ => return Ok(()),
     }
 }
 

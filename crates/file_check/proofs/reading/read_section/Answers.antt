@@ -22,8 +22,14 @@ returns-in-Err-clause-stays g c = g.S.Source.stays_so _
 pub records-init : goal.records-init
 records-init g c = (([], ([], c.in-Ok.ensures (g.S.Source.state c.args.source.now)), c.new-gathering.ensures), g.S.Source.stays_so _)
 
-pub take-requires : goal.take-requires
-take-requires g c =
+pub take-requires-clause-v6 : goal.take-requires-clause-v6
+take-requires-clause-v6 g c =
+    let i = c.records.invariant in
+    let s = c.in-Record.ensures.steps (g.S.Source.state c.args.source.now) i.0.1.0 i.0.0 i.0.1.1 in
+    subst (λ (content : List ℕ). V6 (top c.in-Record.op content)) (sym c.content.ensures) s.v6
+
+pub take-requires-clause-before : goal.take-requires-clause-before
+take-requires-clause-before g c =
     let i = c.records.invariant in
     let given = i.0.0 in
     let gathered = i.0.2 in
@@ -45,9 +51,8 @@ records-preserved g c =
     let s = c.in-Record.ensures.steps before i.0.1.0 given i.0.1.1 in
     let p : Placed = placed_at c.in-Record.place c.in-Record.op c.content.result.now in
     let here : FlatStands flat before now s.tops (given ++ p ∷ []) = subst (λ (content : List ℕ). FlatStands flat before now s.tops (given ++ placed_at c.in-Record.place c.in-Record.op content ∷ [])) (sym c.content.ensures) s.stands in
-    let v6 : V6 p.top = subst (λ (content : List ℕ). V6 (top c.in-Record.op content)) (sym c.content.ensures) s.v6 in
     let good = good_stand flat.reader before now s.tops s.going here.stands in
-    ((given ++ p ∷ [], (s.tops, here), subst (λ (o : Option ℕ). RecordGathered (given ++ p ∷ []) s.tops c.take.new.self (Ok o)) c.in-Ok-None.field-0-is (c.in-Ok-None.ensures given (ahead_of flat) s.tops i.0.2 good v6 here.all)), g.S.Source.stays_on _ _ _ i.1 c.in-Record.ensures.stays)
+    ((given ++ p ∷ [], (s.tops, here), subst (λ (o : Option ℕ). RecordGathered (given ++ p ∷ []) s.tops c.take.new.self (Ok o)) c.in-Ok-None.field-0-is (c.in-Ok-None.ensures given (ahead_of flat) s.tops i.0.2 good here.all)), g.S.Source.stays_on _ _ _ i.1 c.in-Record.ensures.stays)
 
 pub returns-in-Ok-Some-clause-reads : goal.returns-in-Ok-Some-clause-reads
 returns-in-Ok-Some-clause-reads g c =
@@ -59,9 +64,8 @@ returns-in-Ok-Some-clause-reads g c =
     let s = c.in-Record.ensures.steps before i.0.1.0 given i.0.1.1 in
     let p : Placed = placed_at c.in-Record.place c.in-Record.op c.content.result.now in
     let here : FlatStands flat before now s.tops (given ++ p ∷ []) = subst (λ (content : List ℕ). FlatStands flat before now s.tops (given ++ placed_at c.in-Record.place c.in-Record.op content ∷ [])) (sym c.content.ensures) s.stands in
-    let v6 : V6 p.top = subst (λ (content : List ℕ). V6 (top c.in-Record.op content)) (sym c.content.ensures) s.v6 in
     let good = good_stand flat.reader before now s.tops s.going here.stands in
-    let fails = subst (λ (o : Option ℕ). RecordGathered (given ++ p ∷ []) s.tops c.take.new.self (Ok o)) c.in-Ok-Some.field-0-is (c.in-Ok-Some.ensures given (ahead_of flat) s.tops i.0.2 good v6 here.all) in
+    let fails = subst (λ (o : Option ℕ). RecordGathered (given ++ p ∷ []) s.tops c.take.new.self (Ok o)) c.in-Ok-Some.field-0-is (c.in-Ok-Some.ensures given (ahead_of flat) s.tops i.0.2 good here.all) in
     (s.tops, record { are_read = read_so_far flat.reader before now s.tops (some_read given p (ahead_of flat) s.tops here.all) s.going here.stands; fails = fails; rule_is = refl })
 
 pub returns-in-Ok-Some-clause-stays : goal.returns-in-Ok-Some-clause-stays

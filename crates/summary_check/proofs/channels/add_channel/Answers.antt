@@ -12,6 +12,6 @@ returns-in-Channel c =
     ok_then c.add_once.result c.add_once.ensures
     (λ adds before was. declared_once before t channel.id (channel_fields channel) c.args.ids.now c.add_once.new.self was (record { kind = c.in-Channel.ensures.0; layout = c.in-Channel.ensures.1 }) adds)
 
-pub returns-in-Header : goal.returns-in-Header
-returns-in-Header c = λ before was.
+pub returns-in_default : goal.returns-in_default
+returns-in_default c = λ before was.
     declared_other before (top c.args.op c.args.content.now) c.args.ids.now was (λ id f is. let kind = is.kind in search rules)

@@ -7,15 +7,15 @@ use Rattle.file_check.proofs.Followed.{keeps_index, fails_index, ends_behind, op
 use Rattle.file_check.proofs.last_chunk.LastChunk.take_index.Goals as goal
 
 pub returns-then-not-self : goal.returns-then-not-self
-returns-then-not-self c = λ tops last keeps v6 there more.
+returns-then-not-self c = λ tops last keeps there more.
     let t = top 7 c.args.content.now in
     subst (IndexFails (tops ++ t ∷ more)) (sym there) (fails_index tops more t refl (λ belongs. last.none c.if-not-self.true (ends_behind tops t keeps belongs)))
 
-pub returns-in-Err : goal.returns-in-Err
-returns-in-Err c = λ tops last keeps v6 there. let s = v6.message_index refl in absurd (c.in-Err.ensures.none s.0 s.1 s.2.layout)
+pub unreachable-requires : goal.unreachable-requires
+unreachable-requires c = let (channel, entries, is) = c.requires.message_index refl in c.in-Err.ensures.none channel entries is.layout
 
 pub returns-in-Ok-false : goal.returns-in-Ok-false
-returns-in-Ok-false c = λ tops last keeps v6 there rest.
+returns-in-Ok-false c = λ tops last keeps there rest.
     let content = c.args.content.now in
     let chunk = c.args.self.now in
     let index = c.in-Ok.index in
@@ -25,7 +25,7 @@ returns-in-Ok-false c = λ tops last keeps v6 there rest.
     (fails_index tops rest (top 7 content) refl (λ belongs. both_ways c.in-Ok-false.field-0 c.in-Ok-false.field-0-test (judged.1 belongs)))
 
 pub returns-in-Ok-add : goal.returns-in-Ok-add
-returns-in-Ok-add c = λ tops last keeps v6 there.
+returns-in-Ok-add c = λ tops last keeps there.
     let content = c.args.content.now in
     let chunk = c.args.self.now in
     let index = c.in-Ok.index in

@@ -11,7 +11,7 @@ use Rattle.file_check.proofs.top_records.TopRecords.take.Goals.{then-op-eq-MESSA
 pub returns : goal.returns
 returns c = λ tops was fits there.
     let t = top c.args.op c.args.content.now in
-    let last = subst (λ (o : Option ℕ). LastTaken tops t c.take.new.self (Ok o)) c.in-Ok-None.field-0-is (c.in-Ok-None.ensures tops was.last was.v9 fits.v6 there) in
+    let last = subst (λ (o : Option ℕ). LastTaken tops t c.take.new.self (Ok o)) c.in-Ok-None.field-0-is (c.in-Ok-None.ensures tops was.last was.v9 there) in
     let indexed = c.in-Ok.ensures tops was.indexed fits (λ seven. ends_last tops t was.v9 last.1 seven) there (λ six. c.holds_messages-messages.ensures tops t last.0 six (inner_meets tops t six fits)) in
     elim c.if-op-eq-MESSAGE.branch [
       | then-op-eq-MESSAGE w ↦
