@@ -1,6 +1,3 @@
-mod Keepings
-mod Inners
-mod Given
 mod Reading
 mod Ending
 mod Rules

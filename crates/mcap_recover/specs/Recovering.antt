@@ -1,26 +1,27 @@
 -- What a recovery leaves, and what it answers.
-use Rattle.std.specs.Prelude.{◌≡◌, ℕ, List, Some, ◌⊎◌, ◌++◌, length, filter, None, Result, Ok, Err}
-use Rattle.mcap_io.specs.Outside.{SourceState, LiveState, RisesOnce, Adds}
-use Rattle.mcap_model.specs.Rules.{V1}
+use Rattle.std.specs.Prelude.{◌≡◌, ◌⊎◌, ◌≤◌, ℕ, List, [], Option, Some, length, filter, None, Result, Ok, Err}
+use Rattle.mcap_io.specs.Outside.{SourceState, LiveState, Adds}
 use Rattle.mcap_model.specs.declared.refusals.ReadingRefused.TheVariants as scans
 use Rattle.mcap_recover.specs.declared.answers.RecoverRefused.{RecoverRefused}
 use Rattle.mcap_recover.specs.declared.answers.RecoverRefused.TheVariants as refusals
 use Rattle.rec_data.specs.declared.owned.Rec.{Rec}
-use Rattle.mcap_model.specs.declared.options.FileOptions.{FileOptions}
 use Rattle.mcap_model.specs.declared.ends.Stop.{Stop}
 use Rattle.mcap_model.specs.declared.refusals.ReadingRefused.{ReadingRefused}
-use Rattle.mcap_model.specs.Tops.{Top, Begins}
+use Rattle.mcap_model.specs.Tops.{Top}
 use Rattle.mcap_model.specs.Kept.{Good, reading_limits, Halt, at_end, grammar, compressed, beyond}
 use Rattle.mcap_model.specs.History.{is_message}
 use Rattle.mcap_model.specs.Blocks.{pieces_of, blocks_in}
-use Rattle.mcap_model.specs.File.{file_of, IsPrefix}
-use Rattle.mcap_model.specs.Repaired.{Repairs, Repaired}
+use Rattle.mcap_model.specs.File.{file_of}
+use Rattle.mcap_model.specs.Histories.{written_of}
+use Rattle.mcap_model.specs.Repaired.{Repairs}
 use Rattle.mcap_model.specs.declared.rules.Rule.{Rule}
 use Rattle.mcap_model.specs.declared.rules.Rule.TheVariants as rules
-use Rattle.mcap_scan.specs.RefusedReadings.{HaltsSo}
+use Rattle.mcap_scan.specs.RefusedReadings.{HaltsSo, FaultStands, MemoryStands}
+use Rattle.mcap_scan.specs.Sources.{FaultLeaves, MemoryLeaves}
 use Rattle.chunk_writer.specs.Limits.{Holds}
 use Rattle.chunk_writer.specs.declared.tape.Written.{Written}
 use Rattle.chunk_writer.specs.Stops.{StopsAt, StopCause}
+use Rattle.record_keeping.specs.NewFiles.{HasMagic, LacksMagic, recovered_options, OfRepaired, OfBoth, StandsPart, FaultsStill}
 use Rattle.mcap_recover.specs.declared.answers.Why.{Why}
 use Rattle.mcap_recover.specs.declared.answers.Why.TheVariants as whys
 use Rattle.mcap_recover.specs.declared.answers.Recovered.{Recovered}
@@ -28,14 +29,6 @@ use Rattle.mcap_recover.specs.declared.answers.Recovered.{Recovered}
 -- the answer where memory lacked beside the writer's own
 abbrev pub lacks : RecoverRefused
 lacks = refusals.Refused scans.Memory
-
--- the source's bytes begin with the magic
-abbrev pub HasMagic : SourceState → Type 0
-HasMagic before = (bytes : List ℕ) → before.left ≡ Some bytes → V1 bytes
-
--- how a recovered file is written: in chunks of that size, and of whatever span of log time
-abbrev pub recovered_options : List ℕ → ℕ → FileOptions
-recovered_options profile chunk = record { profile = profile; chunk = Some chunk; span = None }
 
 -- the reason that is answered is that of the halt
 abbrev pub TellsHalt : ℕ → Why → Halt → Type 0
@@ -68,58 +61,57 @@ pub record IsRecovered (chunk : ℕ) (before now : SourceState) (opened stored :
   pub still : stored.faults ≡ opened.faults
   pub through : stored.waiting ≡ 0
 
--- of each file that repairing makes of the source's bytes: this holds of its options, extras and history
-abbrev pub OfRepaired : ℕ → SourceState → (FileOptions → List Top → List Rec → Type 0) → Type 0
-OfRepaired chunk before holds = (bytes : List ℕ) → before.left ≡ Some bytes
-    → (profile : List ℕ) (extras : List Top) (history : List Rec) → Repaired bytes profile extras history
-    → holds (recovered_options profile chunk) extras history
+-- The reading broke off behind these records: the source failed, its count rose by one, and it is the one which is told; or memory
+-- lacked. Of a source that told its bytes a reading of those that it gave keeps just these records, and where memory lacked at
+-- most one more. Nothing else that halts a reading is a refusal.
+abbrev pub BreaksOff : ReadingRefused → SourceState → SourceState → List Top → Type 0
+BreaksOff (scans.Fault faults) before now tops = FaultStands faults before now tops
+BreaksOff (scans.Grammar offset rule) before now tops = ⊥
+BreaksOff (scans.Compressed offset name) before now tops = ⊥
+BreaksOff (scans.Limit offset) before now tops = ⊥
+BreaksOff scans.Memory before now tops = MemoryStands before now tops
 
--- Of good records that were read, with which the source's bytes begin where it tells them: this holds of the options, extras and
--- history of the file that repairing makes of these.
-pub record OfRead (chunk : ℕ) (before : SourceState) (holds : FileOptions → List Top → List Rec → Type 0) : Type 0 where
-  pub tops : List Top
-  pub good : Good reading_limits tops
-  pub read : (bytes : List ℕ) → before.left ≡ Some bytes → Begins bytes tops
+-- what is left of these bytes, where a reading broke off behind these records: the source failed, or memory lacked
+abbrev pub BreaksOffLeaving : ReadingRefused → List ℕ → List Top → Option (List ℕ) → Type 0
+BreaksOffLeaving (scans.Fault faults) bytes tops left = FaultLeaves bytes tops left
+BreaksOffLeaving (scans.Grammar offset rule) bytes tops left = ⊥
+BreaksOffLeaving (scans.Compressed offset name) bytes tops left = ⊥
+BreaksOffLeaving (scans.Limit offset) bytes tops left = ⊥
+BreaksOffLeaving scans.Memory bytes tops left = MemoryLeaves bytes tops left
+
+-- nothing was written: the source failed within its first record; or memory lacked for that, or for its profile
+abbrev pub IsUnbegun : ReadingRefused → List Top → Type 0
+IsUnbegun (scans.Fault faults) tops = tops ≡ []
+IsUnbegun (scans.Grammar offset rule) tops = ⊥
+IsUnbegun (scans.Compressed offset name) tops = ⊥
+IsUnbegun (scans.Limit offset) tops = ⊥
+IsUnbegun scans.Memory tops = length tops ≤ 1
+
+-- the bytes are the magic, the Header and all ripe blocks of what repairing makes of these records
+pub record AreRipe (chunk : ℕ) (tops : List Top) (text : List ℕ) : Type 0 where
   pub profile : List ℕ
   pub extras : List Top
   pub history : List Rec
   pub repairs : Repairs tops profile extras history
-  pub stands : holds (recovered_options profile chunk) extras history
+  pub are : text ≡ written_of (recovered_options profile chunk) history
 
--- it holds of both
-pub record OfBoth (chunk : ℕ) (before : SourceState) (holds : FileOptions → List Top → List Rec → Type 0) : Type 0 where
-  pub of_read : OfRead chunk before holds
-  pub of_repaired : OfRepaired chunk before holds
+-- such bytes stand behind what the store held, and are with the system
+pub record StandsRipe (chunk : ℕ) (tops : List Top) (opened stored : LiveState) : Type 0 where
+  pub text : List ℕ
+  pub ripe : AreRipe chunk tops text
+  pub adds : Adds opened.held stored.held text
+  pub through : stored.waiting ≡ 0
 
--- behind what the store held stands a first part of the file
-abbrev pub StandsPart : LiveState → LiveState → FileOptions → List Top → List Rec → Type 0
-StandsPart opened stored options extras history = (start : List ℕ) → opened.held ≡ Some start
-    → (text : List ℕ) × (stored.held ≡ Some (start ++ text)) × IsPrefix text (file_of options extras history)
-
--- the source doesn't begin with the magic
-abbrev pub LacksMagic : SourceState → Type 0
-LacksMagic before = (bytes : List ℕ) → before.left ≡ Some bytes → V1 bytes → ⊥
-
--- the store is as it was, or the source begins with the magic
-abbrev pub ChangedBehindMagic : SourceState → LiveState → LiveState → Type 0
-ChangedBehindMagic before opened stored = (stored ≡ opened) ⊎ HasMagic before
-
--- both stand still
-pub record FaultsStill (before now : SourceState) (opened stored : LiveState) : Type 0 where
-  pub source : now.faults ≡ before.faults
-  pub store : stored.faults ≡ opened.faults
-
--- The source failed, its count rose by one, and it is the one which is told; or memory lacked. Nothing else that halts a reading
--- is a refusal. The store holds a first part of the file, and its count stands still.
-abbrev pub IsUnrecovered : ℕ → SourceState → SourceState → LiveState → LiveState → ReadingRefused → Type 0
-IsUnrecovered chunk before now opened stored (scans.Fault faults) = RisesOnce before.faults now.faults
-    × (faults ≡ now.faults) × (stored.faults ≡ opened.faults) × ChangedBehindMagic before opened stored
-    × OfBoth chunk before (StandsPart opened stored)
-IsUnrecovered chunk before now opened stored (scans.Grammar offset rule) = ⊥
-IsUnrecovered chunk before now opened stored (scans.Compressed offset name) = ⊥
-IsUnrecovered chunk before now opened stored (scans.Limit offset) = ⊥
-IsUnrecovered chunk before now opened stored scans.Memory = FaultsStill before now opened stored
-    × ChangedBehindMagic before opened stored × OfBoth chunk before (StandsPart opened stored)
+-- The reading broke off behind these good records, and the front and all ripe blocks of them stand in the store, if anything was
+-- written. They are a first part of the file that repairing makes of all bytes. The count of the store stands still.
+pub record IsUnrecovered (chunk : ℕ) (before now : SourceState) (opened stored : LiveState) (why : ReadingRefused)
+    : Type 0 where
+  pub tops : List Top
+  pub good : Good reading_limits tops
+  pub broken : BreaksOff why before now tops
+  pub still : stored.faults ≡ opened.faults
+  pub keeps : (IsUnbegun why tops × (stored ≡ opened)) ⊎ (HasMagic before × StandsRipe chunk tops opened stored)
+  pub part : OfRepaired chunk before (StandsPart opened stored)
 
 -- The writer stopped at a piece of the file: the count of the store rose by one where it failed, and is the one which is told, and
 -- stands still else. That of the source stands still.

@@ -10,8 +10,9 @@ use Rattle.mcap_model.specs.File.{file_of}
 use Rattle.chunk_writer.specs.Limits.{Holds}
 use Rattle.chunk_writer.specs.declared.tape.Written.{Written}
 use Rattle.chunk_writer.specs.Stops.{StopsAt, StopCause}
-use Rattle.mcap_recover.specs.Keeping.{counted, KeepingStandsFor}
-use Rattle.mcap_recover.specs.declared.keeping.Keeping.{Keeping}
+use Rattle.record_keeping.specs.declared.keeping.Keeping.{Keeping}
+use Rattle.record_keeping.specs.Keeping.{counted, KeepingStandsFor}
+use Rattle.record_keeping.specs.Ending.{NewFile, new_file}
 use Rattle.mcap_recover.specs.declared.answers.Why.{Why}
 use Rattle.mcap_recover.specs.declared.answers.Recovered.{Recovered}
 use Rattle.mcap_recover.specs.declared.answers.RecoverRefused.{RecoverRefused}
@@ -23,16 +24,7 @@ AnswersSo extras history at why r = (r.at ≡ at) × (r.why ≡ why)
     × (r.messages ≡ counted (length (filter is_message history))) × (r.records ≡ counted (length history))
     × (r.extras ≡ counted (length extras))
 
--- what the new file is made of
-pub record Repair : Type 0 where
-  pub options : FileOptions
-  pub extras : List Top
-  pub history : List Rec
-
-abbrev pub repair : FileOptions → List Top → List Rec → Repair
-repair options extras history = record { options = options; extras = extras; history = history }
-
-abbrev pub Finished : LiveState → Repair → LiveState → LiveState → ℕ → Why → Result Recovered RecoverRefused → Type 0
+abbrev pub Finished : LiveState → NewFile → LiveState → LiveState → ℕ → Why → Result Recovered RecoverRefused → Type 0
 Finished last new opened stored at why (Ok r) = Adds opened.held stored.held (file_of new.options new.extras
     new.history) × AnswersSo new.extras new.history at why r
     × Holds (length (blocks_in (pieces_of new.options.chunk new.options.span new.history))) (length
@@ -48,4 +40,4 @@ abbrev pub FinishesFile : {L : Type 0} → (L → LiveState) → Keeping L → L
     → Result Recovered RecoverRefused → Type 0
 FinishesFile seen k stored at why result = (options : FileOptions) (extras : List Top) (opened : LiveState)
     (history : List Rec) → KeepingStandsFor seen options extras opened history k
-    → Finished (seen k.scribe.store) (repair options extras history) opened stored at why result
+    → Finished (seen k.scribe.store) (new_file options extras history) opened stored at why result

@@ -3,8 +3,6 @@
 #![tactic(auto)]
 
 mod answers;
-mod ids;
-mod keeping;
 mod recovering;
 
 pub use answers::{RecoverRefused, Recovered, Why};

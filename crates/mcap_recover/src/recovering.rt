@@ -1,36 +1,24 @@
 //! Recovery, from a source to a live store.
-ghost use Rattle.std.specs.Prelude.{◌≡◌, ◌≤◌, ℕ, [], IfOk, IfErr, OnOk};
+ghost use Rattle.std.specs.Prelude.{◌≡◌, ◌≤◌, ℕ, [], IfOk, OnOk};
 ghost use Rattle.mcap_wire.specs.Limits.{chunk_size_limit};
 ghost use Rattle.mcap_io.specs.Outside.{SourceState, LiveState};
-ghost use Rattle.rec_data.specs.Fields.{HeaderFields};
-ghost use Rattle.rec_data.specs.Records.{ShowsHeader};
 ghost use Rattle.mcap_scan.specs.Walking.{FlatAdvanced};
 ghost use Rattle.chunk_writer.specs.declared.phase.Phase.TheVariants as phases;
 ghost use Rattle.chunk_writer.specs.Stops.{Cause};
 ghost use Rattle.chunk_writer.specs.Scribes.{store_of, phase_of};
 ghost use Rattle.mcap_recover.specs.Recovering.{Recovers, lacks};
 ghost use Rattle.mcap_recover.specs.Readings.{BeginsReading, StartsSo, GrammarTold, HaltTold, Repairing, origin, ReadsOn};
-ghost use Rattle.mcap_recover.specs.Keeping.{CountsSo};
 ghost use Rattle.mcap_recover.specs.RecoverySteps.{FinishesFile};
 ghost use Rattle.mcap_model.specs.declared.options.FileOptions.{FileOptions as Options};
 
 use crate::answers::{RecoverRefused, Recovered, Why};
-use crate::keeping::{Keeping, keep_record};
 use chunk_writer::Scribe;
-use indexmap::IndexSet;
 use mcap_io::{LiveStore, Source};
 use mcap_model::{FileOptions, ReadingRefused, Rule, Stop};
 use mcap_scan::{FlatReader, FlatStep};
-use mcap_wire::{Memory, Text};
-use rec_data::Header;
+use mcap_wire::Text;
+use record_keeping::{Keeping, KeptCounts, Over, end_file, keep_record, keeping_of, profile_in};
 use std::alloc::Global;
-
-/// Where the reading came to its end: behind the Data End, or at a refusal that the reader keeps.
-#[derive(Clone, Copy)]
-pub(crate) enum Over {
-    Ended { at: u64 },
-    Refused,
-}
 
 // Memory lacked beside the writer's own.
 fn lacked() -> RecoverRefused
@@ -107,16 +95,6 @@ fn read_on<S: Source, L: LiveStore>(
     }
 }
 
-// The profile of a Header.
-fn profile_in(alloc: Global, content: &[u8]) -> Result<Text, Memory>
-    ensures { (f : HeaderFields) → ShowsHeader content.now f → IfOk result (λ profile. profile ≡ f.profile) }
-{
-    match Header::parse(content) {
-        Ok(header) => return Text::copied(alloc, header.profile),
-        Err(_) => return Text::copied(alloc, ""),
-    }
-}
-
 // The profile of the new file: that of the Header, or an empty one; or why there is no new file.
 fn profile_of(alloc: Global, reader: &FlatReader, first: FlatStep) -> Result<Text, RecoverRefused>
     ensures { (before now : SourceState) → FlatAdvanced reader.now before now [] [] first
@@ -149,23 +127,19 @@ fn profile_behind(alloc: Global, why: &ReadingRefused) -> Result<Text, RecoverRe
             if *offset == 0 {
                 return Err(RecoverRefused::NoMagic);
             }
-            return no_profile(alloc);
+            return Ok(no_profile(alloc));
         }
-        ReadingRefused::Compressed { .. } => return no_profile(alloc),
-        ReadingRefused::Limit { .. } => return no_profile(alloc),
+        ReadingRefused::Compressed { .. } => return Ok(no_profile(alloc)),
+        ReadingRefused::Limit { .. } => return Ok(no_profile(alloc)),
         ReadingRefused::Memory => return Err(lacked()),
     }
 }
 
 // An empty profile.
-fn no_profile(alloc: Global) -> Result<Text, RecoverRefused>
-    ensures ok { IfOk result (λ profile. profile ≡ []) }
-    ensures err { IfErr result (λ refusal. refusal ≡ lacks) }
+fn no_profile(alloc: Global) -> Text
+    ensures { result ≡ [] }
 {
-    match Text::copied(alloc, "") {
-        Ok(profile) => return Ok(profile),
-        Err(_) => return Err(lacked()),
-    }
+    Text::new(String::new(alloc))
 }
 
 // Ends the new file, and says what was recovered.
@@ -173,19 +147,15 @@ fn finish<L: LiveStore>(k: Keeping<L>, at: u64, why: Why) -> (L, Result<Recovere
     requires going { phase_of k.scribe ≡ phases.Going }
     ensures ends { FinishesFile L.state k (L.state result.0) at why result.1 }
 {
-    let mut k = k;
-    let finished = k.scribe.finish();
-    let Keeping {
-        scribe,
-        schemas: _,
-        channels: _,
-        messages,
-        records,
-        extras,
-    } = k;
-    let store = scribe.into_store();
-    match finished.end {
-        Ok(()) => {
+    let (store, ended) = end_file(k);
+    match ended {
+        Ok(
+            KeptCounts {
+                messages,
+                records,
+                extras,
+            },
+        ) => {
             let recovered = Recovered {
                 messages,
                 records,
@@ -199,27 +169,13 @@ fn finish<L: LiveStore>(k: Keeping<L>, at: u64, why: Why) -> (L, Result<Recovere
     }
 }
 
-// Nothing is kept yet.
-fn keeping_of<L>(alloc: Global, scribe: Scribe<L>) -> Keeping<L>
-    ensures scribe { result.scribe ≡ scribe }
-    ensures counts { CountsSo [] [] result }
-{
-    Keeping {
-        scribe,
-        schemas: IndexSet::new(alloc),
-        channels: IndexSet::new(alloc),
-        messages: 0,
-        records: 0,
-        extras: 0,
-    }
-}
-
 /// Writes the records that a reading of the source keeps as a new file into the store, which is empty where the file is to be read
 /// back: its Schemas, Channels and Messages in chunks of that size, in bytes, but for what declares an id again, and after them its
 /// extras, contents unchanged, in the order of the source. These are the Attachments, Metadata and records of applications (opcodes
 /// from 0x80) at top level; they wait in memory until all chunks stand. The other records are dropped, and those of applications
 /// inside chunks. The source is read once. A source that doesn't begin with the magic is refused, and the store is as it was; after
-/// other refusals the store holds a first part of the file.
+/// other refusals the store holds a first part of the file: where the source fails, or memory lacks, the Header and all blocks that
+/// the records up to there fill.
 pub fn recover<S: Source, L: LiveStore>(
     alloc: Global,
     source: &mut S,

@@ -1,21 +1,24 @@
--- The writer stopped at the end of the file.
-use Rattle.std.proofs.Common.{Result, sym, subst}
+-- The file was ended, or the writer stopped.
+use Rattle.std.proofs.Common.{Result, refl, subst}
 use Rattle.mcap_model.specs.declared.ends.Stop.{Stop}
-use Rattle.chunk_writer.specs.Stops.{numbers, StopsAt, StopCause, Cause, Ends}
+use Rattle.record_keeping.specs.declared.ending.KeptCounts.{KeptCounts}
+use Rattle.record_keeping.specs.Ending.{EndedFile, new_file}
 use Rattle.mcap_recover.proofs.recovering.finish.Goals as goal
+
+pub returns-in-Ok : goal.returns-in-Ok
+returns-in-Ok g c = record {
+  ends = λ options extras opened history keeps.
+      let state = g.L.LiveStore.state in
+      let k = c.args.k in
+      let (adds, counts, holds, still, through) =
+      subst (λ (e : Result KeptCounts Stop). EndedFile (state k.scribe.store) (new_file options extras history) opened (state c.end_file-store.result.0) e) c.in-Ok.is (c.end_file-store.ensures.ends options extras opened history keeps) in
+      let (messages, records, others) = counts in
+      (adds, (refl, refl, messages, records, others), holds, still, through);
+}
 
 pub returns-in-Err : goal.returns-in-Err
 returns-in-Err g c = record {
   ends = λ options extras opened history keeps.
       let state = g.L.LiveStore.state in
-      let f = c.finish-finished in
-      let stop = c.in-Err.stop in
-      let same = sym c.into_store-store.ensures in
-      let ended = (f.ensures.ends options extras opened history keeps.writes).0 in (
-        numbers f.result.blocks f.result.bytes,
-        subst (λ (s : g.row.L.Denot). StopsAt options extras history opened.held (state s).held stop (numbers f.result.blocks f.result.bytes)) same
-            (subst (λ (e : Result Unit Stop). Ends options extras opened.held (state f.new.self.store).held history (numbers f.result.blocks f.result.bytes) e) c.in-Err.is ended),
-        subst (λ (s : g.row.L.Denot). StopCause (state c.args.k.scribe.store).faults (state s).faults stop) same
-            (subst (λ (e : Result Unit Stop). Cause (state c.args.k.scribe.store).faults (state f.new.self.store).faults e) c.in-Err.is (f.ensures.cause c.requires.going)),
-      );
+      subst (λ (e : Result KeptCounts Stop). EndedFile (state c.args.k.scribe.store) (new_file options extras history) opened (state c.end_file-store.result.0) e) c.in-Err.is (c.end_file-store.ensures.ends options extras opened history keeps);
 }

@@ -4,8 +4,9 @@ use Rattle.mcap_model.specs.Made.{top}
 use Rattle.mcap_model.specs.Rules.{V6, V10}
 use Rattle.chunk_writer.specs.Stops.{StopCause}
 use Rattle.mcap_scan.specs.Walking.{IsFlatDone}
-use Rattle.mcap_recover.specs.Keeping.{AddsOneRecord}
-use Rattle.mcap_recover.proofs.Reading.{repairing_on, stopped_on_it, ended_over, refused_over, frame_held}
+use Rattle.record_keeping.specs.Keeping.{AddsOneRecord}
+use Rattle.record_keeping.proofs.Reading.{frame_held}
+use Rattle.mcap_recover.proofs.Reading.{repairing_on, stopped_on_it, ended_over, refused_over}
 use Rattle.mcap_recover.proofs.recovering.read_on.Goals as goal
 
 pub records-init : goal.records-init

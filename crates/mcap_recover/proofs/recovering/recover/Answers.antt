@@ -1,8 +1,9 @@
 -- The new file was ended, or it is said why not.
-use Rattle.std.proofs.Common.{Err, ℕ, [], refl, sym, ap, subst, ◌∙◌}
+use Rattle.std.proofs.Common.{Err, ℕ, [], sym, ap, subst, ◌∙◌}
 use Rattle.chunk_writer.specs.Scribes.{WritesHistory}
 use Rattle.chunk_writer.specs.Stops.{StopCause}
-use Rattle.mcap_recover.specs.Recovering.{recovered_options, Recovers}
+use Rattle.record_keeping.specs.NewFiles.{recovered_options}
+use Rattle.mcap_recover.specs.Recovering.{Recovers}
 use Rattle.mcap_recover.specs.declared.answers.RecoverRefused.TheVariants as refusals
 use Rattle.mcap_recover.proofs.Ending.{nothing_recovers, begun_recovers, open_recovers, begin_repairing, is_stopped_recovers, over_recovers, finish_recovers}
 use Rattle.mcap_recover.proofs.recovering.recover.Goals as goal
@@ -11,7 +12,7 @@ pub returns-in-Err-clause-recovers : goal.returns-in-Err-clause-recovers
 returns-in-Err-clause-recovers g c =
     let before = g.S.Source.state c.args.source.now in
     let opened = g.L.LiveStore.state c.args.store in
-    subst (λ r. Recovers c.args.chunk before before opened opened (Err r)) (sym c.lacked.ensures) (nothing_recovers c.args.chunk before before opened refl)
+    subst (λ r. Recovers c.args.chunk before before opened opened (Err r)) (sym c.lacked.ensures) (nothing_recovers c.args.chunk before opened)
 
 pub returns-in-Err-profile_of-clause-recovers : goal.returns-in-Err-profile_of-clause-recovers
 returns-in-Err-profile_of-clause-recovers g c =

@@ -14,8 +14,8 @@ use Rattle.mcap_model.specs.Written.{IsRec}
 use Rattle.mcap_model.specs.Repaired.{is_extra, ProfileIs, Repairs}
 use Rattle.mcap_model.proofs.Repairs.{fold_more, zip_join}
 use Rattle.mcap_scan.proofs.Walked.{walked_flat_tops}
-use Rattle.mcap_recover.specs.Keeping.{tops_at}
-use Rattle.mcap_recover.specs.Readings.{RepairsGiven}
+use Rattle.record_keeping.specs.Keeping.{tops_at}
+use Rattle.record_keeping.specs.Readings.{RepairsGiven}
 
 -- ---- some and none
 

@@ -3,7 +3,7 @@ use Rattle.std.proofs.Common.{sym, ap, ◌∙◌}
 use Rattle.std.proofs.lemmas.Bool.{false≢true}
 use Rattle.rec_data.proofs.OwnedReading.{framed_decided}
 use Rattle.mcap_model.specs.History.{is_inner}
-use Rattle.mcap_recover.proofs.keeping.put.Goals as goal
+use Rattle.record_keeping.proofs.keeping.put.Goals as goal
 
 pub put_bytes-requires-clause-framed : goal.put_bytes-requires-clause-framed
 put_bytes-requires-clause-framed g c = let (r, is) = c.requires.framed in (r, is.framed)

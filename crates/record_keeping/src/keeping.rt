@@ -1,9 +1,10 @@
 //! Keeping what records show, in a new file that is being written.
-ghost use Rattle.std.specs.Prelude.{◌≡◌, ◌+◌, ◌∷◌, [], ℕ, List, IfErr, OnOk, OnErr};
+ghost use Rattle.std.specs.Prelude.{◌≡◌, ◌+◌, ◌∷◌, [], ℕ, List, IfErr, OnOk};
 ghost use Rattle.mcap_wire.specs.Layout.{framed};
 ghost use Rattle.rec_data.specs.declared.owned.Rec.{Rec};
 ghost use Rattle.mcap_io.specs.Outside.{LiveState};
-ghost use Rattle.rec_data.specs.Records.{schema_opcode, channel_opcode, message_opcode};
+ghost use Rattle.rec_data.specs.Records.{schema_opcode, channel_opcode, message_opcode, ShowsSchema, ShowsChannel};
+ghost use Rattle.rec_data.specs.Parsed.{schema_fields, channel_fields};
 ghost use Rattle.mcap_model.specs.Tops.{Top};
 ghost use Rattle.mcap_model.specs.Made.{top};
 ghost use Rattle.mcap_model.specs.History.{is_message};
@@ -14,29 +15,42 @@ ghost use Rattle.chunk_build.specs.Chunker.{AreFramed, AreInner};
 ghost use Rattle.chunk_writer.specs.declared.phase.Phase.TheVariants as phases;
 ghost use Rattle.chunk_writer.specs.Stops.{Cause};
 ghost use Rattle.chunk_writer.specs.Scribes.{ScribeGrows, GathersExtra, store_of, phase_of};
-ghost use Rattle.mcap_recover.specs.Keeping.{AddsFlatRecords, AddsOneRecord, IsFrame, counted};
+ghost use Rattle.record_keeping.specs.Keeping.{AddsFlatRecords, AddsOneRecord, AddsRecords, CountsSo, IsFrame, counted, extras_of};
 
 use crate::ids::declare;
 use chunk_writer::Scribe;
 use indexmap::IndexSet;
 use mcap_io::LiveStore;
-use mcap_model::Stop;
+use mcap_model::{RecordView, Stop, view_record};
 use mcap_wire::{HEAD_LENGTH, add_bytes, add_head, make_room};
-use rec_data::{
-    APPLICATION, ATTACHMENT, CHANNEL, Channel, MESSAGE, METADATA, Message, SCHEMA, Schema,
-};
+use rec_data::{APPLICATION, ATTACHMENT, Channel, MESSAGE, METADATA, Schema};
 use std::alloc::Global;
 
 /// The scribe of the new file, the ids of the Schemas and of the Channels in it, and how many messages, records and extras it
 /// was given.
 #[derive(Drop)]
-pub(crate) struct Keeping<L> {
-    pub(crate) scribe: Scribe<L>,
-    pub(crate) schemas: IndexSet<u16>,
-    pub(crate) channels: IndexSet<u16>,
-    pub(crate) messages: u64,
-    pub(crate) records: u64,
-    pub(crate) extras: u64,
+pub struct Keeping<L> {
+    pub scribe: Scribe<L>,
+    pub schemas: IndexSet<u16>,
+    pub channels: IndexSet<u16>,
+    pub messages: u64,
+    pub records: u64,
+    pub extras: u64,
+}
+
+/// Nothing is kept yet.
+pub fn keeping_of<L>(alloc: Global, scribe: Scribe<L>) -> Keeping<L>
+    ensures scribe { result.scribe ≡ scribe }
+    ensures counts { CountsSo [] [] result }
+{
+    Keeping {
+        scribe,
+        schemas: IndexSet::new(alloc),
+        channels: IndexSet::new(alloc),
+        messages: 0,
+        records: 0,
+        extras: 0,
+    }
 }
 
 // Puts a framed record that is no extra behind the others, and counts it.
@@ -56,19 +70,20 @@ fn put<L: LiveStore>(k: &mut Keeping<L>, framed: &[u8]) -> Result<(), Stop>
     return Ok(());
 }
 
-// Keeps the Message that the bytes frame.
-fn keep_message<L: LiveStore>(k: &mut Keeping<L>, bytes: &[u8], content: &[u8]) -> Result<(), Stop>
+/// Keeps the Message that the bytes frame.
+pub fn keep_message<L: LiveStore>(
+    k: &mut Keeping<L>,
+    bytes: &[u8],
+    content: &[u8],
+) -> Result<(), Stop>
     requires going { phase_of k.old.scribe ≡ phases.Going }
+    requires v6 { V6 (top message_opcode content.now) }
     requires is { bytes.now ≡ framed message_opcode content.now }
     ensures takes { AddsFlatRecords L.state k.old k.new (top message_opcode content.now ∷ []) }
     ensures goes_on { OnOk result (phase_of k.new.scribe ≡ phases.Going) }
     ensures stopped { IfErr result (λ stop. phase_of k.new.scribe ≡ phases.Stopped stop) }
     ensures cause { Cause (L.state (store_of k.old.scribe)).faults (L.state (store_of k.new.scribe)).faults result }
 {
-    match Message::parse(content) {
-        Ok(_) => {}
-        Err(_) => return Ok(()),
-    }
     match put(k, bytes) {
         Ok(()) => {}
         Err(stop) => return Err(stop),
@@ -77,13 +92,14 @@ fn keep_message<L: LiveStore>(k: &mut Keeping<L>, bytes: &[u8], content: &[u8]) 
     return Ok(());
 }
 
-// Keeps the Message of that content, whose head isn't at hand.
-fn keep_lone_message<L: LiveStore>(
+/// Keeps the Message of that content, whose head isn't at hand.
+pub fn keep_lone_message<L: LiveStore>(
     alloc: Global,
     k: &mut Keeping<L>,
     content: &[u8],
 ) -> Result<(), Stop>
     requires going { phase_of k.old.scribe ≡ phases.Going }
+    requires v6 { V6 (top message_opcode content.now) }
     ensures takes { AddsFlatRecords L.state k.old k.new (top message_opcode content.now ∷ []) }
     ensures goes_on { OnOk result (phase_of k.new.scribe ≡ phases.Going) }
     ensures stopped { IfErr result (λ stop. phase_of k.new.scribe ≡ phases.Stopped stop) }
@@ -99,18 +115,20 @@ fn keep_lone_message<L: LiveStore>(
     return keep_message(k, bytes.as_slice(), content);
 }
 
-// Keeps the Schema of that content, if it is the first of its id. Bytes behind its fields are dropped.
-fn keep_schema<L: LiveStore>(alloc: Global, k: &mut Keeping<L>, content: &[u8]) -> Result<(), Stop>
+/// Keeps the Schema of that content, if it is the first of its id. Bytes behind its fields are dropped.
+pub fn keep_schema<L: LiveStore>(
+    alloc: Global,
+    k: &mut Keeping<L>,
+    schema: &Schema,
+) -> Result<(), Stop>
     requires going { phase_of k.old.scribe ≡ phases.Going }
-    ensures takes { AddsFlatRecords L.state k.old k.new (top schema_opcode content.now ∷ []) }
+    requires shown { (content : List ℕ) × ShowsSchema content schema.now.id (schema_fields schema.now) }
+    ensures takes { (content : List ℕ) → ShowsSchema content schema.now.id (schema_fields schema.now)
+        → AddsFlatRecords L.state k.old k.new (top schema_opcode content ∷ []) }
     ensures goes_on { OnOk result (phase_of k.new.scribe ≡ phases.Going) }
     ensures stopped { IfErr result (λ stop. phase_of k.new.scribe ≡ phases.Stopped stop) }
     ensures cause { Cause (L.state (store_of k.old.scribe)).faults (L.state (store_of k.new.scribe)).faults result }
 {
-    let schema = match Schema::parse(content) {
-        Ok(schema) => schema,
-        Err(_) => return Ok(()),
-    };
     match declare(&mut k.schemas, schema.id) {
         Ok(true) => {}
         Ok(false) => return Ok(()),
@@ -124,18 +142,20 @@ fn keep_schema<L: LiveStore>(alloc: Global, k: &mut Keeping<L>, content: &[u8]) 
     return put(k, bytes.as_slice());
 }
 
-// Does the same with a Channel. The order of its metadata stays.
-fn keep_channel<L: LiveStore>(alloc: Global, k: &mut Keeping<L>, content: &[u8]) -> Result<(), Stop>
+/// Does the same with a Channel. The order of its metadata stays.
+pub fn keep_channel<L: LiveStore>(
+    alloc: Global,
+    k: &mut Keeping<L>,
+    channel: &Channel,
+) -> Result<(), Stop>
     requires going { phase_of k.old.scribe ≡ phases.Going }
-    ensures takes { AddsFlatRecords L.state k.old k.new (top channel_opcode content.now ∷ []) }
+    requires shown { (content : List ℕ) × ShowsChannel content channel.now.id (channel_fields channel.now) }
+    ensures takes { (content : List ℕ) → ShowsChannel content channel.now.id (channel_fields channel.now)
+        → AddsFlatRecords L.state k.old k.new (top channel_opcode content ∷ []) }
     ensures goes_on { OnOk result (phase_of k.new.scribe ≡ phases.Going) }
     ensures stopped { IfErr result (λ stop. phase_of k.new.scribe ≡ phases.Stopped stop) }
     ensures cause { Cause (L.state (store_of k.old.scribe)).faults (L.state (store_of k.new.scribe)).faults result }
 {
-    let channel = match Channel::parse(content) {
-        Ok(channel) => channel,
-        Err(_) => return Ok(()),
-    };
     match declare(&mut k.channels, channel.id) {
         Ok(true) => {}
         Ok(false) => return Ok(()),
@@ -173,9 +193,36 @@ fn keep_extra<L: LiveStore>(k: &mut Keeping<L>, op: u8, content: &[u8]) -> Resul
     return Ok(());
 }
 
+/// Keeps a record that shows no Schema, Channel or Message, where it is an extra and stands at top level.
+pub fn keep_other<L: LiveStore>(
+    k: &mut Keeping<L>,
+    op: u8,
+    content: &[u8],
+    frame: Option<&[u8]>,
+) -> Result<(), Stop>
+    requires going { phase_of k.old.scribe ≡ phases.Going }
+    requires v6 { V6 (top op content.now) }
+    requires v10 { V10 (top op content.now) }
+    ensures takes { AddsRecords L.state k.old k.new (extras_of frame.entry (top op content.now)) [] }
+    ensures goes_on { OnOk result (phase_of k.new.scribe ≡ phases.Going) }
+    ensures stopped { IfErr result (λ stop. phase_of k.new.scribe ≡ phases.Stopped stop) }
+    ensures cause { Cause (L.state (store_of k.old.scribe)).faults (L.state (store_of k.new.scribe)).faults result }
+{
+    match frame {
+        // No record of an application is kept from inside a chunk.
+        Some(_) => return Ok(()),
+        None => {
+            if is_extra_kind(op) {
+                return keep_extra(k, op, content);
+            }
+            return Ok(());
+        }
+    }
+}
+
 /// Keeps what a record shows. The frame is the record with its head, where it stands inside a chunk; at top level there is none, and
 /// the record is kept where it is an extra.
-pub(crate) fn keep_record<L: LiveStore>(
+pub fn keep_record<L: LiveStore>(
     alloc: Global,
     k: &mut Keeping<L>,
     op: u8,
@@ -191,22 +238,18 @@ pub(crate) fn keep_record<L: LiveStore>(
     ensures stopped { IfErr result (λ stop. phase_of k.new.scribe ≡ phases.Stopped stop) }
     ensures cause { Cause (L.state (store_of k.old.scribe)).faults (L.state (store_of k.new.scribe)).faults result }
 {
-    match op {
-        MESSAGE => match frame {
+    match view_record(op, content) {
+        RecordView::Message(_) => match frame {
             Some(bytes) => return keep_message(k, bytes, content),
             None => return keep_lone_message(alloc, k, content),
         },
-        SCHEMA => return keep_schema(alloc, k, content),
-        CHANNEL => return keep_channel(alloc, k, content),
-        _ => match frame {
-            // No record of an application is kept from inside a chunk.
-            Some(_) => return Ok(()),
-            None => {
-                if is_extra_kind(op) {
-                    return keep_extra(k, op, content);
-                }
-                return Ok(());
-            }
-        },
+        RecordView::Schema(schema) => return keep_schema(alloc, k, &schema),
+        RecordView::Channel(channel) => return keep_channel(alloc, k, &channel),
+        RecordView::Header(_)
+        | RecordView::Chunk(_)
+        | RecordView::MessageIndex(_)
+        | RecordView::Attachment(_)
+        | RecordView::Metadata(_)
+        | RecordView::Other => return keep_other(k, op, content, frame),
     }
 }

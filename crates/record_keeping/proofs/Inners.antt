@@ -2,11 +2,10 @@
 use Rattle.std.proofs.Common.{◌≡◌, ℕ, ◌+◌, Bool, true, false, List, [], ◌∷◌, ◌++◌, Option, Some, None, refl, sym, ap, subst, ◌∙◌, arith}
 use Rattle.std.specs.Prelude.{filter, if◌then◌else◌}
 use Rattle.std.specs.List.{AllZip, list_any}
-use Rattle.std.proofs.lemmas.Bool.{ne_eqb, false≢true}
+use Rattle.std.proofs.lemmas.Bool.{ne_eqb}
 use Rattle.mcap_wire.specs.Layout.{framed}
 use Rattle.rec_data.specs.declared.owned.Rec.{Rec}
 use Rattle.rec_data.specs.declared.owned.Rec.TheVariants.{Schema, Channel, Message, Extra}
-use Rattle.rec_data.specs.Owned.{def_fields}
 use Rattle.rec_data.proofs.OwnedReading.{rec_shown, extra_not}
 use Rattle.rec_data.specs.Records.{ShowsMessage, ShowsSchema, ShowsChannel, schema_text, channel_text}
 use Rattle.mcap_io.specs.Outside.{LiveState}
@@ -18,12 +17,12 @@ use Rattle.mcap_model.specs.Made.{top}
 use Rattle.mcap_model.specs.Repaired.{is_extra}
 use Rattle.mcap_model.specs.Written.{IsRec}
 use Rattle.chunk_build.specs.Chunker.{AreFramed}
-use Rattle.mcap_recover.specs.declared.keeping.Keeping.{Keeping}
+use Rattle.record_keeping.specs.declared.keeping.Keeping.{Keeping}
 use Rattle.chunk_writer.specs.declared.phase.Phase.TheVariants as phases
 use Rattle.chunk_writer.specs.Scribes.{ScribeGrows, phase_of}
-use Rattle.mcap_recover.specs.Keeping.{is_declared, declared_with, counted, CountsSo, extras_of, AddsFlatRecords, AddsOneRecord, AddsRecords}
+use Rattle.record_keeping.specs.Keeping.{is_declared, declared_with, counted, CountsSo, extras_of, AddsFlatRecords, AddsOneRecord, AddsRecords}
 use denote.Ref.{Bor}
-use Rattle.mcap_recover.proofs.Keepings.{going_apart, schema_known, channel_known, message_known, adds_put, adds_left, takes_by, schema_counts, channel_counts, message_counts}
+use Rattle.record_keeping.proofs.Keepings.{going_apart, schema_known, channel_known, message_known, adds_put, adds_left, takes_by, schema_counts, channel_counts, message_counts}
 
 pub message_framed : (bytes content : List ℕ) (channel : ℕ) (m : MessageFields) → bytes ≡ framed 5 content → ShowsMessage content channel m → AreFramed bytes (message_of channel m)
 message_framed bytes content channel m is shown = record {
@@ -36,25 +35,6 @@ schema_framed bytes content id f is shown = record { spelled = is; shown = rec_s
 
 pub channel_framed : (bytes content : List ℕ) (id : ℕ) (f : ChannelFields) → bytes ≡ framed 4 (channel_text id f) → ShowsChannel content id f → AreFramed bytes (channel_of id f)
 channel_framed bytes content id f is shown = record { spelled = is; shown = rec_shown (channel_of id f) shown.1.fit }
-
--- a content that shows no record of a kind
-pub shown_no_message : (content : List ℕ) → ((channel : ℕ) (m : MessageFields) → ShowsMessage content channel m → ⊥) → (r : Rec) → IsRec (top 5 content) r → ⊥
-shown_no_message content none (Schema id schema) is = omega (arith, is.0)
-shown_no_message content none (Channel id schema topic encoding metadata) is = omega (arith, is.0)
-shown_no_message content none (Message channel sequence log_time publish_time payload) is = none channel (record { sequence = sequence; log_time = log_time; publish_time = publish_time; payload = payload }) is.1
-shown_no_message content none (Extra op bytes) is = extra_not op bytes 5 is.2 (omega arith) (sym is.0)
-
-pub shown_no_schema : (content : List ℕ) → ((id : ℕ) (f : SchemaFields) → ShowsSchema content id f → ⊥) → (r : Rec) → IsRec (top 3 content) r → ⊥
-shown_no_schema content none (Schema id schema) is = none id (def_fields schema) is.1
-shown_no_schema content none (Channel id schema topic encoding metadata) is = omega (arith, is.0)
-shown_no_schema content none (Message channel sequence log_time publish_time payload) is = omega (arith, is.0)
-shown_no_schema content none (Extra op bytes) is = extra_not op bytes 3 is.2 (omega arith) (sym is.0)
-
-pub shown_no_channel : (content : List ℕ) → ((id : ℕ) (f : ChannelFields) → ShowsChannel content id f → ⊥) → (r : Rec) → IsRec (top 4 content) r → ⊥
-shown_no_channel content none (Schema id schema) is = omega (arith, is.0)
-shown_no_channel content none (Channel id schema topic encoding metadata) is = none id (record { schema = schema; topic = topic; encoding = encoding; metadata = metadata }) is.1
-shown_no_channel content none (Message channel sequence log_time publish_time payload) is = omega (arith, is.0)
-shown_no_channel content none (Extra op bytes) is = extra_not op bytes 4 is.2 (omega arith) (sym is.0)
 
 -- ---- messages
 
@@ -152,11 +132,8 @@ none_left [] zip = refl
 none_left (r ∷ rs) zip = absurd zip
 
 -- no other kind shows anything that is kept
-other_none : (op : ℕ) (content : List ℕ) (records : List Rec) → (op ≡ 3 → ⊥) → (op ≡ 4 → ⊥) → (op ≡ 5 → ⊥) → AllZip IsRec (filter is_flat_kind (top op content ∷ [])) records → records ≡ []
-other_none op content records no3 no4 no5 zip =
-    let t = top op content in
-    let empty : filter is_flat_kind (t ∷ []) ≡ [] = ap (λ (b : Bool). if b then t ∷ [] else []) (flat_not op content no3 no4 no5) in
-    none_left records (subst (λ (l : List Top). AllZip IsRec l records) empty zip)
+pub flat_none : (op : ℕ) (content : List ℕ) → (op ≡ 3 → ⊥) → (op ≡ 4 → ⊥) → (op ≡ 5 → ⊥) → filter is_flat_kind (top op content ∷ []) ≡ []
+flat_none op content no3 no4 no5 = ap (λ (b : Bool). if b then top op content ∷ [] else []) (flat_not op content no3 no4 no5)
   where
     flat_not : (n : ℕ) (c : List ℕ) → (n ≡ 3 → ⊥) → (n ≡ 4 → ⊥) → (n ≡ 5 → ⊥) → is_flat_kind (top n c) ≡ false
     flat_not n c a b d = let x = ne_eqb 3 n (λ e. a (sym e)) in let y = ne_eqb 4 n (λ e. b (sym e)) in let z = ne_eqb 5 n (λ e. d (sym e)) in cc
@@ -166,14 +143,4 @@ pub other_taken : {L : Type 0} (seen : L → LiveState) (old new : Keeping L) (f
     → kept ≡ extras_of frame (top op content) → AddsRecords seen old new kept [] → AddsOneRecord seen old new frame (top op content)
 other_taken seen old new frame op content kept no3 no4 no5 is adds records zip =
     subst (λ (l : List Top). AddsRecords seen old new l records) is
-    (subst (λ (l : List Rec). AddsRecords seen old new kept l) (sym (other_none op content records no3 no4 no5 zip)) adds)
-
--- an extra at top level is kept
-pub extra_taken : {L : Type 0} (seen : L → LiveState) (old new : Keeping L) (frame : Option (Bor (List ℕ))) (op : ℕ) (content : List ℕ) → is_extra (top op content) ≡ true → extras_of frame (top op content) ≡ filter is_extra (top op content ∷ [])
-    → AddsRecords seen old new (top op content ∷ []) [] → AddsOneRecord seen old new frame (top op content)
-extra_taken seen old new frame op content is there adds =
-    let t = top op content in
-    other_taken seen old new frame op content (t ∷ []) (other 3 refl) (other 4 refl) (other 5 refl) (sym (there ∙ ap (λ (b : Bool). if b then t ∷ [] else []) is)) adds
-  where
-    other : (n : ℕ) → is_extra (top n content) ≡ false → op ≡ n → ⊥
-    other n none same = false≢true (sym none ∙ ap (λ (k : ℕ). is_extra (top k content)) (sym same) ∙ is)
+    (subst (λ (l : List Rec). AddsRecords seen old new kept l) (sym (none_left records (subst (λ (l : List Top). AllZip IsRec l records) (flat_none op content no3 no4 no5) zip))) adds)

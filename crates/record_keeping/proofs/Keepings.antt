@@ -19,8 +19,8 @@ use Rattle.chunk_writer.specs.declared.phase.Phase.{Phase}
 use Rattle.chunk_writer.specs.declared.phase.Phase.TheVariants as phases
 use Rattle.chunk_writer.specs.Scribes.{WritesHistory, ScribeGrows, GathersExtra, phase_of}
 use Rattle.chunk_writer.proofs.Taking.{stopped_on}
-use Rattle.mcap_recover.specs.declared.keeping.Keeping.{Keeping}
-use Rattle.mcap_recover.specs.Keeping.{is_declared, declared_with, record_id, counted, CountsSo, KeepingStandsFor, AddsRecords, AddsFlatRecords}
+use Rattle.record_keeping.specs.declared.keeping.Keeping.{Keeping}
+use Rattle.record_keeping.specs.Keeping.{is_declared, declared_with, record_id, counted, CountsSo, KeepingStandsFor, AddsRecords, AddsFlatRecords}
 
 pub going_apart : (p : Phase) (stop : Stop) → p ≡ phases.Stopped stop → p ≡ phases.Going → ⊥
 going_apart p stop stopped going = cc
@@ -94,10 +94,6 @@ pub takes_by : {L : Type 0} (seen : L → LiveState) (old new : Keeping L) (t : 
 takes_by seen old new t r is adds [] zip = absurd zip
 takes_by seen old new t r is adds (s ∷ []) zip = subst (λ (x : Rec). AddsRecords seen old new [] (x ∷ [])) (shown_once t.op t.content r s is zip.0) adds
 takes_by seen old new t r is adds (s ∷ u ∷ us) zip = absurd zip.1
-
-pub takes_absurd : {L : Type 0} (seen : L → LiveState) (old new : Keeping L) (t : Top) → ((r : Rec) → IsRec t r → ⊥) → AddsFlatRecords seen old new (t ∷ [])
-takes_absurd seen old new t none [] zip = absurd zip
-takes_absurd seen old new t none (s ∷ ss) zip = absurd (none s zip.0)
 
 -- ---- several records
 

@@ -3,7 +3,7 @@ use Rattle.std.proofs.lemmas.Result.{IfOk-weaker}
 use Rattle.mcap_wire.proofs.Contents.{shows_decided}
 use Rattle.rec_data.specs.Records.{header_kinds}
 use Rattle.rec_data.specs.Parsed.{header_fields}
-use Rattle.mcap_recover.proofs.recovering.profile_in.Goals as goal
+use Rattle.record_keeping.proofs.headers.profile_in.Goals as goal
 
 pub returns-in-Ok : goal.returns-in-Ok
 returns-in-Ok c f shows =

@@ -12,7 +12,7 @@ use Rattle.mcap_model.specs.Written.{IsRec}
 use Rattle.mcap_model.specs.Repaired.{is_extra}
 use Rattle.chunk_writer.specs.declared.phase.Phase.TheVariants as phases
 use Rattle.chunk_writer.specs.Scribes.{WritesHistory, phase_of}
-use Rattle.mcap_recover.specs.declared.keeping.Keeping.{Keeping}
+use Rattle.record_keeping.specs.declared.keeping.Keeping.{Keeping}
 use denote.Ref.{Bor}
 
 -- ---- ids that were declared

@@ -1,0 +1,5 @@
+pub mod Keepings
+pub mod Inners
+pub mod Given
+pub mod Reading
+pub mod Files
