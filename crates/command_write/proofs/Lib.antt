@@ -4,3 +4,4 @@ mod RefusedReadings
 mod MergedStores
 mod Mergings
 pub mod Merges
+pub mod Filterings

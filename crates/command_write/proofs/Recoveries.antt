@@ -9,6 +9,7 @@ use Rattle.mcap_io.specs.declared.outside.Failed.{Failed}
 use Rattle.rec_data.specs.declared.owned.Rec.{Rec}
 use Rattle.mcap_model.specs.declared.ends.Stop.TheVariants as stops
 use Rattle.mcap_model.specs.Tops.{Top}
+use Rattle.mcap_model.specs.Rules.{V1}
 use Rattle.mcap_model.specs.File.{file_of, IsPrefix}
 use Rattle.mcap_model.specs.Pieces.{file_pieces}
 use Rattle.mcap_model.specs.Repaired.{Repaired}
@@ -19,7 +20,8 @@ use Rattle.mcap_recover.specs.declared.answers.RecoverRefused.TheVariants as ref
 use Rattle.mcap_model.specs.declared.ends.Stop.{Stop}
 use Rattle.mcap_model.specs.declared.refusals.ReadingRefused.{ReadingRefused}
 use Rattle.mcap_model.specs.declared.refusals.ReadingRefused.TheVariants as scans
-use Rattle.mcap_recover.specs.Recovering.{lacks, recovered_options, OfBoth, StandsPart, IsUnrecovered, Recovers}
+use Rattle.record_keeping.specs.NewFiles.{recovered_options, OfBoth}
+use Rattle.mcap_recover.specs.Recovering.{lacks, BreaksOff, BreaksOffLeaving, IsUnbegun, AreRipe, IsUnrecovered, Recovers}
 use Rattle.chunk_writer.specs.declared.tape.Written.{Written}
 use Rattle.chunk_writer.specs.Stops.{StopsAt, StopCause}
 use Rattle.command_base.specs.Printing.{TellsAll, Tells, Takes}
@@ -35,7 +37,7 @@ use Rattle.command_base.specs.Endings.{writing_status, IsWritingDone}
 use Rattle.command_base.specs.OutputSteps.{HaltsByInput, NamesEnd}
 use Rattle.command_base.specs.Outputs.{WritesOutput}
 use Rattle.command_base.proofs.Endings.{halts_well, none_halts_well}
-use Rattle.command_write.specs.Recover.{IsPlaced, HoldsPart, UnreadHolds, RecoveryOutputHolds, BothReached, RefusesRecovery, recovery_of, IsRecovery, unread_ending, stopped_ending, ending_of_recovery, number_after_name, recovered_line, both_names, ReadingDecides, RecoveryStopDecides, RecoveryDecides, RecoversFile}
+use Rattle.command_write.specs.Recover.{IsPlaced, HoldsPart, HoldsRipe, RecoveryOutputHolds, BothReached, RefusesRecovery, recovery_of, IsRecovery, unread_ending, stopped_ending, ending_of_recovery, number_after_name, recovered_line, both_names, ReadingDecides, RecoveryStopDecides, RecoveryDecides, RecoversFile}
 use Rattle.command_write.specs.RecoverSteps.{unopened_recovery, NamesRecovered}
 use Rattle.command_write.proofs.Names.{BothKept, as_names, NotGiven, no_entries, alone_entries, BothGiven, both_entries, both_placed, nothing_yet, both_kept}
 
@@ -87,17 +89,6 @@ record HasPart (chunk : ℕ) (bytes : List ℕ) (held : Option (List ℕ)) : Typ
   is : held ≡ Some text
   part : (profile : List ℕ) (extras : List Top) (history : List Rec) → Repaired bytes profile extras history → IsPrefix text (file_of (recovered_options profile chunk) extras history)
 
-stands_part : (chunk : ℕ) (source : SourceState) (live stored : LiveState) (bytes : List ℕ) → source.left ≡ Some bytes → live.held ≡ Some [] → OfBoth chunk source (StandsPart live stored) → HasPart chunk bytes stored.held
-stands_part chunk source live stored bytes told none it =
-    let first = it.of_read.stands [] none in
-    record {
-      text = first.0;
-      is = first.1;
-      part = λ profile extras history repaired.
-          let other = it.of_repaired bytes told profile extras history repaired [] none in
-          subst (λ (l : List ℕ). IsPrefix l (file_of (recovered_options profile chunk) extras history)) (same_Some other.0 first.0 (sym other.1 ∙ first.1)) other.2;
-    }
-
 stops_part : (chunk : ℕ) (stop : Stop) (written : Written) (source : SourceState) (live stored : LiveState) (bytes : List ℕ) → source.left ≡ Some bytes → live.held ≡ Some []
     → OfBoth chunk source (λ options extras history. StopsAt options extras history live.held stored.held stop written) → HasPart chunk bytes stored.held
 stops_part chunk stop written source live stored bytes told none it =
@@ -114,13 +105,6 @@ stops_part chunk stop written source live stored bytes told none it =
           subst (λ (l : List ℕ). IsPrefix l (file_of options extras history)) (same_Some other.0 first.0 (sym other.1 ∙ first.1)) whole;
     }
 
-unread_part : (chunk : ℕ) (source back : SourceState) (live stored : LiveState) (why : ReadingRefused) (bytes : List ℕ) → source.left ≡ Some bytes → live.held ≡ Some [] → IsUnrecovered chunk source back live stored why → HasPart chunk bytes stored.held
-unread_part chunk source back live stored (scans.Fault faults) bytes told none (rises, carried, still, changed, part) = stands_part chunk source live stored bytes told none part
-unread_part chunk source back live stored (scans.Grammar offset rule) bytes told none it = absurd it
-unread_part chunk source back live stored (scans.Compressed offset name) bytes told none it = absurd it
-unread_part chunk source back live stored (scans.Limit offset) bytes told none it = absurd it
-unread_part chunk source back live stored scans.Memory bytes told none (still, changed, part) = stands_part chunk source live stored bytes told none part
-
 part_placed : (chunk : ℕ) (bytes out : List ℕ) (all now : Names) (held : Option (List ℕ)) (result : Result Unit Failed) → HasPart chunk bytes held → ((text : List ℕ) → held ≡ Some text → PlacedUnder all now out text result)
     → HoldsPart chunk bytes (went_well result) (all out) (now out)
 part_placed chunk bytes out all now held result it placed = record {
@@ -129,16 +113,43 @@ part_placed chunk bytes out all now held result it placed = record {
   part = it.part;
 }
 
-held_unread : (chunk : ℕ) (source back : SourceState) (live stored : LiveState) (why : ReadingRefused) (bytes : List ℕ) (kept : Bool) (before now : Option (List ℕ)) → IsUnrecovered chunk source back live stored why → HoldsPart chunk bytes kept before now
-    → UnreadHolds chunk bytes why kept before now
-held_unread chunk source back live stored (scans.Fault faults) bytes kept before now it part = part
-held_unread chunk source back live stored (scans.Grammar offset rule) bytes kept before now it part = absurd it
-held_unread chunk source back live stored (scans.Compressed offset name) bytes kept before now it part = absurd it
-held_unread chunk source back live stored (scans.Limit offset) bytes kept before now it part = absurd it
-held_unread chunk source back live stored scans.Memory bytes kept before now it part = part
+leaves_so : (why : ReadingRefused) (before now : SourceState) (tops : List Top) (bytes : List ℕ) → BreaksOff why before now tops → before.left ≡ Some bytes → BreaksOffLeaving why bytes tops now.left
+leaves_so (scans.Fault faults) before now tops bytes it told = it.leaves bytes told
+leaves_so (scans.Grammar offset rule) before now tops bytes it told = absurd it
+leaves_so (scans.Compressed offset name) before now tops bytes it told = absurd it
+leaves_so (scans.Limit offset) before now tops bytes it told = absurd it
+leaves_so scans.Memory before now tops bytes it told = it.leaves bytes told
+
+-- what the store holds of records behind which a reading broke off
+record HasRipe (chunk : ℕ) (bytes : List ℕ) (why : ReadingRefused) (tops : List Top) (held : Option (List ℕ)) : Type 0 where
+  text : List ℕ
+  is : held ≡ Some text
+  keeps : (IsUnbegun why tops × (text ≡ [])) ⊎ (V1 bytes × AreRipe chunk tops text)
+
+has_ripe : (chunk : ℕ) (source back : SourceState) (live stored : LiveState) (why : ReadingRefused) (bytes : List ℕ) → source.left ≡ Some bytes → live.held ≡ Some [] → (it : IsUnrecovered chunk source back live stored why) → HasRipe chunk bytes why it.tops stored.held
+has_ripe chunk source back live stored why bytes told none it = elim it.keeps [
+  | inl (few, same) ↦ record { text = []; is = ap (λ (s : LiveState). s.held) same ∙ none; keeps = inl (few, refl) }
+  | inr (magic, ripe) ↦ record { text = ripe.text; is = ripe.adds [] none; keeps = inr (magic bytes told, ripe.ripe) }
+]
+
+holds_ripe : (chunk : ℕ) (source back : SourceState) (live stored : LiveState) (why : ReadingRefused) (bytes out : List ℕ) (all now : Names) (result : Result Unit Failed) → IsUnrecovered chunk source back live stored why
+    → source.left ≡ Some bytes → live.held ≡ Some [] → ((text : List ℕ) → stored.held ≡ Some text → PlacedUnder all now out text result) → HoldsRipe chunk bytes back.left why (went_well result) (all out) (now out)
+holds_ripe chunk source back live stored why bytes out all now result it told none placed =
+    let has = has_ripe chunk source back live stored why bytes told none it in
+    record {
+      tops = it.tops;
+      good = it.good;
+      broken = leaves_so why source back it.tops bytes it.broken told;
+      text = has.text;
+      keeps = has.keeps;
+      placed = placed_so has.text all now out result (placed has.text has.is);
+      part = λ profile extras history repaired.
+          let other = it.part bytes told profile extras history repaired [] none in
+          subst (λ (l : List ℕ). IsPrefix l (file_of (recovered_options profile chunk) extras history)) (same_Some other.0 has.text (sym other.1 ∙ has.is)) other.2;
+    }
 
 output_holds : (chunk : ℕ) (source back : SourceState) (live stored : LiveState) (answer : Result Recovered RecoverRefused) (bytes out : List ℕ) (all now : Names) (result : Result Unit Failed) → Recovers chunk source back live stored answer
-    → source.left ≡ Some bytes → live.held ≡ Some [] → ((text : List ℕ) → stored.held ≡ Some text → PlacedUnder all now out text result) → RecoveryOutputHolds chunk bytes answer (went_well result) (all out) (now out)
+    → source.left ≡ Some bytes → live.held ≡ Some [] → ((text : List ℕ) → stored.held ≡ Some text → PlacedUnder all now out text result) → RecoveryOutputHolds chunk bytes back.left answer (went_well result) (all out) (now out)
 output_holds chunk source back live stored (Ok r) bytes out all now result it told none placed = record {
   magic = it.magic bytes told;
   tops = it.tops;
@@ -157,7 +168,7 @@ output_holds chunk source back live stored (Ok r) bytes out all now result it to
 }
 output_holds chunk source back live stored (Err refusals.NoMagic) bytes out all now result it told none placed = (it.0 bytes told, placed_so [] all now out result (placed [] (ap (λ (l : LiveState). l.held) it.2 ∙ none)))
 output_holds chunk source back live stored (Err (refusals.Refused why)) bytes out all now result it told none placed =
-    held_unread chunk source back live stored why bytes (went_well result) (all out) (now out) it (part_placed chunk bytes out all now stored.held result (unread_part chunk source back live stored why bytes told none it) placed)
+    holds_ripe chunk source back live stored why bytes out all now result it told none placed
 output_holds chunk source back live stored (Err (refusals.Stopped stop)) bytes out all now result it told none placed = part_placed chunk bytes out all now stored.held result (stops_part chunk stop it.written source live stored bytes told none it.stops) placed
 
 -- ---- both were given
@@ -170,10 +181,10 @@ fault_shows input chunk source back live stored (Err refusals.NoMagic) first sec
 fault_shows input chunk source back live stored (Err (refusals.Refused why)) first second it unused new e = unread why it e
   where
     unread : (w : ReadingRefused) → IsUnrecovered chunk source back live stored w → (unread_ending w).fails ≡ true → (failed_so first back.faults ≡ true) ⊎ (failed_so second stored.faults ≡ true)
-    unread (scans.Fault faults) (rises, carried, still, changed, part) is = inl (failed_often first back.faults (λ none. let once = rises.once in omega (arith, once, none, unused)))
-    unread (scans.Grammar offset rule) none is = absurd none
-    unread (scans.Compressed offset name) none is = absurd none
-    unread (scans.Limit offset) none is = absurd none
+    unread (scans.Fault faults) off is = inl (failed_often first back.faults (λ none. let rises = off.broken.rises in let once = rises.once in omega (arith, once, none, unused)))
+    unread (scans.Grammar offset rule) off is = absurd off.broken
+    unread (scans.Compressed offset name) off is = absurd off.broken
+    unread (scans.Limit offset) off is = absurd off.broken
     unread scans.Memory lacking is = absurd cc
 fault_shows input chunk source back live stored (Err (refusals.Stopped stop)) first second it unused new e = unwritten stop it.store e
   where
@@ -262,9 +273,9 @@ reached_decides chunk input out bytes old new entries (Err (refusals.Refused why
   where
     unread : (w : ReadingRefused) → IsUnrecovered chunk it.source it.back it.live it.stored w → ((unread_ending w).fails ≡ true → ⊥) → status ≡ writing_status (unread_ending w) → ReadingDecides w status
     unread (scans.Fault faults) failed others same = absurd (others refl)
-    unread (scans.Grammar offset rule) none others same = absurd none
-    unread (scans.Compressed offset name) none others same = absurd none
-    unread (scans.Limit offset) none others same = absurd none
+    unread (scans.Grammar offset rule) off others same = absurd off.broken
+    unread (scans.Compressed offset name) off others same = absurd off.broken
+    unread (scans.Limit offset) off others same = absurd off.broken
     unread scans.Memory lacking others same = same
 reached_decides chunk input out bytes old new entries (Err (refusals.Stopped stop)) told status it here there other is = unwritten stop other is
   where

@@ -2,7 +2,9 @@
 pub mod Halting
 pub mod Recover
 pub mod Merge
+pub mod Filter
 -- What the functions of this crate and its proofs say besides.
 pub mod HaltingSteps
 pub mod MergeSteps
 pub mod RecoverSteps
+pub mod FilterSteps

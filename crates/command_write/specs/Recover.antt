@@ -5,7 +5,7 @@ use Rattle.mcap_io.specs.Outside.{SourceState, LiveState, WorldState, Told, Open
 use Rattle.mcap_io.specs.declared.outside.ObjectKind.TheVariants as kinds
 use Rattle.mcap_model.specs.Tops.{Top}
 use Rattle.mcap_model.specs.Rules.{V1}
-use Rattle.mcap_model.specs.Kept.{Halt, reading_limits, Halts}
+use Rattle.mcap_model.specs.Kept.{Good, Halt, reading_limits, Halts}
 use Rattle.mcap_model.specs.History.{is_message}
 use Rattle.mcap_model.specs.Blocks.{pieces_of, blocks_in}
 use Rattle.mcap_model.specs.File.{file_of, IsPrefix}
@@ -20,7 +20,8 @@ use Rattle.mcap_model.specs.declared.refusals.ReadingRefused.{ReadingRefused}
 use Rattle.mcap_model.specs.declared.refusals.ReadingRefused.TheVariants as scans
 use Rattle.mcap_model.specs.declared.ends.Stop.{Stop}
 use Rattle.mcap_model.specs.declared.ends.Stop.TheVariants as stops
-use Rattle.mcap_recover.specs.Recovering.{lacks, recovered_options, TellsHalt, Recovers}
+use Rattle.record_keeping.specs.NewFiles.{recovered_options}
+use Rattle.mcap_recover.specs.Recovering.{lacks, TellsHalt, BreaksOffLeaving, IsUnbegun, AreRipe, Recovers}
 use Rattle.command_base.specs.declared.statuses.Status.{Status}
 use Rattle.command_base.specs.declared.statuses.Status.TheVariants as statuses
 use Rattle.command_base.specs.Texts.{grammar}
@@ -69,22 +70,29 @@ pub record HoldsPart (chunk : ℕ) (bytes : List ℕ) (well : Bool) (before now 
 abbrev pub NoMagicHolds : List ℕ → Bool → Option (List ℕ) → Option (List ℕ) → Type 0
 NoMagicHolds bytes well before now = (V1 bytes → ⊥) × IsPlaced [] well before now
 
--- a first part, where the source failed or memory lacked; a reading is refused for nothing else
-abbrev pub UnreadHolds : ℕ → List ℕ → ReadingRefused → Bool → Option (List ℕ) → Option (List ℕ) → Type 0
-UnreadHolds chunk bytes (scans.Fault faults) well before now = HoldsPart chunk bytes well before now
-UnreadHolds chunk bytes (scans.Grammar offset rule) well before now = ⊥
-UnreadHolds chunk bytes (scans.Compressed offset name) well before now = ⊥
-UnreadHolds chunk bytes (scans.Limit offset) well before now = ⊥
-UnreadHolds chunk bytes scans.Memory well before now = HoldsPart chunk bytes well before now
+-- The reading broke off behind these good records. The magic, the Header and all ripe blocks of what repairing makes of them were
+-- put there; or nothing, where not even the Header was read, or memory lacked for its profile. It is a first part of the file that
+-- repairing makes of all bytes.
+pub record HoldsRipe (chunk : ℕ) (bytes : List ℕ) (left : Option (List ℕ)) (why : ReadingRefused) (well : Bool)
+    (before now : Option (List ℕ)) : Type 0 where
+  pub tops : List Top
+  pub good : Good reading_limits tops
+  pub broken : BreaksOffLeaving why bytes tops left
+  pub text : List ℕ
+  pub keeps : (IsUnbegun why tops × (text ≡ [])) ⊎ (V1 bytes × AreRipe chunk tops text)
+  pub placed : IsPlaced text well before now
+  pub part : (profile : List ℕ) (extras : List Top) (history : List Rec) → Repaired bytes profile extras history
+      → IsPrefix text (file_of (recovered_options profile chunk) extras history)
 
--- of these bytes, by what a recovery answered
-abbrev pub RecoveryOutputHolds : ℕ → List ℕ → Result Recovered RecoverRefused → Bool → Option (List ℕ) → Option (List ℕ)
-    → Type 0
-RecoveryOutputHolds chunk bytes (Ok r) well before now = HoldsRecovered chunk bytes r well before now
-RecoveryOutputHolds chunk bytes (Err refusals.NoMagic) well before now = NoMagicHolds bytes well before now
-RecoveryOutputHolds chunk bytes (Err (refusals.Refused why)) well before now =
-    UnreadHolds chunk bytes why well before now
-RecoveryOutputHolds chunk bytes (Err (refusals.Stopped stop)) well before now = HoldsPart chunk bytes well before now
+-- of these bytes, of which this is left, by what a recovery answered
+abbrev pub RecoveryOutputHolds : ℕ → List ℕ → Option (List ℕ) → Result Recovered RecoverRefused → Bool
+    → Option (List ℕ) → Option (List ℕ) → Type 0
+RecoveryOutputHolds chunk bytes left (Ok r) well before now = HoldsRecovered chunk bytes r well before now
+RecoveryOutputHolds chunk bytes left (Err refusals.NoMagic) well before now = NoMagicHolds bytes well before now
+RecoveryOutputHolds chunk bytes left (Err (refusals.Refused why)) well before now =
+    HoldsRipe chunk bytes left why well before now
+RecoveryOutputHolds chunk bytes left (Err (refusals.Stopped stop)) well before now =
+    HoldsPart chunk bytes well before now
 
 -- ---- the names
 
@@ -103,10 +111,10 @@ pub record BothReached (chunk : ℕ) (input out : List ℕ) (old new : WorldStat
   pub tells : TellsName old input source
   pub unused : source.faults ≡ 0
   pub live_unused : live.faults ≡ 0
-  -- and then the output's name holds what was recovered of these bytes
+  -- and then the output's name holds what was recovered of these bytes, some of which the source may have left
   pub file : (told now : Told) (bytes : List ℕ) → old.told ≡ Some told → new.told ≡ Some now
       → told.names input ≡ Some bytes
-      → RecoveryOutputHolds chunk bytes result live_kept (told.names out) (now.names out)
+      → RecoveryOutputHolds chunk bytes back.left result live_kept (told.names out) (now.names out)
   pub kept_are : entries
       ≡ kept kinds.Source input (record { well = source_kept; faults = back.faults; left = back.left; asked = 0 })
       ∷ kept kinds.Live out (record { well = live_kept; faults = stored.faults; left = None; asked = 0 }) ∷ []

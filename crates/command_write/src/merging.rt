@@ -188,9 +188,9 @@ fn print_merging<O: Sink>(out: &mut O, inputs: &[Text], merging: &Merging)
     }
 }
 
-// The input that was halted, and the complaint of it, if there is one.
+/// The input that was halted, and the complaint of it, if there is one.
 #[tactic(auto, using(crate::proofs::RefusedReadings::halted_some, crate::proofs::RefusedReadings::halted_none))]
-fn halted_at(input: u32, complaint: Option<Complaint<'_>>) -> Option<Halted<'_>>
+pub(crate) fn halted_at(input: u32, complaint: Option<Complaint<'_>>) -> Option<Halted<'_>>
     ensures { (ending : OneEnding) → complained complaint.entry ≡ troubles_in ending
         → halted_lists result ≡ (ending_at input ending).halts }
 {
@@ -236,8 +236,8 @@ fn halted_in<'a>(inputs: &'a [Text], merging: &'a Merging) -> Option<Halted<'a>>
     }
 }
 
-// Whether the writing stopped at a limit.
-fn stops_at_limit(stop: &Stop) -> bool
+/// Whether the writing stopped at a limit.
+pub(crate) fn stops_at_limit(stop: &Stop) -> bool
     ensures { result ≡ (stop_ending stop.now).passes_limit }
 {
     match stop {
@@ -246,8 +246,8 @@ fn stops_at_limit(stop: &Stop) -> bool
     }
 }
 
-// Whether it stopped for want of memory.
-fn stops_for_memory(stop: &Stop) -> bool
+/// Whether it stopped for want of memory.
+pub(crate) fn stops_for_memory(stop: &Stop) -> bool
     ensures { result ≡ (stop_ending stop.now).lacks_memory }
 {
     match stop {

@@ -1,0 +1,9 @@
+mod Finding
+mod Growing
+mod Standing
+mod Completing
+mod Choosing
+mod Messages
+mod Walking
+mod Ended
+mod Written
