@@ -1,7 +1,8 @@
 -- From what is begun to what is written.
 use Rattle.std.proofs.Common.{◌≡◌, ℕ, zero, suc, ◌+◌, List, [], ◌∷◌, ◌++◌, length, take, drop, refl, sym, ap, subst, ◌∙◌, append-nil}
-use Rattle.std.specs.Prelude.{min, ◌-◌, ◌^◌}
+use Rattle.std.specs.Prelude.{min, ◌-◌, ◌^◌, Err}
 use Rattle.std.specs.List.{AllZip}
+use Rattle.mcap_io.specs.Stores.{StoreState}
 use Rattle.rec_data.specs.declared.owned.Rec.{Rec}
 use Rattle.mcap_model.specs.Tops.{Top}
 use Rattle.merge_walk.specs.declared.pieces.Piece.{Piece}
@@ -9,7 +10,10 @@ use Rattle.merge_walk.specs.declared.walk.Walk.{Walk}
 use Rattle.merge_walk.specs.Pieces.{InputBytes, pieces_size}
 use Rattle.merge_walk.specs.Stores.{unasked}
 use Rattle.merge_walk.specs.Walks.{pieces_in, peak_of, IsTextOf, WalkStands}
+use Rattle.chunk_writer.specs.Stops.{StopCause}
 use Rattle.mcap_merge.specs.declared.answers.Merged.{Merged}
+use Rattle.mcap_merge.specs.declared.answers.MergeRefused.{MergeRefused}
+use Rattle.mcap_merge.specs.declared.answers.MergeRefused.TheVariants as merges
 use Rattle.mcap_merge.specs.declared.input.Input.{Input}
 use Rattle.mcap_merge.specs.declared.joining.Joiner.{Joiner}
 use Rattle.mcap_merge.specs.declared.starting.Begun.{Begun}
@@ -17,7 +21,7 @@ use Rattle.mcap_merge.specs.ReadInputs.{read_tops}
 use Rattle.mcap_merge.specs.Uses.{history_of}
 use Rattle.mcap_merge.specs.Joining.{JoinerStands}
 use Rattle.mcap_merge.specs.Writing.{extras_of}
-use Rattle.mcap_merge.specs.Turns.{IsUseOfTurn, sources, PutSoFar, PutAll, PutSome}
+use Rattle.mcap_merge.specs.Turns.{IsUseOfTurn, sources, PutSoFar, PutAll, PutSome, PutCounts}
 use Rattle.mcap_merge.specs.Putting.{IsBegun, MergeStart, WholeStands, PartStands}
 use Rattle.mcap_merge.proofs.Counted.{counts}
 use Rattle.mcap_merge.proofs.Profiles.{zip_length}
@@ -96,3 +100,11 @@ module _ {P : Type 0} (adds : P → P → List Top → List Rec → Type 0) wher
               (us, zip, (behind old mid all (extras_of start.inputs) (history_of us) added added_all, counts j us m declared joined.ids_are is many records));
           peak = peak;
         }
+
+-- the counts of turns that weren't all put, behind extras that were
+pub counts_behind_extras : (X Y : Type 0) (olds news : List StoreState) (before mid now : ℕ) (why : MergeRefused) → mid ≡ before → PutCounts {X = X} olds news mid now (Err why) → PutCounts {X = Y} olds news before now (Err why)
+counts_behind_extras X Y olds news before mid now (merges.Halted input why) same it = (it.0, it.1 ∙ same)
+counts_behind_extras X Y olds news before mid now (merges.Changed input offset) same it = (it.0, it.1 ∙ same)
+counts_behind_extras X Y olds news before mid now merges.TooManySchemas same it = it
+counts_behind_extras X Y olds news before mid now merges.TooManyChannels same it = it
+counts_behind_extras X Y olds news before mid now (merges.Stopped stop) same it = (it.0, subst (λ (n : ℕ). StopCause n now stop) same it.1)

@@ -1,8 +1,9 @@
 -- The pieces of inputs whose spans fit, and how many bytes of them are held at one time.
-use Rattle.std.proofs.Common.{◌≡◌, ℕ, zero, suc, ◌+◌, ◌<◌, ◌≤◌, Bool, true, false, List, [], ◌∷◌, length, refl, sym, ap, subst, inl, inr, ◌∙◌, arith}
+use Rattle.std.proofs.Common.{◌≡◌, ℕ, zero, suc, ◌+◌, ◌<◌, ◌≤◌, Bool, true, false, List, [], ◌∷◌, ◌++◌, length, refl, sym, ap, subst, inl, inr, ◌∙◌, arith}
 use Rattle.std.specs.Prelude.{◌==◌, ◌&&◌, nat_le, if◌then◌else◌, IsPermutation}
 use Rattle.std.specs.List.{AllZip, sum_by}
 use Rattle.std.proofs.lemmas.Bool.{eq-eqb, eqb-true}
+use Rattle.std.proofs.lemmas.List.{length-take}
 use Rattle.std.proofs.lemmas.List.Sums.{sum_by-cons, sum_by-append}
 use Rattle.std.proofs.lemmas.List.Sorted.{IsPermutation-sym, sum_by-IsPermutation, Contains-permutation}
 use Rattle.mcap_io.specs.Stores.{StoreState}
@@ -17,7 +18,7 @@ use Rattle.merge_walk.specs.declared.spans.Span.{Span}
 use Rattle.merge_walk.specs.Spans.{spans_of}
 use Rattle.merge_walk.specs.declared.pieces.Piece.{Piece}
 use Rattle.merge_walk.specs.declared.walk.Walk.{Walk}
-use Rattle.merge_walk.specs.Pieces.{pieces_with, pieces_size, overlap_at}
+use Rattle.merge_walk.specs.Pieces.{pieces_with, PiecesInOrder, pieces_size, overlap_at, IsMostHeld}
 use Rattle.merge_walk.specs.Stores.{StoresFit}
 use Rattle.merge_walk.specs.Walks.{pieces_in, pieces_loaded, peak_of, PeakStands}
 use Rattle.mcap_merge.specs.declared.input.Input.{Input}
@@ -25,7 +26,7 @@ use Rattle.mcap_merge.specs.Inputs.{HoldsInput, HoldInputs}
 use Rattle.mcap_merge.specs.ReadInputs.{Read, read_tops}
 use Rattle.mcap_merge.specs.ReadingSteps.{SpansFit}
 use Rattle.mcap_merge.specs.Pieces.{pieces_from}
-use Rattle.mcap_merge.specs.Overlap.{length_at, overlap, IsPeak}
+use Rattle.mcap_merge.specs.Overlap.{length_at, overlap, IsPeak, pieces_among, IsMostOf}
 use Rattle.mcap_merge.proofs.Within.{spans_length, spans_apart}
 use Rattle.mcap_merge.proofs.SpanTimes.{least_sent}
 
@@ -215,3 +216,27 @@ peak_is reads inputs w hold same all stands = record {
         inr (m, from, subst (λ (n : ℕ). w.peak ≤ overlap n (read_tops reads)) (sym time) (omega (arith, less, bytes)))
   ];
 }
+
+-- ---- the most that was held
+
+same_pieces : (number : ℕ) (reads : List Read) (inputs : List Input) → HoldInputs reads inputs → pieces_from number inputs ≡ pieces_among number (read_tops reads)
+same_pieces number [] [] hold = refl
+same_pieces number [] (i ∷ is) hold = absurd hold
+same_pieces number (r ∷ rs) [] hold = absurd hold
+same_pieces number (r ∷ rs) (i ∷ is) hold =
+    let holds = hold.0 in
+    ap (λ (l : List Span). pieces_with number l ++ pieces_from (suc number) is) holds.spans_are
+    ∙ ap (λ (l : List Piece). pieces_with number (spans_of r.tops) ++ l) (same_pieces (suc number) rs is hold.1)
+
+-- of a walk that has loaded all pieces
+pub most_is : (reads : List Read) (inputs : List Input) (w : Walk) → HoldInputs reads inputs → IsPermutation (pieces_from 0 inputs) (pieces_in w) → PiecesInOrder (pieces_in w) → pieces_loaded w ≡ pieces_in w → w.next ≤ length (pieces_in w) → IsMostHeld (pieces_in w) w.next (peak_of w)
+    → IsMostOf (read_tops reads) (peak_of w)
+most_is reads inputs w hold same order all within most =
+    let size = ap length all ∙ refl in
+    let next : w.next ≡ length (pieces_in w) = omega (arith, within, size, length-take w.next (pieces_in w)) in
+    record {
+      pieces = pieces_in w;
+      same = subst (λ (l : List Piece). IsPermutation l (pieces_in w)) (same_pieces 0 reads inputs hold) same;
+      order = order;
+      most = subst (λ (n : ℕ). IsMostHeld (pieces_in w) n (peak_of w)) next most;
+    }

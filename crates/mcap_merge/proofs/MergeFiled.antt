@@ -21,7 +21,7 @@ use Rattle.merge_walk.specs.declared.pieces.Piece.{Piece}
 use Rattle.merge_walk.specs.declared.walk.Walk.{Walk}
 use Rattle.merge_walk.specs.Pieces.{InputBytes}
 use Rattle.merge_walk.specs.Stores.{files_of, StoresFit, StoresStay, AskedWithin, unasked, none_left}
-use Rattle.merge_walk.specs.Walks.{Text, pieces_in, WalkStands, AllGiven}
+use Rattle.merge_walk.specs.Walks.{Text, pieces_in, WalkStands, AllGiven, ReachesEnd}
 use Rattle.mcap_merge.specs.declared.answers.MergeRefused.{MergeRefused}
 use Rattle.mcap_merge.specs.declared.answers.MergeRefused.TheVariants as merges
 use Rattle.mcap_merge.specs.declared.answers.Merged.{Merged}
@@ -34,7 +34,7 @@ use Rattle.mcap_merge.specs.Pieces.{pieces_from}
 use Rattle.mcap_merge.specs.ReadingSteps.{StoreKeeps, AsksWithinLength}
 use Rattle.mcap_merge.specs.Writing.{extras_of}
 use Rattle.mcap_merge.specs.Sound.{IsSoundHistory}
-use Rattle.mcap_merge.specs.Overlap.{IsPeak}
+use Rattle.mcap_merge.specs.Overlap.{IsPeak, IsMostOf}
 use Rattle.mcap_merge.specs.Turns.{IsUseOfTurn, IsChanged, WhyNotAll, stop_of, PutCounts}
 use Rattle.mcap_merge.specs.Putting.{MergeStart, WholeStands}
 use Rattle.mcap_merge.specs.Filed.{merged_options, AllTell, TellsNot, MergeIs, FileStands, MergesInto, IsCutBy, MergeIsCut, MergeFails, AsksTwice}
@@ -43,7 +43,8 @@ use Rattle.mcap_merge.proofs.Lengths.{history_few}
 use Rattle.mcap_merge.proofs.Merging.{inner_all}
 use Rattle.mcap_merge.proofs.Profiles.{zip_length, held_length}
 use Rattle.mcap_merge.proofs.Sound.{is_sound, merge_sound}
-use Rattle.mcap_merge.proofs.Fitting.{stores_fit_in, asked_sum, peak_is}
+use Rattle.mcap_merge.proofs.Fitting.{stores_fit_in, asked_sum, peak_is, most_is}
+use Rattle.mcap_merge.proofs.ToldTurns.{piece_ends}
 use Rattle.mcap_merge.proofs.Told.{Listed, TellsAt, Told, merged_told, told_begins, told_stays}
 use Rattle.mcap_merge.proofs.Behind.{all_tell, files_kept, counts_behind, rose_behind, keeps_behind, asked_behind, unfallen}
 
@@ -172,6 +173,9 @@ module _ (olds mids : List StoreState) (chunk : ℕ) (r : Ready) (ready : IsRead
         messages = counted.messages;
         records = counted.records ∙ all_counted (length history) (omega (arith, history_few options extras history (inner_all us), file.1.small));
         peak = subst (IsPeak (read_tops reads)) (sym whole.peak) (peak_is reads inputs whole.walk ready.gathered.hold same whole.loaded whole.stands.peak);
+        most = λ tell. subst (IsMostOf (read_tops reads)) (sym whole.peak)
+            (most_is reads inputs whole.walk ready.gathered.hold same whole.stands.order whole.loaded whole.stands.next (whole.stands.most (λ n p at. subst (λ (f : InputBytes). ReachesEnd f p) (sym same_files)
+            (piece_ends olds reads inputs (pieces_in whole.walk) (listed_of (pieces_in whole.walk) whole.pieces) p (λ store there. tell p.input store there) (n, at)))));
         file = file.0;
         within = file.1;
         inputs_still = counts_behind olds mids news stay ready.still counts.0;

@@ -38,6 +38,7 @@ use Rattle.mcap_merge.proofs.InTurn.{one_message, extras_are}
 use Rattle.mcap_merge.proofs.Dropped.{dropped}
 use Rattle.mcap_merge.proofs.FirstOfAll.{first_of_all}
 pub use Rattle.mcap_merge.proofs.ToldStays.{told_stays}
+use Rattle.merge_walk.proofs.Held.{has_flat}
 pub use Rattle.mcap_merge.proofs.ToldTurns.{Listed, TellsAt, Told}
 use Rattle.mcap_merge.proofs.ToldTurns.{TurnIs, before_merges, record_is, MessageTold, message_told}
 
@@ -48,11 +49,6 @@ record SentsTold (reads : List Read) (given : List Turn) (uses : List Use) : Typ
   sents : List Sent
   are : AllZip (λ t m. TurnIs reads t m × IsFrom (read_tops reads) m) given sents
   used : AreUses (read_tops reads) sents uses
-
-has_flat : {X Y : Type 0} (f : X → List Y) (xs : List X) (x : X) (y : Y) → Has xs x → Has (f x) y → Has (flat_map f xs) y
-has_flat {X} {Y} f xs x y has there =
-    let (more, cut) = cut_flat f xs has.0 x has.1 in
-    subst (λ (l : List Y). Has l y) (sym cut) (has_second (flat_map f (take has.0 xs)) (f x ++ flat_map f more) y (has_kept (f x) (flat_map f more) y there))
 
 module _ (stores : List StoreState) (reads : List Read) (inputs : List Input) (pieces some : List Piece) (texts : List Text) (told : Told stores reads inputs pieces) (among : (p : Piece) → Has some p → Has pieces p) (are : AllZip (IsTextOf (files_of stores)) some texts) where
   abbrev Is : Turn → Sent → Type 0

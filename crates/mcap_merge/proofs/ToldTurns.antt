@@ -27,7 +27,8 @@ use Rattle.merge_walk.proofs.Unchanged.{surveyed_fit}
 use Rattle.merge_walk.specs.Pieces.{pieces_with}
 use Rattle.merge_walk.specs.Cursors.{turn_of, TurnBefore}
 use Rattle.merge_walk.specs.Stores.{files_of}
-use Rattle.merge_walk.specs.Walks.{Text, turns_in, IsTextOf, IsMessageAt}
+use Rattle.merge_walk.specs.Walks.{Text, turns_in, IsTextOf, IsMessageAt, ReachesEnd}
+use Rattle.merge_walk.proofs.ListedSpans.{times_listed}
 use Rattle.merge_walk.specs.WalkLaws.{IsPieceTold}
 use Rattle.mcap_merge.specs.declared.input.Input.{Input}
 use Rattle.mcap_merge.specs.Inputs.{HoldsInput, HoldInputs}
@@ -240,6 +241,15 @@ module _ (stores : List StoreState) (reads : List Read) (inputs : List Input) (p
   -- the bytes that the input tells for it can be those of its span
   pub piece_told : (p : Piece) → TellsAt stores p.input → Has pieces p → IsPieceTold (files_of stores) p
   piece_told p tell has = let is = piece_is p tell has in (is.input.file, is.input.at_file, is.known.fits)
+
+  -- whatever bytes stand there for it, one of their messages was logged at its greatest time
+  pub piece_ends : (p : Piece) → TellsAt stores p.input → Has pieces p → ReachesEnd (files_of stores) p
+  piece_ends p tell has bytes are =
+      let is = piece_is p tell has in
+      let told_is = are.told_is in
+      let records : records_in bytes ≡ unchunked is.top = ap records_in (told_is is.input.file is.input.at_file) ∙ is.known.records in
+      let there = is.known.is.times.greatest_there in
+      (there.0, subst (λ (l : List ℕ). At l there.0 p.span.greatest) (sym (times_listed 0 (records_in bytes) ∙ ap times_of records)) there.1)
 
   -- ---- the message of a turn
 

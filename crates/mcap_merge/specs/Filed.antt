@@ -26,7 +26,7 @@ use Rattle.mcap_merge.specs.ReadInputs.{Read, read_tops}
 use Rattle.mcap_merge.specs.Reading.{IsReadOf, FaultsStand, InputRose, ReadStopped}
 use Rattle.mcap_merge.specs.Gathering.{GatherRefused}
 use Rattle.mcap_merge.specs.Sound.{IsSoundHistory}
-use Rattle.mcap_merge.specs.Overlap.{IsPeak}
+use Rattle.mcap_merge.specs.Overlap.{IsPeak, IsMostOf}
 
 abbrev pub merged_options : List ℕ → ℕ → FileOptions
 merged_options profile chunk = record { profile = profile; chunk = Some chunk; span = None }
@@ -47,7 +47,7 @@ pub record MergeIs (stores : List StoreState) (profile : List ℕ) (extras : Lis
   pub of : AllTell stores → MergeOf (read_tops reads) profile extras history
 
 -- the file of the merge stands behind what the store held, within the limits on files, and all of it is with the system; the
--- counts are those of its records; no store failed
+-- counts are those of its records, and the peak is the most that was held, where all stores tell; no store failed
 pub record MergesInto (stores news : List StoreState) (opened now : LiveState) (chunk : ℕ) (m : Merged) : Type 0 where
   pub profile : List ℕ
   pub extras : List Top
@@ -56,6 +56,7 @@ pub record MergesInto (stores news : List StoreState) (opened now : LiveState) (
   pub messages : m.messages ≡ length (filter is_message history)
   pub records : m.records ≡ length history
   pub peak : IsPeak (read_tops is.reads) m.peak
+  pub most : AllTell stores → IsMostOf (read_tops is.reads) m.peak
   pub file : Adds opened.held now.held (file_of (merged_options profile chunk) extras history)
   pub within : Holds (length (blocks_in (pieces_of (Some chunk) None history))) (length
       (file_of (merged_options profile chunk) extras history))

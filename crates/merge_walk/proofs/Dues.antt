@@ -10,7 +10,6 @@ use Rattle.merge_walk.specs.Pieces.{InputBytes}
 use Rattle.merge_walk.specs.Cursors.{FindsFirstCursor, TellsBefore}
 use Rattle.merge_walk.specs.Stores.{files_of, StoresFit, LeavesStores}
 use Rattle.merge_walk.specs.Walks.{AllLeft, StandsBehindSome, NextIsDue, LoadsNext, IsWalkRefused, DueIs, StandsFrom, FindsDue}
-use Rattle.merge_walk.proofs.Ordered.{before_else}
 use Rattle.merge_walk.proofs.Loading.{left_more}
 use Rattle.merge_walk.proofs.Stayed.{files_stay, fit_on, leaves_so, leaves_on}
 use Rattle.merge_walk.proofs.Walked.{due_some, next_is_due, none_is_due, from_itself, one_more_loaded, stands_now, refused_from}
@@ -84,4 +83,4 @@ due_before_next w (Some i) before next first (c, t, at_c, is_t, tells) at is = d
 
 pub next_before_due : (w : Walk) (found : Option ℕ) (before : Bool) (next : Piece) → FindsFirstCursor w.cursors.items found → TellsBefore w.cursors.items found next before → At w.pieces.items w.next next → before ≡ false → NextIsDue w
 next_before_due w None before next none tells at is = none_is_due w none
-next_before_due w (Some i) before next first (c, t, at_c, is_t, tells) at is = next_is_due w i c t next first at_c is_t at (before_else t next (λ less. both_ways before is (tells.1 less)))
+next_before_due w (Some i) before next first (c, t, at_c, is_t, tells) at is = next_is_due w i c t next first at_c is_t at (λ less. both_ways before is (tells.1 less))

@@ -4,8 +4,8 @@ use Rattle.std.specs.Prelude.{IsPermutation}
 use Rattle.std.specs.List.{AllZip, sum_by}
 use Rattle.std.proofs.lemmas.List.{map-set}
 use Rattle.std.proofs.lemmas.List.Sorted.{IsPermutation-sym}
-use Rattle.mcap_model.specs.Places.{At, Has}
-use Rattle.mcap_model.proofs.Places.{at_one, at_more, at_set}
+use Rattle.mcap_model.specs.Places.{At, Has, Each}
+use Rattle.mcap_model.proofs.Places.{at_one, at_more, at_set, has_kept}
 use Rattle.mcap_model.proofs.Flat.{at_mapped}
 use Rattle.mcap_model.proofs.NamedTopics.{unmapped, zip_front, zip_back}
 use Rattle.merge_walk.specs.declared.window.Loaded.{Loaded}
@@ -17,9 +17,9 @@ use Rattle.merge_walk.specs.declared.cursors.Cursor.{Cursor}
 use Rattle.merge_walk.specs.declared.walk.Walk.{Walk}
 use Rattle.mcap_scan.specs.Heads.{heads_in}
 use Rattle.merge_walk.specs.Heads.{AreInSpan}
-use Rattle.merge_walk.specs.Pieces.{InputBytes, PiecesInOrder, BeginTogether, IsInOverlap}
+use Rattle.merge_walk.specs.Pieces.{InputBytes, PiecesInOrder, BeginTogether, IsInOverlap, IsMostHeld}
 use Rattle.merge_walk.specs.Cursors.{turn_of, turns_left, TurnBefore, TurnBeforePiece, PieceTurnNotBehind, IsNext, IsFirst}
-use Rattle.merge_walk.specs.Walks.{pieces_loaded, pieces_ahead, Text, piece_text, turns_of, IsTextOf, QueuesStand, GivenOrLeft, LeftButLast, AllLeft, IsHeldAs, PeakStands, WalkStands, GivesNext, IsOfHeld}
+use Rattle.merge_walk.specs.Walks.{pieces_loaded, pieces_ahead, Text, piece_text, turns_of, IsTextOf, QueuesStand, GivenOrLeft, LeftButLast, AllLeft, IsHeldAs, PeakStands, HoldsUngiven, ReachesEnd, WalkStands, GivesNext, IsOfHeld}
 use Rattle.merge_walk.proofs.Places.{undropped, drop_head}
 use Rattle.merge_walk.proofs.Ordered.{which, next_is_one}
 use Rattle.merge_walk.proofs.Queues.{HeadIsFirst, queues_on, all_on}
@@ -128,6 +128,20 @@ module _ (files : InputBytes) (old new : Walk) (texts : List Text) (given : List
       let all = ap (sum_by f) loaded_are in
       omega (arith, was, one, other, all)
 
+  many_still : HoldsUngiven new texts (given ++ t ∷ [])
+  many_still f over =
+      let was = stands.many f (λ n x at all. over n x at (λ u has. has_kept given (t ∷ []) u (all u has))) in
+      let one = ap (sum_by (λ (d : Cursor). f d.piece)) gives.cursors in
+      let other = sum_set (λ (d : Cursor). f d.piece) old.cursors.items i c gives.cursor gives.at (ap f gives.piece) in
+      let all = ap (sum_by f) loaded_are in
+      omega (arith, was, one, other, all)
+
+  most_still : Each (ReachesEnd files) new.pieces.items → IsMostHeld new.pieces.items new.next new.peak
+  most_still reach =
+      subst (λ (l : List Piece). IsMostHeld l new.next new.peak) (sym pieces_are)
+      (subst (λ (n : ℕ). IsMostHeld old.pieces.items n new.peak) (sym gives.next)
+      (subst (IsMostHeld old.pieces.items old.next) (sym gives.peak) (stands.most (subst (Each (ReachesEnd files)) pieces_are reach))))
+
   peak_still : PeakStands new
   peak_still =
       let was = stands.peak in
@@ -161,7 +175,9 @@ module _ (files : InputBytes) (old new : Walk) (texts : List Text) (given : List
         left = given_left;
         held = held_still;
         few = few_still;
+        many = many_still;
         peak = peak_still;
+        most = most_still;
       }
 
   -- ---- its message is held

@@ -1,11 +1,13 @@
 -- How a walk stands when a piece goes.
-use Rattle.std.proofs.Common.{◌≡◌, ℕ, ◌≤◌, List, [], length, take, drop, map, sym, ap, subst, inl, inr, ◌∙◌, arith}
+use Rattle.std.proofs.Common.{◌≡◌, ℕ, ◌≤◌, List, [], length, take, drop, map, get_or, sym, ap, subst, inl, inr, ◌∙◌, arith}
 use Rattle.std.specs.List.{AllZip, remove, sum_by}
 use Rattle.std.proofs.Math.ListN.{drop_of_length-le}
+use Rattle.std.proofs.lemmas.List.Sums.{sum_by-remove}
 use Rattle.mcap_model.specs.Places.{At, Has, Each}
-use Rattle.mcap_model.proofs.Places.{at_one, at_within}
+use Rattle.mcap_model.proofs.Places.{at_none, at_one, at_within, at_read}
 use Rattle.mcap_model.proofs.Flat.{at_mapped}
-use Rattle.mcap_model.proofs.NamedTopics.{zip_front, zip_back}
+use Rattle.mcap_model.proofs.NamedTopics.{unmapped, zip_front, zip_back}
+use Rattle.mcap_scan.specs.Heads.{heads_in}
 use Rattle.merge_walk.specs.declared.window.Loaded.{Loaded}
 use Rattle.merge_walk.specs.Parts.{bytes_in, IsPartAt, Releases}
 use Rattle.merge_walk.specs.Windows.{loaded_in}
@@ -13,9 +15,10 @@ use Rattle.merge_walk.specs.declared.turns.Turn.{Turn}
 use Rattle.merge_walk.specs.declared.pieces.Piece.{Piece}
 use Rattle.merge_walk.specs.declared.cursors.Cursor.{Cursor}
 use Rattle.merge_walk.specs.declared.walk.Walk.{Walk}
-use Rattle.merge_walk.specs.Pieces.{InputBytes, PiecesInOrder, IsInOverlap}
+use Rattle.merge_walk.specs.Pieces.{InputBytes, PiecesInOrder, IsInOverlap, IsMostHeld}
 use Rattle.merge_walk.specs.Cursors.{turn_of, turns_left, HasLeft}
-use Rattle.merge_walk.specs.Walks.{pieces_loaded, Text, turns_of, IsTextOf, QueuesStand, GivenOrLeft, Apart, LeftButLast, AllLeft, IsHeldAs, WalkStands, StandsBehindSome, LastGoes, LetsPieceGo}
+use Rattle.merge_walk.specs.Walks.{pieces_loaded, Text, piece_text, turns_in, turns_of, IsTextOf, QueuesStand, GivenOrLeft, Apart, LeftButLast, AllLeft, IsHeldAs, WasGiven, ReachesEnd, WalkStands, StandsBehindSome, LastGoes, LetsPieceGo}
+use Rattle.merge_walk.proofs.Held.{has_flat}
 use Rattle.merge_walk.proofs.Places.{map_removed, StoodAt, removed_from, stood_apart}
 use Rattle.merge_walk.proofs.Ordered.{which}
 use Rattle.merge_walk.proofs.Queues.{queues_less, all_less}
@@ -39,6 +42,7 @@ module _ (files : InputBytes) (old new : Walk) (texts : List Text) (given : List
     pub apart : (i j : ℕ) (c d : Cursor) → (i ≡ j → ⊥) → At cursors i c → At cursors j d → Apart c d
     pub held : AllZip (IsHeldAs (pieces_loaded old) texts) cursors loaded
     pub few : (f : Piece → ℕ) → sum_by (λ c. f c.piece) cursors ≤ sum_by f (pieces_loaded old)
+    pub many : (f : Piece → ℕ) → Each (λ x. WasGiven given x → f x.piece ≡ 0) texts → sum_by f (pieces_loaded old) ≤ sum_by (λ c. f c.piece) cursors
     pub now : bytes_in loaded ≤ old.peak
 
   with_cursors : (cursors : List Cursor) (loaded : List Loaded) → new.cursors.items ≡ cursors → loaded_in new.window ≡ loaded → Leaves cursors loaded → WalkStands files new texts given
@@ -60,12 +64,40 @@ module _ (files : InputBytes) (old new : Walk) (texts : List Text) (given : List
             (subst (AllZip (IsHeldAs (pieces_loaded old) texts) cursors) (sym window) leaves.held));
         few = λ f. subst (λ (cs : List Cursor). sum_by (λ (c : Cursor). f c.piece) cs ≤ sum_by f (pieces_loaded new)) (sym is)
             (subst (λ (ps : List Piece). sum_by (λ (c : Cursor). f c.piece) cursors ≤ sum_by f ps) (sym same_loaded) (leaves.few f));
+        many = λ f over. subst (λ (cs : List Cursor). sum_by f (pieces_loaded new) ≤ sum_by (λ (c : Cursor). f c.piece) cs) (sym is)
+            (subst (λ (ps : List Piece). sum_by f ps ≤ sum_by (λ (c : Cursor). f c.piece) cursors) (sym same_loaded) (leaves.many f over));
+        most = λ reach.
+            subst (λ (l : List Piece). IsMostHeld l new.next new.peak) (sym same_pieces)
+            (subst (λ (n : ℕ). IsMostHeld old.pieces.items n new.peak) (sym next)
+            (subst (IsMostHeld old.pieces.items old.next) (sym lets.peak) (stands.most (subst (Each (ReachesEnd files)) same_pieces reach))));
         peak = record {
           each = λ n p at. (let fits = was.each n p (subst (λ (l : List Piece). At l n p) same_loaded at) in let is = lets.peak in omega (arith, fits, is));
           now = (let fits = leaves.now in let same = ap bytes_in window in let is = lets.peak in omega (arith, fits, same, is));
           overlap = subst (λ (n : ℕ). IsInOverlap new.pieces.items n) (sym lets.peak) (subst (λ (l : List Piece). IsInOverlap l old.peak) (sym same_pieces) was.overlap);
         };
       }
+
+  -- all messages of the piece that goes were given
+  last_given : (goes : LastGoes old new) (l : Loaded) → IsHeldAs (pieces_loaded old) texts goes.cursor l → WasGiven given (piece_text goes.cursor.piece l.bytes)
+  last_given goes l held t has = elim (stands.all.all t (has_flat turns_in texts (piece_text goes.cursor.piece l.bytes) t held.text has)) [
+    | inl done ↦ done
+    | inr (q, has_q, has_t) ↦
+        let (d, at_d, of) = unmapped turns_left old.cursors.items has_q.0 q has_q.1 in
+        let (e, at_e, mine) = unmapped (turn_of goes.cursor.piece) (heads_in l.bytes) has.0 t has.1 in
+        let there : At (turns_left d) has_t.0 t = subst (λ (r : List Turn). At r has_t.0 t) (sym of) has_t.1 in
+        let (h, at_h, theirs) = unmapped (turn_of d.piece) (drop d.given d.heads.items) has_t.0 t there in
+        elim (which has_q.0 old.last) [
+          | inl less ↦ absurd (other goes d t has_q.0 (λ same. omega (arith, same, less)) at_d (ap (λ (x : Turn). x.input) theirs ∙ sym (ap (λ (x : Turn). x.input) mine)) (ap (λ (x : Turn). x.at) theirs ∙ sym (ap (λ (x : Turn). x.at) mine)))
+          | inr (inr more) ↦ absurd (other goes d t has_q.0 (λ same. omega (arith, same, more)) at_d (ap (λ (x : Turn). x.input) theirs ∙ sym (ap (λ (x : Turn). x.input) mine)) (ap (λ (x : Turn). x.at) theirs ∙ sym (ap (λ (x : Turn). x.at) mine)))
+          | inr (inl same) ↦
+              let here : d ≡ goes.cursor = at_one old.cursors.items old.last d goes.cursor (subst (λ (n : ℕ). At old.cursors.items n d) same at_d) goes.at in
+              let empty : turns_left d ≡ [] = ap turns_left here ∙ nothing_left goes.cursor goes.over in
+              absurd (at_none has_t.0 t (subst (λ (r : List Turn). At r has_t.0 t) empty there))
+        ]
+  ]
+    where
+      other : (gone : LastGoes old new) (d : Cursor) (u : Turn) (k : ℕ) → (k ≡ old.last → ⊥) → At old.cursors.items k d → d.piece.input ≡ gone.cursor.piece.input → d.piece.span.at ≡ gone.cursor.piece.span.at → ⊥
+      other gone d u k apart at input place = stands.apart k old.last d gone.cursor apart at gone.at (input, place)
 
   last_leaves : (goes : LastGoes old new) → Leaves (remove old.cursors.items old.last) (remove (loaded_in old.window) old.last)
   last_leaves goes =
@@ -82,6 +114,13 @@ module _ (files : InputBytes) (old new : Walk) (texts : List Text) (given : List
             stands.apart m n x y (λ same. other (stood_apart old.last i j m n stood_x stood_y same)) there_x there_y;
         held = zip_removed (IsHeldAs (pieces_loaded old) texts) old.cursors.items (loaded_in old.window) old.last stands.held;
         few = λ f. (let less = sum_less (λ (d : Cursor). f d.piece) old.cursors.items old.last c goes.at in let was = stands.few f in omega (arith, less, was));
+        many = λ f over. (
+            let zero_is : f c.piece ≡ 0 = over held.text.0 (piece_text c.piece l.bytes) held.text.1 (last_given goes l held) in
+            let all = sum_by-remove (λ (d : Cursor). f d.piece) old.cursors.items old.last c (at_within old.cursors.items old.last c goes.at) in
+            let read : f (get_or old.cursors.items old.last c).piece ≡ f c.piece = ap (λ (d : Cursor). f d.piece) (at_one old.cursors.items old.last (get_or old.cursors.items old.last c) c (at_read old.cursors.items old.last c (at_within old.cursors.items old.last c goes.at)) goes.at) in
+            let was = stands.many f over in
+            omega (arith, zero_is, all, read, was)
+            );
         now = (let less = sum_less (λ (m : Loaded). length m.bytes) (loaded_in old.window) old.last l at_l in let was = stands.peak.now in omega (arith, less, was));
       }
 
@@ -92,6 +131,7 @@ module _ (files : InputBytes) (old new : Walk) (texts : List Text) (given : List
     apart = stands.apart;
     held = stands.held;
     few = stands.few;
+    many = stands.many;
     now = stands.peak.now;
   }
 

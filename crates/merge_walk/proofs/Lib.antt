@@ -5,6 +5,7 @@ pub mod Facts
 mod Fitting
 mod Giving
 mod Going
+pub mod Held
 mod Listed
 pub mod ListedSpans
 mod Loading

@@ -7,10 +7,11 @@ use Rattle.std.proofs.lemmas.List.{map-append}
 use Rattle.std.proofs.lemmas.List.Sorted.{IsPermutation-sym, length_permutation}
 use Rattle.std.proofs.lemmas.List.Sums.{sum_by-take-le, sum_by_push}
 use Rattle.std.proofs.Math.Nat.{max-eq_left, max-eq_right, le-max_left, le-max_right}
-use Rattle.mcap_model.specs.Places.{At, Has}
-use Rattle.mcap_model.proofs.Places.{at_none, at_within, at_more, has_kept, has_last}
+use Rattle.mcap_model.specs.Places.{At, Has, Each}
+use Rattle.mcap_model.proofs.Places.{at_none, at_one, at_within, at_kept, at_more, has_kept, has_last}
+use Rattle.mcap_model.proofs.Flat.{at_mapped}
 use Rattle.mcap_model.proofs.Lists.{pairs_from, has_taken}
-use Rattle.mcap_model.proofs.NamedTopics.{unmapped, zip_front}
+use Rattle.mcap_model.proofs.NamedTopics.{unmapped, zip_front, zip_back}
 use Rattle.mcap_model.proofs.OneMore.{taken_more, zip_push}
 use Rattle.merge_walk.specs.declared.window.Loaded.{Loaded}
 use Rattle.merge_walk.specs.Parts.{loaded_part, bytes_in}
@@ -22,11 +23,12 @@ use Rattle.merge_walk.specs.declared.cursors.Cursor.{Cursor}
 use Rattle.merge_walk.specs.declared.walk.Walk.{Walk}
 use Rattle.mcap_scan.specs.Heads.{heads_in}
 use Rattle.merge_walk.specs.Heads.{AreInSpan}
-use Rattle.merge_walk.specs.Pieces.{InputBytes, PiecesInOrder, BeginTogether, overlap_at, IsInOverlap}
+use Rattle.merge_walk.specs.Pieces.{InputBytes, PiecesInOrder, BeginTogether, overlap_at, IsInOverlap, bytes_left, held_with, IsMostHeld}
 use Rattle.merge_walk.specs.Cursors.{turn_of, turns_left, TurnBefore, HasLeft, IsFreshCursor}
-use Rattle.merge_walk.specs.Walks.{pieces_loaded, pieces_ahead, Text, piece_text, turns_in, turns_of, IsTextOf, QueuesStand, GivenOrLeft, Apart, AllLeft, IsHeldAs, PeakStands, WalkStands, NextIsDue, LoadsNext}
+use Rattle.merge_walk.specs.Walks.{pieces_loaded, pieces_ahead, Text, piece_text, turns_in, turns_of, IsTextOf, QueuesStand, GivenOrLeft, Apart, AllLeft, IsHeldAs, PeakStands, WasGiven, HoldsUngiven, ReachesEnd, WalkStands, NextIsDue, LoadsNext}
 use Rattle.merge_walk.proofs.Places.{dropped, undropped}
-use Rattle.merge_walk.proofs.Ordered.{which, before_each, at_some}
+use Rattle.merge_walk.proofs.Held.{EndsBefore, none_left, all_left, ends_with_turn, turn_ends}
+use Rattle.merge_walk.proofs.Ordered.{which, before_each, before_else, at_some}
 use Rattle.merge_walk.proofs.Queues.{queues_more, all_more}
 use Rattle.merge_walk.proofs.Summed.{sums_same, sums_zipped, share_at, share_within}
 use Rattle.merge_walk.proofs.OnTurn.{turns_rise, fresh_left, moved, mapped_moved, pieces_above}
@@ -56,6 +58,8 @@ walk_begins files w order first none empty peak =
       left = λ k c at other. absurd (at_none k c (subst (λ (l : List Cursor). At l k c) none at));
       held = subst (λ (l : List Cursor). AllZip (IsHeldAs (pieces_loaded w) []) l (loaded_in w.window)) (sym none) (subst (AllZip (IsHeldAs (pieces_loaded w) []) []) (sym empty) tt);
       few = λ f. subst (λ (l : List Cursor). sum_by (λ (c : Cursor). f c.piece) l ≤ sum_by f (pieces_loaded w)) (sym none) (omega arith);
+      many = λ f over. subst (λ (l : List Piece). sum_by f l ≤ sum_by (λ (c : Cursor). f c.piece) w.cursors.items) (sym nothing_loaded) (omega arith);
+      most = λ reach. record { each = λ k p below at. absurd (omega (arith, below, first)); one = inl peak };
       peak = record {
         each = λ n p at. absurd (at_none n p (subst (λ (l : List Piece). At l n p) nothing_loaded at));
         now = subst (λ (l : List Loaded). bytes_in l ≤ w.peak) (sym empty) (omega arith);
@@ -200,7 +204,7 @@ module _ (files : InputBytes) (old new : Walk) (texts : List Text) (given : List
       let (below, at_k) = has_taken old.pieces.items old.next k c.piece in_front in
       let low = pieces_above old.pieces.items k c.piece piece stands.order at_k (old.next - k, dropped old.pieces.items k old.next (old.next - k) piece (omega (arith, below)) loads.at) in
       let (e, at_e) = at_some c.heads.items c.given (left i c at) in
-      let first = due piece loads.at i c at (turn_of c.piece e) (e, at_e, refl) in
+      let first = before_else (turn_of c.piece e) piece (due piece loads.at i c at (turn_of c.piece e) (e, at_e, refl)) in
       let last = (held.within c.given e at_e).1 in
       (low, omega (arith, first, last))
 
@@ -229,6 +233,106 @@ module _ (files : InputBytes) (old new : Walk) (texts : List Text) (given : List
       let few = few_new (share_at piece.span.least) in
       let all = sum_by-take-le (share_at piece.span.least) new.pieces.items new.next in
       omega (arith, sizes, shares, few, all)
+
+  -- none of those that are held ends before this one
+  stays_old : (i : ℕ) (c : Cursor) → At old.cursors.items i c → EndsBefore c.piece piece → ⊥
+  stays_old i c at ends =
+      let (l, at_l, held) = zip_front (IsHeldAs (pieces_loaded old) texts) old.cursors.items (loaded_in old.window) i c stands.held at in
+      let (e, at_e) = at_some c.heads.items c.given (left i c at) in
+      due piece loads.at i c at (turn_of c.piece e) (e, at_e, refl) (ends_with_turn piece c.piece (turn_of c.piece e) ends (held.within c.given e at_e).1 refl refl)
+
+  stays_new : EndsBefore loads.cursor.piece piece → ⊥
+  stays_new ends = by (subst (λ (q : Piece). EndsBefore q piece) loads.fresh.piece ends)
+    where
+      spans : piece.span.least ≤ piece.span.greatest
+      spans = subst (λ (q : Piece). piece.span.least ≤ q.span.greatest) loads.fresh.piece over_new.1
+
+      by : EndsBefore piece piece → ⊥
+      by (inl less) = omega (arith, less, spans)
+      by (inr (time, inl less)) = omega (arith, less)
+      by (inr (time, inr less)) = let at = less.1 in omega (arith, at)
+
+  all_held : (i : ℕ) (c : Cursor) → At new.cursors.items i c → c.piece.span.length ≡ bytes_left piece c.piece
+  all_held i c at = sym (all_left piece c.piece (elim (at_more old.cursors.items loads.cursor i c (subst (λ (l : List Cursor). At l i c) loads.cursors at)) [
+    | inl before ↦ stays_old i c before
+    | inr last ↦ subst (λ (d : Cursor). EndsBefore d.piece piece → ⊥) (sym last.1) stays_new
+  ]))
+
+  many_new : HoldsUngiven new (texts ++ text ∷ []) given
+  many_new f over =
+      let was = stands.many f (λ n x at. over n x (at_kept texts (text ∷ []) n x at)) in
+      let same : f loads.cursor.piece ≡ f piece = ap f loads.fresh.piece in
+      let one : sum_by (λ (c : Cursor). f c.piece) new.cursors.items ≡ sum_by (λ (c : Cursor). f c.piece) old.cursors.items + f loads.cursor.piece =
+      ap (sum_by (λ (c : Cursor). f c.piece)) loads.cursors ∙ sum_by_push (λ (c : Cursor). f c.piece) old.cursors.items loads.cursor in
+      let other : sum_by f (pieces_loaded new) ≡ sum_by f (pieces_loaded old) + f piece = ap (sum_by f) loaded_is ∙ sum_by_push f (pieces_loaded old) piece in
+      omega (arith, was, same, one, other)
+
+  taken_new : AllZip (IsTextOf files) (pieces_loaded new) (texts ++ text ∷ [])
+  taken_new =
+      let fresh = loads.fresh in
+      subst (λ (l : List Piece). AllZip (IsTextOf files) l (texts ++ text ∷ [])) (sym loaded_is)
+      (zip_push (IsTextOf files) (pieces_loaded old) texts loads.piece text stands.taken (record {
+        piece = refl;
+        bytes = loads.are;
+        fits = record {
+          many = (let size = length_permutation (heads_in loads.bytes) loads.cursor.heads.items fresh.same in let many = fresh.many in omega (arith, size, many));
+          some = fresh_some loads.piece loads.bytes loads.cursor fresh;
+          within = λ n e at. let there = moved (heads_in loads.bytes) loads.cursor.heads.items e fresh.same (n, at) in fresh.within there.0 e there.1;
+        };
+      }))
+
+  -- a text that was given whole ended before this one, where its last message stands there
+  given_over : Each (ReachesEnd files) old.pieces.items → Each (λ x. WasGiven given x → bytes_left piece x.piece ≡ 0) (texts ++ text ∷ [])
+  given_over reach n x at all =
+      let (p, at_p, is) = zip_back (IsTextOf files) (pieces_loaded new) (texts ++ text ∷ []) n x taken_new at in
+      let (below, there) = has_taken new.pieces.items new.next n p at_p in
+      let ends = reach n p (subst (λ (l : List Piece). At l n p) pieces there) x.bytes is.bytes in
+      let (e, at_e, time) = unmapped (λ (h : MessageHead). h.time) (heads_in x.bytes) ends.0 p.span.greatest ends.1 in
+      let g = all (turn_of x.piece e) (ends.0, at_mapped (turn_of x.piece) (heads_in x.bytes) ends.0 e at_e) in
+      let early = stands.early (turn_of x.piece e) loads.piece g (0, dropped old.pieces.items old.next old.next 0 loads.piece (omega arith) loads.at) in
+      none_left piece x.piece (turn_ends piece x.piece (turn_of x.piece e) early (time ∙ sym (ap (λ (q : Piece). q.span.greatest) is.piece)) refl refl)
+
+  -- what is held is what is left
+  held_is : Each (ReachesEnd files) old.pieces.items → held_bytes ≡ held_with old.pieces.items old.next piece
+  held_is reach =
+      let sizes : held_bytes ≡ sum_by (λ (c : Cursor). c.piece.span.length) new.cursors.items =
+      sums_zipped (IsHeldAs (pieces_loaded new) (texts ++ text ∷ [])) (λ (c : Cursor). c.piece.span.length) (λ (l : Loaded). length l.bytes) new.cursors.items (loaded_in new.window) (λ c l held. held.size) held_all in
+      let shares = sums_same (λ (c : Cursor). c.piece.span.length) (λ (c : Cursor). bytes_left piece c.piece) new.cursors.items all_held in
+      let few = few_new (bytes_left piece) in
+      let many = many_new (bytes_left piece) (given_over reach) in
+      let same : sum_by (bytes_left piece) (pieces_loaded new) ≡ held_with old.pieces.items old.next piece =
+      ap (λ (l : List Piece). sum_by (bytes_left piece) (take new.next l)) pieces ∙ ap (λ (n : ℕ). sum_by (bytes_left piece) (take n old.pieces.items)) loads.next in
+      omega (arith, sizes, shares, few, many, same)
+
+  most_new : Each (ReachesEnd files) new.pieces.items → IsMostHeld new.pieces.items new.next new.peak
+  most_new reach =
+      let reach_old = subst (Each (ReachesEnd files)) pieces reach in
+      let was = stands.most reach_old in
+      let now = held_is reach_old in
+      let is = loads.peak in
+      let next = loads.next in
+      let one = le-max_left old.peak held_bytes in
+      let other = le-max_right old.peak held_bytes in
+      subst (λ (l : List Piece). IsMostHeld l new.next new.peak) (sym pieces) (record {
+        each = λ k p below at. elim (which k old.next) [
+          | inl less ↦ let fits = was.each k p less at in omega (arith, fits, is, one)
+          | inr (inl same) ↦
+              let here : p ≡ piece = at_one old.pieces.items old.next p piece (subst (λ (n : ℕ). At old.pieces.items n p) same at) loads.at in
+              let all : held_with old.pieces.items k p ≡ held_bytes = ap (λ (n : ℕ). held_with old.pieces.items n p) same ∙ ap (held_with old.pieces.items old.next) here ∙ sym now in
+              omega (arith, all, is, other)
+          | inr (inr more) ↦ absurd (omega (arith, more, below, next))
+        ];
+        one = elim (which old.peak held_bytes) [
+          | inl less ↦ inr (old.next, piece, omega (arith, next), loads.at, is ∙ max-eq_right {n = old.peak} {m = held_bytes} (omega (arith, less)) ∙ now)
+          | inr more ↦
+              let above : held_bytes ≤ old.peak = (elim more [ inl same ↦ omega (arith, same) | inr less ↦ omega (arith, less) ]) in
+              let same : new.peak ≡ old.peak = is ∙ max-eq_left {n = old.peak} {m = held_bytes} above in
+              elim was.one [
+                | inl none ↦ inl (same ∙ none)
+                | inr (k, p, below, at, there) ↦ inr (k, p, omega (arith, below, next), at, same ∙ there)
+              ]
+        ];
+      })
 
   peak_new : PeakStands new
   peak_new =
@@ -261,16 +365,7 @@ module _ (files : InputBytes) (old new : Walk) (texts : List Text) (given : List
       let next = loads.next in
       record {
         next = (let within = at_within old.pieces.items old.next loads.piece loads.at in omega (arith, next, within, ap length pieces));
-        taken = subst (λ (l : List Piece). AllZip (IsTextOf files) l (texts ++ text ∷ [])) (sym loaded_is)
-            (zip_push (IsTextOf files) (pieces_loaded old) texts loads.piece text stands.taken (record {
-              piece = refl;
-              bytes = loads.are;
-              fits = record {
-                many = (let size = length_permutation (heads_in loads.bytes) loads.cursor.heads.items fresh.same in let many = fresh.many in omega (arith, size, many));
-                some = fresh_some loads.piece loads.bytes loads.cursor fresh;
-                within = λ n e at. let there = moved (heads_in loads.bytes) loads.cursor.heads.items e fresh.same (n, at) in fresh.within there.0 e there.1;
-              };
-            }));
+        taken = taken_new;
         order = subst PiecesInOrder (sym pieces) stands.order;
         queues = subst (QueuesStand given) (sym maps) (queues_more given (map turns_left old.cursors.items) (turns_left loads.cursor) stands.queues
             (subst (AllPairs TurnBefore) (sym left_is) (turns_rise loads.piece loads.cursor.heads.items fresh.rise)) behind);
@@ -283,5 +378,7 @@ module _ (files : InputBytes) (old new : Walk) (texts : List Text) (given : List
         left = λ k c at other. left_more files old new left loads k c at;
         held = held_all;
         few = few_new;
+        many = many_new;
         peak = peak_new;
+        most = most_new;
       }

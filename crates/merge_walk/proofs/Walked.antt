@@ -18,6 +18,7 @@ use Rattle.merge_walk.specs.Pieces.{InputBytes, PiecesInOrder, IsSecond}
 use Rattle.merge_walk.specs.Cursors.{turns_left, TurnBeforePiece, PieceTurnNotBehind, IsNext, IsFirst, FindsFirstCursor}
 use Rattle.merge_walk.specs.Walks.{pieces_loaded, pieces_ahead, Text, piece_text, turns_of, IsTextOf, GivenOrLeft, AllLeft, IsHeldAs, WalkStands, StandsBehindSome, NextIsDue, LoadsNext, IsWalkRefused, LetsPieceGo, DueIs, StandsFrom, FindsDue, GivesNext, Advances}
 use Rattle.merge_walk.proofs.Places.{dropped, undropped}
+use Rattle.merge_walk.proofs.Held.{before_too}
 use Rattle.merge_walk.proofs.Ordered.{before_more, next_is_one}
 use Rattle.merge_walk.proofs.Queues.{all_given}
 use Rattle.merge_walk.proofs.OnTurn.{pieces_follow}
@@ -48,19 +49,13 @@ pub due_within : (w : Walk) (i : ℕ) → DueIs w (Some i) → i < length w.curs
 due_within w i due = let (c, t, at, next, others) = due.0 in at_within w.cursors.items i c at
 
 -- no message comes before the next piece, as the first doesn't
-pub next_is_due : (w : Walk) (i : ℕ) (c : Cursor) (s : Turn) (next : Piece) → IsFirst w.cursors.items i → At w.cursors.items i c → IsNext c s → At w.pieces.items w.next next → next.span.least ≤ s.log_time → NextIsDue w
-next_is_due w i c s next first at is_s at_next above p at_p k d at_d u is_u =
+pub next_is_due : (w : Walk) (i : ℕ) (c : Cursor) (s : Turn) (next : Piece) → IsFirst w.cursors.items i → At w.cursors.items i c → IsNext c s → At w.pieces.items w.next next → (TurnBeforePiece s next → ⊥) → NextIsDue w
+next_is_due w i c s next first at is_s at_next stays p at_p k d at_d u is_u before =
     let (f, t, at_f, is_t, others) = first in
     let same : f ≡ c = at_one w.cursors.items i f c at_f at in
     let one : t ≡ s = next_is_one c t s (subst (λ (x : Cursor). IsNext x t) same is_t) is_s in
-    let time : t.log_time ≡ s.log_time = ap (λ (x : Turn). x.log_time) one in
-    let piece : p.span.least ≡ next.span.least = ap (λ (x : Piece). x.span.least) (at_one w.pieces.items w.next p next at_p at_next) in
-    let later = behind t u (others k d at_d u is_u) in
-    omega (arith, time, piece, later, above)
-  where
-    behind : (t u : Turn) → PieceTurnNotBehind t u → t.log_time ≤ u.log_time
-    behind t u (inl less) = omega (arith, less)
-    behind t u (inr same) = omega (arith, same.0)
+    let piece : p ≡ next = at_one w.pieces.items w.next p next at_p at_next in
+    stays (subst (TurnBeforePiece s) piece (before_too s u p (subst (λ (x : Turn). PieceTurnNotBehind x u) one (others k d at_d u is_u)) before))
 
 pub none_is_due : (w : Walk) → w.cursors.items ≡ [] → NextIsDue w
 none_is_due w none p at_p k d at_d u is_u = absurd (at_none k d (subst (λ (l : List Cursor). At l k d) none at_d))

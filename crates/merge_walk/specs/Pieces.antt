@@ -1,5 +1,5 @@
 -- Pieces of inputs, their order, and how many bytes they have.
-use Rattle.std.specs.Prelude.{◌≡◌, ◌⊎◌, ℕ, ◌+◌, ◌<◌, ◌≤◌, ◌==◌, ◌&&◌, nat_le, List, length, take, drop, map, Option, Some, if◌then◌else◌, slice_index_or}
+use Rattle.std.specs.Prelude.{◌≡◌, ◌⊎◌, ℕ, ◌+◌, ◌<◌, ◌≤◌, ◌==◌, ◌&&◌, ◌||◌, Bool, nat_le, nat_lt, List, length, take, drop, map, Option, Some, if◌then◌else◌, slice_index_or}
 use Rattle.std.specs.List.{sum_by}
 use Rattle.mcap_model.specs.Places.{At, Has}
 use Rattle.merge_walk.specs.declared.spans.Span.{Span}
@@ -48,3 +48,24 @@ overlap_at time pieces =
 -- so many bytes are no more than pieces overlap at the least time of one of them, or none
 abbrev pub IsInOverlap : List Piece → ℕ → Type 0
 IsInOverlap pieces n = (n ≡ 0) ⊎ ((p : Piece) × Has pieces p × (n ≤ overlap_at p.span.least pieces))
+
+-- ---- what is held at one time
+
+-- all messages of a piece come before all of another one, as far as their spans tell
+abbrev pub ends_before : Piece → Piece → Bool
+ends_before q p = nat_lt q.span.greatest p.span.least
+    || ((q.span.greatest == p.span.least)
+    && (nat_lt q.input p.input || ((q.input == p.input) && nat_lt q.span.at p.span.at)))
+
+-- the bytes of a piece that are still held when another is loaded: none where it ends before that one
+abbrev pub bytes_left : Piece → Piece → ℕ
+bytes_left p q = if ends_before q p then 0 else q.span.length
+
+-- the bytes that are held when the piece at a place is loaded: its own, and those of the pieces in front of it which are left
+abbrev pub held_with : List Piece → ℕ → Piece → ℕ
+held_with pieces k p = sum_by (bytes_left p) (take (k + 1) pieces)
+
+-- so many bytes are the most that are held when one of the first pieces is loaded; 0 where there is none
+pub record IsMostHeld (pieces : List Piece) (count n : ℕ) : Type 0 where
+  pub each : (k : ℕ) (p : Piece) → k < count → At pieces k p → held_with pieces k p ≤ n
+  pub one : (n ≡ 0) ⊎ ((k : ℕ) × (p : Piece) × (k < count) × At pieces k p × (n ≡ held_with pieces k p))

@@ -14,8 +14,9 @@ use Rattle.merge_walk.specs.declared.turns.WalkRefused.TheVariants as refusals
 use Rattle.merge_walk.specs.declared.pieces.Piece.{Piece}
 use Rattle.merge_walk.specs.declared.cursors.Cursor.{Cursor}
 use Rattle.merge_walk.specs.declared.walk.Walk.{Walk}
+use Rattle.merge_walk.specs.SpanHeads.{times_in}
 use Rattle.merge_walk.specs.Heads.{AreInSpan, FitsSpan}
-use Rattle.merge_walk.specs.Pieces.{InputBytes, PiecesInOrder, AreBytesOf, BeginTogether, IsSecond, IsInOverlap}
+use Rattle.merge_walk.specs.Pieces.{InputBytes, PiecesInOrder, AreBytesOf, BeginTogether, IsSecond, IsInOverlap, IsMostHeld}
 use Rattle.merge_walk.specs.Cursors.{turn_of, turns_left, TurnBefore, TurnBeforePiece, HasLeft, IsNext, IsFirst, IsFreshCursor}
 
 -- ---- what a walk is seen as
@@ -113,6 +114,20 @@ pub record PeakStands (w : Walk) : Type 0 where
   pub now : bytes_in (loaded_in w.window) ≤ w.peak
   pub overlap : IsInOverlap w.pieces.items w.peak
 
+-- all messages of a text were given
+abbrev pub WasGiven : List Turn → Text → Type 0
+WasGiven given x = (t : Turn) → Has (turns_in x) t → Has given t
+
+-- what counts nothing for a text that was given whole counts no more of the pieces that were loaded than of those that are held
+abbrev pub HoldsUngiven : Walk → List Text → List Turn → Type 0
+HoldsUngiven w texts given = (f : Piece → ℕ) → Each (λ x. WasGiven given x → f x.piece ≡ 0) texts
+    → sum_by f (pieces_loaded w) ≤ sum_by (λ c. f c.piece) w.cursors.items
+
+-- whatever bytes stand there for a piece, one of their messages was logged at its greatest time
+abbrev pub ReachesEnd : InputBytes → Piece → Type 0
+ReachesEnd files p =
+    (bytes : List ℕ) → AreBytesOf files p bytes → Has (times_in (heads_in bytes)) p.span.greatest
+
 -- The first pieces were loaded with these texts, and these turns were given of them: in their order, each before whatever is
 -- left, and before all of each piece that wasn't loaded yet.
 pub record WalkStands (files : InputBytes) (w : Walk) (texts : List Text) (given : List Turn) : Type 0 where
@@ -126,7 +141,9 @@ pub record WalkStands (files : InputBytes) (w : Walk) (texts : List Text) (given
   pub left : LeftButLast w
   pub held : AllZip (IsHeldAs (pieces_loaded w) texts) w.cursors.items (loaded_in w.window)
   pub few : (f : Piece → ℕ) → sum_by (λ c. f c.piece) w.cursors.items ≤ sum_by f (pieces_loaded w)
+  pub many : HoldsUngiven w texts given
   pub peak : PeakStands w
+  pub most : Each (ReachesEnd files) w.pieces.items → IsMostHeld w.pieces.items w.next w.peak
 
 -- it stands so behind some turns
 abbrev pub StandsBehindSome : InputBytes → Walk → Type 0
@@ -134,10 +151,10 @@ StandsBehindSome files w = (texts : List Text) × (given : List Turn) × WalkSta
 
 -- ---- steps
 
--- no message that is next was logged before the least time of the next piece
+-- no message that is next comes before all of the next piece
 abbrev pub NextIsDue : Walk → Type 0
 NextIsDue w = (p : Piece) → At w.pieces.items w.next p
-    → Each (λ c. (t : Turn) → IsNext c t → p.span.least ≤ t.log_time) w.cursors.items
+    → Each (λ c. (t : Turn) → IsNext c t → TurnBeforePiece t p → ⊥) w.cursors.items
 
 -- the next piece is loaded
 pub record LoadsNext (files : InputBytes) (old new : Walk) : Type 0 where

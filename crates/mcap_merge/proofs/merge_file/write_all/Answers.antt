@@ -1,10 +1,10 @@
-use Rattle.std.proofs.Common.{[], map, refl, inl, inr}
+use Rattle.std.proofs.Common.{ℕ, [], map, refl, inl, inr}
 use Rattle.mcap_io.specs.Stores.{StoreState}
 use Rattle.merge_walk.specs.Stores.{files_of}
 use Rattle.merge_walk.proofs.Stayed.{stay_so, counts_so}
 use Rattle.mcap_merge.specs.declared.answers.Merged.{Merged}
 use Rattle.mcap_merge.specs.Putting.{MergeStart}
-use Rattle.mcap_merge.proofs.Begun.{put_none, extras_stop, part_stands, whole_stands}
+use Rattle.mcap_merge.proofs.Begun.{put_none, extras_stop, counts_behind_extras, part_stands, whole_stands}
 use Rattle.mcap_merge.proofs.merge_file.write_all.Goals as goal
 
 pub returns-in-Err-clause-stopped : goal.returns-in-Err-clause-stopped
@@ -68,3 +68,6 @@ returns-in-Err-finish-clause-stopped g c =
         ends_file = c.in-Err-finish.ensures.ends;
       },
     )
+
+pub returns-in-Err-put_turns-clause-counts : goal.returns-in-Err-put_turns-clause-counts
+returns-in-Err-put_turns-clause-counts g c = counts_behind_extras ℕ Merged _ _ _ _ _ c.in-Err-put_turns.why c.in-Ok.ensures.cause c.in-Err-put_turns.ensures.counts
