@@ -11,7 +11,7 @@ use Rattle.mcap_model.specs.declared.options.FileOptions.{FileOptions}
 use Rattle.mcap_model.specs.Fields.{SchemaFields, ChannelFields, MessageFields}
 use Rattle.mcap_model.proofs.Places.{each_front}
 use Rattle.mcap_model.specs.History.{Follows, Numbered, message_of, schema_count, channel_count, history_bytes}
-use Rattle.history_ids.specs.Ids.{Ids, schemas_in, channels_in, is_known_channel, ids_of, with_ids, channel_id, new_records}
+use Rattle.history_ids.specs.Ids.{Ids, schemas_in, channels_in, is_known_channel, ids_of, with_ids, channel_place, channel_id, new_records}
 use Rattle.history_ids.specs.Tables.{HasFewIds}
 use Rattle.record_core.specs.Desk.{DeskView, accepted, with_more_records, swapped, ended, end_unless, found_of, publish_refusal, declare_refusal, Published, DeclaredBy}
 use Rattle.record_core.specs.Machine.{State, desk_of, publish, declare, accept, end_with, unless}
@@ -21,10 +21,12 @@ use Rattle.record_core.specs.declared.answers.CallRefused.{CallRefused}
 use Rattle.record_core.specs.declared.answers.CallRefused.TheVariants as refusing
 use Rattle.history_ids.proofs.Numbering.{HasContents}
 use Rattle.history_ids.proofs.Searches.{schemas_counted, channels_counted, schemas_more, channels_more}
-use Rattle.feed_lane.specs.Pass.{full_at}
-use Rattle.buffer_swap.specs.Shown.{ChannelStands, HeldThere, FoundThere}
+use Rattle.feed_lane.specs.Pass.{full_at, named_by, lack_at}
+use Rattle.buffer_swap.specs.Shown.{ChannelStands, NameStands, IdsLack, IdsLackAt, bytes_before_call, HeldThere, FoundThere}
+use Rattle.buffer_swap.specs.Turns.{BufferFits}
 use Rattle.buffer_swap.specs.Plays.{MayCount, NamedAt, LacksIdAt}
 use Rattle.buffer_swap.proofs.Reasons.{publish_reason, declare_reason}
+use Rattle.buffer_swap.proofs.Buffers.{room_added, declared_room}
 use Rattle.buffer_swap.proofs.Numbers.{message_spares, declared_spares, declared_stands, declared_id, lacks_schema, lacks_channel, schema_left}
 
 -- ---- a desk and its state
@@ -55,8 +57,8 @@ parts d s stands =
       held = omega arith;
     }
 
-pub full_there : (d : DeskView) (s : State) → DeskStandsFor d s → HeldThere s.history (full_at (found_of d))
-full_there d s stands =
+pub full_there : (swaps : List ℕ) (d : DeskView) (s : State) → DeskStandsFor d s → BufferFits swaps d → HeldThere d.limit s.history swaps (full_at (found_of d))
+full_there swaps d s stands buffer =
     let p = parts d s stands in
     let n = accepted d - d.taken in
     let rest : drop d.taken s.history ≡ d.primary = ap (λ (k : ℕ). drop k s.history) p.taken ∙ sym p.primary in
@@ -65,16 +67,38 @@ full_there d s stands =
       order = p.held;
       within = omega (arith, p.count);
       held = ap (λ (l : List Rec). length (history_bytes l)) (sym same);
+      begun = buffer.begun;
+      unswapped = λ j x at. inl (buffer.before j x at);
+      room = subst (λ (l : List Rec). bytes_before_call l < d.limit) (sym same) buffer.room;
     }
 
-pub found_there : (d : DeskView) (s : State) → DeskStandsFor d s → FoundThere s.history (found_of d)
-found_there d s stands =
+pub found_there : (swaps : List ℕ) (d : DeskView) (s : State) → DeskStandsFor d s → BufferFits swaps d → FoundThere d.limit s.history swaps (found_of d)
+found_there swaps d s stands buffer =
     let p = parts d s stands in
     let all : take (accepted d) s.history ≡ s.history = take_all (accepted d) s.history (omega (arith, p.count)) in
     record {
-      held = full_there d s stands;
+      held = full_there swaps d s stands buffer;
       schemas = ap length p.contents.schemas ∙ sym (schemas_counted s.history) ∙ ap schema_count (sym all);
       channels = ap length p.contents.channels ∙ sym (channels_counted s.history) ∙ ap channel_count (sym all);
+    }
+
+-- a channel that stands at the end of the history
+pub name_there : (d : DeskView) (s : State) (pair : ℕ × ChannelDef) → DeskStandsFor d s → ChannelStands s.history pair.0 pair.1 → NameStands s.history (named_by pair.0 pair.1 (accepted d))
+name_there d s pair stands there =
+    let p = parts d s stands in
+    record {
+      within = omega (arith, p.count);
+      stands = subst (λ (l : List Rec). ChannelStands l pair.0 pair.1) (sym (take_all (accepted d) s.history (omega (arith, p.count)))) there;
+    }
+
+-- no id is left for a declaration at the end of the history
+pub lack_there : (d : DeskView) (s : State) (pair : ChannelDef × CallRefused) → DeskStandsFor d s → IdsLack s.history pair.0 pair.1 → IdsLackAt s.history (lack_at pair.0 pair.1 (accepted d))
+lack_there d s pair stands lacks =
+    let p = parts d s stands in
+    record {
+      within = omega (arith, p.count);
+      there = subst (λ (l : List Rec). IdsLack l pair.0 pair.1) (sym (take_all (accepted d) s.history (omega (arith, p.count)))) lacks;
+      still = lacks;
     }
 
 -- ---- ids that a desk has
@@ -114,6 +138,9 @@ pub message_counts : (d after : DeskView) (channel : ℕ) (m : MessageFields) (p
 message_counts d after channel m place is steps = record {
   is = is.2;
   unended = (publish_reason d channel (length m.payload) None is.0).0;
+  room = λ was.
+      subst (λ (x : DeskView). bytes_before_call x.primary < x.limit) (sym is.2)
+      (room_added d.primary (message_of channel m ∷ []) d.limit (omega arith) (publish_reason d channel (length m.payload) None is.0).3);
   stands = λ s stands. published_state d after s channel m is.0 (steps 0) stands;
   spares = λ s stands. message_spares s.history channel m;
 }
@@ -127,6 +154,9 @@ channel_counts d after c given is steps table =
     record {
       is = is.4;
       unended = (declare_reason d c None is.0).0;
+      room = λ was.
+          subst (λ (x : DeskView). bytes_before_call x.primary < x.limit) (sym is.4)
+          (declared_room d c (channel_place d.ids c) refl (declare_reason d c None is.0).1 was);
       stands = λ s stands. declared_state d after s c is.0 (steps 0) stands;
       spares = λ s stands. declared_spares d.ids s.history c (parts d s stands).contents small.few_schemas small.few_channels;
     }

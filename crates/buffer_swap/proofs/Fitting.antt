@@ -1,5 +1,5 @@
 -- What a view says is so of a desk that has gone on.
-use Rattle.std.proofs.Common.{◌≡◌, ℕ, true, false, List, [], ◌++◌, length, Option, Some, None, refl, sym, ap, subst, ◌∙◌, length-append, arith, true≢false}
+use Rattle.std.proofs.Common.{◌≡◌, ℕ, ◌≤◌, true, false, List, [], ◌∷◌, ◌++◌, length, Option, Some, None, refl, sym, ap, subst, ◌∙◌, length-append, arith, true≢false}
 use Rattle.std.proofs.lemmas.List.{take-append-le}
 use Rattle.std.proofs.lemmas.Option.{none-some}
 use Rattle.rec_data.specs.declared.owned.Rec.{Rec}
@@ -17,7 +17,7 @@ use Rattle.buffer_swap.specs.ShownSteps.{Spares}
 use Rattle.buffer_swap.specs.Posts.{Post}
 use Rattle.buffer_swap.specs.Turns.{FoundFits, PassFits, IsFront, NoteFits, ViewFits}
 use Rattle.buffer_swap.specs.declared.view.View.{View}
-use Rattle.buffer_swap.proofs.Growing.{channel_stands_on, lacks_on, held_there_on, found_there_on}
+use Rattle.buffer_swap.proofs.Growing.{name_stands_on, lacks_at_on, held_there_on, held_there_handed, found_there_on, found_there_handed}
 
 pub no : {X : Type 0} → false ≡ true → X
 no e = absurd (true≢false (sym e))
@@ -83,8 +83,8 @@ found_later d after f go fits = record {
 
 -- ---- passes
 
-pub pass_later : (history : List Rec) (d after : DeskView) (p : PassState) → Later d after → PassFits history d p → PassFits history after p
-pass_later history d after p go fits = record {
+pub pass_later : (history : List Rec) (swaps : List ℕ) (d after : DeskView) (p : PassState) → Later d after → PassFits history swaps d p → PassFits history swaps after p
+pass_later history swaps d after p go fits = record {
   own = fits.own;
   named = fits.named;
   named_ids = fits.named_ids;
@@ -95,23 +95,23 @@ pass_later history d after p go fits = record {
   limit = fits.limit ∙ sym go.limit;
 }
 
-pub pass_grown : (history records : List Rec) (d : DeskView) (p : PassState) → d.end ≡ None → Spares history records → PassFits history d p → PassFits (history ++ records) (with_more_records d records) p
-pass_grown history records d p unended spares fits = record {
+pub pass_grown : (history records : List Rec) (swaps : List ℕ) (d : DeskView) (p : PassState) → d.end ≡ None → Spares history records → PassFits history swaps d p → PassFits (history ++ records) swaps (with_more_records d records) p
+pass_grown history records swaps d p unended spares fits = record {
   own = λ n pair at. at_kept history records pair.0 pair.1 (fits.own n pair at);
-  named = λ n pair at. channel_stands_on history records pair.0 pair.1 (fits.named n pair at);
+  named = λ n name at. name_stands_on history records name (fits.named n name at);
   named_ids = λ n pair at.
       let there = fits.named_ids n pair at in
       (there.0, omega (arith, there.1, ap length (channels_more history records), length-append (channels_in history) (channels_in records)));
-  fulls = λ n full at. held_there_on history records full (fits.fulls n full at);
-  lacks = λ n pair at. lacks_on history records pair.0 pair.1 spares (fits.lacks n pair at);
+  fulls = λ n full at. held_there_on p.limit history records swaps full (fits.fulls n full at);
+  lacks = λ n lack at. lacks_at_on history records lack spares (fits.lacks n lack at);
   found = λ f is. found_later d (with_more_records d records) f (later_added d records unended) (fits.found f is);
-  there = λ f is. found_there_on history records f (fits.there f is);
+  there = λ f is. found_there_on p.limit history records swaps f (fits.there f is);
   limit = fits.limit;
 }
 
 -- a pass without calls
-pub fits_none : (history : List Rec) (d : DeskView) (limit : ℕ) → limit ≡ d.limit → PassFits history d (no_calls limit)
-fits_none history d limit same = record {
+pub fits_none : (history : List Rec) (swaps : List ℕ) (d : DeskView) (limit : ℕ) → limit ≡ d.limit → PassFits history swaps d (no_calls limit)
+fits_none history swaps d limit same = record {
   own = λ n pair at. absurd (at_none n pair at);
   named = λ n pair at. absurd (at_none n pair at);
   named_ids = λ n pair at. absurd (at_none n pair at);
@@ -120,6 +120,31 @@ fits_none history d limit same = record {
   found = λ f is. absurd (none-some _ is);
   there = λ f is. absurd (none-some _ is);
   limit = same;
+}
+
+-- ---- a buffer that is handed over
+
+-- what a view says holds still where one more was handed over, at the end of the history
+pub pass_handed : (history : List Rec) (swaps : List ℕ) (at : ℕ) (d : DeskView) (p : PassState) → length history ≤ at → PassFits history swaps d p → PassFits history (swaps ++ at ∷ []) d p
+pass_handed history swaps at d p end fits = record {
+  own = fits.own;
+  named = fits.named;
+  named_ids = fits.named_ids;
+  fulls = λ n full here. held_there_handed p.limit history swaps at full end (fits.fulls n full here);
+  lacks = fits.lacks;
+  found = fits.found;
+  there = λ f is. found_there_handed p.limit history swaps at f end (fits.there f is);
+  limit = fits.limit;
+}
+
+pub view_handed : (history : List Rec) (swaps : List ℕ) (at : ℕ) (d : DeskView) (halt : Option Stop) (u : View) → length history ≤ at → ViewFits history swaps d halt u → ViewFits history (swaps ++ at ∷ []) d halt u
+view_handed history swaps at d halt u end fits = record {
+  hand = fits.hand;
+  pass = λ e. pass_handed history swaps at d u.pass end (fits.pass e);
+  known = λ n p here. pass_handed history swaps at d p.pass end (fits.known n p here);
+  note = fits.note;
+  drains = fits.drains;
+  idle = fits.idle;
 }
 
 -- ---- notes
@@ -160,23 +185,23 @@ note_none history d p none untold unset = record {
 
 -- ---- views of seats that don't hold the turn
 
-pub view_grown : (history records : List Rec) (d : DeskView) (halt : Option Stop) (u : View) → d.end ≡ None → Spares history records → u.holds ≡ false → ViewFits history d halt u → ViewFits (history ++ records) (with_more_records d records) halt u
-view_grown history records d halt u unended spares idle fits = record {
+pub view_grown : (history records : List Rec) (swaps : List ℕ) (d : DeskView) (halt : Option Stop) (u : View) → d.end ≡ None → Spares history records → u.holds ≡ false → ViewFits history swaps d halt u → ViewFits (history ++ records) swaps (with_more_records d records) halt u
+view_grown history records swaps d halt u unended spares idle fits = record {
   hand = λ e. no (sym idle ∙ e);
-  pass = λ e. pass_grown history records d u.pass unended spares (fits.pass e);
-  known = λ n p at. pass_grown history records d p.pass unended spares (fits.known n p at);
+  pass = λ e. pass_grown history records swaps d u.pass unended spares (fits.pass e);
+  known = λ n p at. pass_grown history records swaps d p.pass unended spares (fits.known n p at);
   note = note_grown history records d u.post unended fits.note;
   drains = fits.drains;
   idle = fits.idle;
 }
 
 -- where it is no drain, or what a drain says holds still
-pub view_later : (history : List Rec) (d after : DeskView) (halt other : Option Stop) (u : View) → Later d after → u.holds ≡ false
-    → (u.post.drains ≡ true → (length u.post.taken ≡ after.taken) × (u.post.stop ≡ other)) → ViewFits history d halt u → ViewFits history after other u
-view_later history d after halt other u go idle drains fits = record {
+pub view_later : (history : List Rec) (swaps : List ℕ) (d after : DeskView) (halt other : Option Stop) (u : View) → Later d after → u.holds ≡ false
+    → (u.post.drains ≡ true → (length u.post.taken ≡ after.taken) × (u.post.stop ≡ other)) → ViewFits history swaps d halt u → ViewFits history swaps after other u
+view_later history swaps d after halt other u go idle drains fits = record {
   hand = λ e. no (sym idle ∙ e);
-  pass = λ e. pass_later history d after u.pass go (fits.pass e);
-  known = λ n p at. pass_later history d after p.pass go (fits.known n p at);
+  pass = λ e. pass_later history swaps d after u.pass go (fits.pass e);
+  known = λ n p at. pass_later history swaps d after p.pass go (fits.known n p at);
   note = note_later history d after u.post go fits.note;
   drains = drains;
   idle = fits.idle;

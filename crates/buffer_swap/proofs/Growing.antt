@@ -1,13 +1,13 @@
 -- What a pass showed of a history is so of a longer one.
 use Rattle.std.proofs.Common.{◌≡◌, ◌⊎◌, ℕ, zero, suc, ◌+◌, ◌-◌, ◌<◌, ◌≤◌, List, [], ◌∷◌, ◌++◌, length, take, drop, Option, Some, None, sym, ap, subst, inl, inr, ◌∙◌, append-nil, length-append, arith}
-use Rattle.std.proofs.lemmas.List.{length-drop, drop-append-le, take-append-le}
+use Rattle.std.proofs.lemmas.List.{length-drop, drop-append-le, take-append-drop, take-append-le}
 use Rattle.rec_data.specs.declared.owned.Rec.{Rec}
 use Rattle.rec_data.specs.declared.schema.SchemaDef.{SchemaDef}
 use Rattle.rec_data.specs.declared.channel.ChannelDef.{ChannelDef}
 use Rattle.mcap_model.specs.Places.{At, Has}
 use Rattle.mcap_model.specs.Fields.{SchemaFields, ChannelFields}
 use Rattle.mcap_model.specs.History.{schema_of, channel_of, schema_count, channel_count, history_bytes}
-use Rattle.mcap_model.proofs.Places.{at_none, has_kept}
+use Rattle.mcap_model.proofs.Places.{at_none, at_more, has_kept}
 use Rattle.mcap_model.proofs.Lists.{at_either}
 use Rattle.history_ids.specs.Ids.{schemas_in, channels_in}
 use Rattle.history_ids.specs.DeclarationFields.{fields_of_schema, fields_with}
@@ -15,8 +15,8 @@ use Rattle.record_core.specs.declared.answers.Found.{Found}
 use Rattle.record_core.specs.declared.answers.CallRefused.{CallRefused}
 use Rattle.record_core.specs.declared.answers.CallRefused.TheVariants as refusing
 use Rattle.history_ids.proofs.Searches.{schemas_counted, channels_counted, schemas_more, channels_more, schema_content, channel_content}
-use Rattle.feed_lane.specs.Pass.{FullAt, full_at, with_places}
-use Rattle.buffer_swap.specs.Shown.{SchemaStands, ChannelStands, LacksSchema, LacksChannelId, IdsLack, HeldThere, FoundThere}
+use Rattle.feed_lane.specs.Pass.{FullAt, full_at, NamedBy, LackAt, with_places}
+use Rattle.buffer_swap.specs.Shown.{SchemaStands, ChannelStands, NameStands, LacksSchema, LacksChannelId, IdsLack, IdsLackAt, bytes_before_call, HeldThere, FoundThere}
 use Rattle.buffer_swap.specs.ShownSteps.{Spares}
 
 -- ---- places
@@ -100,6 +100,17 @@ channel_stands_on history more id d stands = record {
   schema_stands = schema_stands_on history more stands.schema d.schema stands.schema_stands;
 }
 
+pub name_stands_on : (history more : List Rec) (name : NamedBy) → NameStands history name → NameStands (history ++ more) name
+name_stands_on history more name there = record {
+  within = omega (arith, there.within, length-append history more);
+  stands = subst (λ (l : List Rec). ChannelStands l name.id name.content) (sym (take-append-le name.count history more there.within)) there.stands;
+}
+
+-- it stands in the whole history
+pub name_stands : (history : List Rec) (name : NamedBy) → NameStands history name → ChannelStands history name.id name.content
+name_stands history name there =
+    subst (λ (l : List Rec). ChannelStands l name.id name.content) (take-append-drop name.count history) (channel_stands_on (take name.count history) (drop name.count history) name.id name.content there.stands)
+
 schema_stood : (history more : List Rec) (id : ℕ) (schema : Option SchemaDef) → schemas_in more ≡ [] → SchemaStands (history ++ more) id schema → SchemaStands history id schema
 schema_stood history more id None none stands = stands
 schema_stood history more id (Some s) none stands = schema_before history more id (fields_of_schema s) none stands
@@ -132,10 +143,17 @@ lacks_on history more d refusing.TooManyChannels spares lacks =
     (lacks_channel_on history more d spares lacks.0, λ there. lacks.1 (lacked_schema history more d.schema (spares.channels lacks.0.0).0 there))
 lacks_on history more d refusal spares lacks = lacks
 
+pub lacks_at_on : (history more : List Rec) (lack : LackAt) → Spares history more → IdsLackAt history lack → IdsLackAt (history ++ more) lack
+lacks_at_on history more lack spares lacks = record {
+  within = omega (arith, lacks.within, length-append history more);
+  there = subst (λ (l : List Rec). IdsLack l lack.content lack.cause) (sym (take-append-le lack.at history more lacks.within)) lacks.there;
+  still = lacks_on history more lack.content lack.cause spares lacks.still;
+}
+
 -- ---- full buffers
 
-pub held_there_on : (history more : List Rec) (full : FullAt) → HeldThere history full → HeldThere (history ++ more) full
-held_there_on history more full there =
+pub held_there_on : (limit : ℕ) (history more : List Rec) (swaps : List ℕ) (full : FullAt) → HeldThere limit history swaps full → HeldThere limit (history ++ more) swaps full
+held_there_on limit history more swaps full there =
     let n = full.to - full.from in
     let front : drop full.from (history ++ more) ≡ drop full.from history ++ more = drop-append-le full.from history more (omega (arith, there.order, there.within)) in
     let room : n ≤ length (drop full.from history) = omega (arith, length-drop full.from history, there.within) in
@@ -145,15 +163,39 @@ held_there_on history more full there =
       order = there.order;
       within = omega (arith, there.within, length-append history more);
       held = there.held ∙ ap (λ (l : List Rec). length (history_bytes l)) (sym same);
+      begun = there.begun;
+      unswapped = there.unswapped;
+      room = subst (λ (l : List Rec). bytes_before_call l < limit) (sym same) there.room;
     }
+
+-- behind one more that was handed over, at the end of the history
+pub held_there_handed : (limit : ℕ) (history : List Rec) (swaps : List ℕ) (at : ℕ) (full : FullAt) → length history ≤ at → HeldThere limit history swaps full → HeldThere limit history (swaps ++ at ∷ []) full
+held_there_handed limit history swaps at full end there = record {
+  order = there.order;
+  within = there.within;
+  held = there.held;
+  begun = has_kept (0 ∷ swaps) (at ∷ []) full.from there.begun;
+  unswapped = λ n s here. elim (at_more swaps at n s here) [
+    | inl old ↦ there.unswapped n s old
+    | inr last ↦ inr (omega (arith, last.1, end, there.within))
+  ];
+  room = there.room;
+}
 
 -- ---- how the desk was found
 
-pub found_there_on : (history more : List Rec) (found : Found) → FoundThere history found → FoundThere (history ++ more) found
-found_there_on history more found there =
+pub found_there_on : (limit : ℕ) (history more : List Rec) (swaps : List ℕ) (found : Found) → FoundThere limit history swaps found → FoundThere limit (history ++ more) swaps found
+found_there_on limit history more swaps found there =
     let same : take found.count (history ++ more) ≡ take found.count history = take-append-le found.count history more there.held.within in
     record {
-      held = held_there_on history more (full_at found) there.held;
+      held = held_there_on limit history more swaps (full_at found) there.held;
       schemas = there.schemas ∙ ap schema_count (sym same);
       channels = there.channels ∙ ap channel_count (sym same);
     }
+
+pub found_there_handed : (limit : ℕ) (history : List Rec) (swaps : List ℕ) (at : ℕ) (found : Found) → length history ≤ at → FoundThere limit history swaps found → FoundThere limit history (swaps ++ at ∷ []) found
+found_there_handed limit history swaps at found end there = record {
+  held = held_there_handed limit history swaps at (full_at found) end there.held;
+  schemas = there.schemas;
+  channels = there.channels;
+}

@@ -1,5 +1,5 @@
 -- Each step keeps the rule.
-use Rattle.std.proofs.Common.{◌≡◌, ◌≢◌, ℕ, zero, suc, ◌+◌, ◌%◌, ◌^◌, ◌≤◌, eqb, Bool, true, false, cond, List, [], ◌∷◌, ◌++◌, length, get_or, set, take, Option, Some, None, sym, refl, ap, ◌∙◌, subst, ⊎_elim, arith, length-set, get_or-set_other, get_or-set_same, true≢false}
+use Rattle.std.proofs.Common.{◌≡◌, ◌≢◌, ℕ, zero, suc, ◌+◌, ◌%◌, ◌^◌, ◌<◌, ◌≤◌, eqb, Bool, true, false, cond, List, [], ◌∷◌, ◌++◌, length, get_or, set, take, Option, Some, None, sym, refl, ap, ◌∙◌, subst, ⊎_elim, arith, length-set, get_or-set_other, get_or-set_same, true≢false}
 use mathlib.Core.Option.{some, none, some-injective, some-ne-none}
 use mathlib.Core.Logic.{dite}
 use native.Mathlib.Decide.{ℕ_discrete}
@@ -27,19 +27,20 @@ use Rattle.record_core.specs.Machine.{State, start, accept, end_with}
 use Rattle.record_core.specs.Stands.{DeskStandsFor}
 use Rattle.record_core.specs.declared.answers.CallRefused.{CallRefused}
 use Rattle.history_ids.proofs.Searches.{schemas_counted, channels_counted}
-use Rattle.feed_lane.specs.Pass.{PassState, with_places, full_at}
+use Rattle.feed_lane.specs.Pass.{PassState, with_places, full_at, NamedBy, named_by, lack_at}
 use Rattle.feed_lane.specs.PassCalls.{with_found}
 use Rattle.buffer_swap.specs.Weights.{total, one_if, below}
-use Rattle.buffer_swap.specs.Shown.{ChannelStands, IdsLack, HeldThere, FoundThere}
+use Rattle.buffer_swap.specs.Shown.{NameStands, IdsLackAt, HeldThere, FoundThere}
 use Rattle.buffer_swap.specs.ShownSteps.{ShownTo}
 use Rattle.buffer_swap.specs.Posts.{Gathered, Post, no_post, first_post, drain_post, publisher_post, note_post}
-use Rattle.buffer_swap.specs.Turns.{view, newcomer, nobody, has_turn, is_drain, numbers_in, seat_numbers, weigh, FoundFits, PassFits, IsFront, NoteFits, ViewFits, World, Wired, KeepsTurnRule}
+use Rattle.buffer_swap.specs.Turns.{view, newcomer, nobody, has_turn, is_drain, numbers_in, seat_numbers, weigh, FoundFits, PassFits, IsFront, NoteFits, ViewFits, World, BufferFits, Wired, KeepsTurnRule}
 use Rattle.buffer_swap.specs.Plays.{Sat, HasDesk, IsIdle, StepTold, TriesTurn, IsEvent, missing, took, fresh_records, MayCount, counts, records_counted, hands_over, handed_over, shuts, closes, closed, stop_in, stops, stopped, frees as frees_view, freed, frees_counting, freed_counting, same_pass, with_full_hand, with_name, with_lacking, NamedAt, LacksIdAt, starts, drainer, hires, hired, gathered, gathers, drain_noted, reads, settled, met}
 use Rattle.buffer_swap.specs.declared.view.View.{View}
 use Rattle.buffer_swap.proofs.Sums.{total-append, total-set, term_le, terms_le, total-alone, set_at, one, total-ones, below-ones, below-more}
 use Rattle.buffer_swap.proofs.Growing.{placed_at, placed_more}
-use Rattle.buffer_swap.proofs.Desks.{parts, full_there, found_there, all_taken, swapped_stands, ended_stands}
-use Rattle.buffer_swap.proofs.Fitting.{no, later_swapped, later_ended, found_self, pass_later, fits_none, note_later, note_none, view_grown, view_later}
+use Rattle.buffer_swap.proofs.Desks.{parts, full_there, found_there, name_there, lack_there, all_taken, swapped_stands, ended_stands}
+use Rattle.buffer_swap.proofs.Buffers.{handed_buffer, ended_buffer}
+use Rattle.buffer_swap.proofs.Fitting.{no, later_swapped, later_ended, found_self, pass_later, fits_none, pass_handed, view_handed, note_later, note_none, view_grown, view_later}
 
 abbrev St : Type 0
 St = TableState DeskView View
@@ -58,22 +59,24 @@ heads : (t : St) (k : KeepsTurnRule t) (id : ℕ) (v : View) → get_elem? t.vie
 heads t k id v me z = let c = k.first in ap (λ (x : View). x.post) (some-injective v c.0 (sym me ∙ (ap (λ (i : ℕ). get_elem? t.views i) z ∙ c.1))) ∙ c.2
 
 -- a step of the seat id
-moved : (t : St) (k : KeepsTurnRule t) (id : ℕ) (v w : View) (ws : List ℕ) (hs : List (mathlib.Core.Option.Option DeskView)) (s : State) (d : DeskView) (head : Post) (halt : Option Stop) → get_elem? t.views id ≡ some v
-    → World s d head halt → Wired ws hs d → has_turn w + get_or t.words 0 0 ≡ has_turn v + get_or ws 0 0
-    → ViewFits s.history d halt w → ((j : ℕ) (u : View) → j ≢ id → get_elem? t.views j ≡ some u → ViewFits s.history d halt u)
+moved : (t : St) (k : KeepsTurnRule t) (id : ℕ) (v w : View) (ws : List ℕ) (hs : List (mathlib.Core.Option.Option DeskView)) (s : State) (swaps : List ℕ) (d : DeskView) (head : Post) (halt : Option Stop) → get_elem? t.views id ≡ some v
+    → World s d head halt → BufferFits swaps d → Wired ws hs d → has_turn w + get_or t.words 0 0 ≡ has_turn v + get_or ws 0 0
+    → ViewFits s.history swaps d halt w → ((j : ℕ) (u : View) → j ≢ id → get_elem? t.views j ≡ some u → ViewFits s.history swaps d halt u)
     → (id ≡ 0 → w.post ≡ head) → (id ≢ 0 → k.head ≡ head) → (w.post.controls ≡ true → id ≡ 0)
     → ((h : ℕ → ℕ) → seat_numbers h w + total h (below k.head.made) ≡ seat_numbers h v + total h (below head.made)) → is_drain w + one_if k.head.started ≡ is_drain v + one_if head.started
     → ((h : ℕ × Rec → ℕ) → weigh h w + total h (with_places 0 k.s.history) ≡ weigh h v + total h (with_places 0 s.history))
     → KeepsTurnRule (board ws hs (set t.views id w))
-moved t k id v w ws hs s d head halt me world wired holds mine others here there controls made drains pairs = record {
+moved t k id v w ws hs s swaps d head halt me world buffer wired holds mine others here there controls made drains pairs = record {
   s = s;
+  swaps = swaps;
   d = d;
   head = head;
   halt = halt;
   world = world;
+  buffer = buffer;
   wired = wired;
   holders = omega (arith, total-set has_turn t.views id v w me, k.holders, holds);
-  each = λ j u e. ⊎_elim (λ x. subst (ViewFits s.history d halt) x.1 mine) (λ x. others j u x.0 x.1) (at_set t.views id j w u e);
+  each = λ j u e. ⊎_elim (λ x. subst (ViewFits s.history swaps d halt) x.1 mine) (λ x. others j u x.0 x.1) (at_set t.views id j w u e);
   first = dite (ℕ_discrete 0 id)
       (λ z. (w, ap (λ (i : ℕ). get_elem? (set t.views id w) i) z ∙ set_at t.views id v w me, here (sym z)))
       (λ nz. (k.first.0, set_else t.views id 0 w nz ∙ k.first.1, k.first.2 ∙ there (λ z. nz (sym z))));
@@ -87,15 +90,15 @@ abbrev Goes : St → ℕ → ℕ → Sat → (ℕ → Sat → Type 0) → ℕ �
 Goes t i id m then n = (w : View) × (a : Act DeskView) × Valid t.homes m.1 a × KeepsTurnRule (stepped t i n id m.1 w a) × then (get_or t.words i 0) (w, carried_after m.1 a)
 
 -- what is so of a pass that looks at the desk
-looked : (s : State) (d : DeskView) (p : PassState) → DeskStandsFor d s → PassFits s.history d p → PassFits s.history d (with_found p (found_of d))
-looked s d p stands fits = record {
+looked : (s : State) (swaps : List ℕ) (d : DeskView) (p : PassState) → DeskStandsFor d s → BufferFits swaps d → PassFits s.history swaps d p → PassFits s.history swaps d (with_found p (found_of d))
+looked s swaps d p stands buffer fits = record {
   own = fits.own;
   named = fits.named;
   named_ids = fits.named_ids;
   fulls = fits.fulls;
   lacks = fits.lacks;
   found = λ f is. subst (FoundFits d) (same_Some _ _ is) (found_self d);
-  there = λ f is. subst (FoundThere s.history) (same_Some _ _ is) (found_there d s stands);
+  there = λ f is. subst (FoundThere p.limit s.history swaps) (same_Some _ _ is) (subst (λ (n : ℕ). FoundThere n s.history swaps (found_of d)) (sym fits.limit) (found_there swaps d s stands buffer));
   limit = fits.limit;
 }
 
@@ -107,7 +110,7 @@ takes_free n id m idle t k wide me _ = let tries : TriesTurn (step n 0 0 1 none)
       w,
       takes 0 d,
       k.wired.free hit,
-      moved t k id m.0 w (set t.words 0 1) (set t.homes 0 none) k.s d k.head k.halt me k.world
+      moved t k id m.0 w (set t.words 0 1) (set t.homes 0 none) k.s k.swaps d k.head k.halt me k.world k.buffer
           record {
             wide = length-set t.words 0 1 ∙ long;
             homes_one = length-set t.homes 0 none ∙ near;
@@ -116,7 +119,7 @@ takes_free n id m idle t k wide me _ = let tries : TriesTurn (step n 0 0 1 none)
             out = λ _. set_here t.homes 0 none (omega arith);
           }
           (omega arith)
-          record { hand = λ _. refl; pass = λ e. looked k.s d m.0.pass k.world.stands (f.pass e); known = f.known; note = f.note; drains = f.drains; idle = f.idle } (λ j u _ e. k.each j u e)
+          record { hand = λ _. refl; pass = λ e. looked k.s k.swaps d m.0.pass k.world.stands k.buffer (f.pass e); known = f.known; note = f.note; drains = f.drains; idle = f.idle } (λ j u _ e. k.each j u e)
           (heads t k id m.0 me) (λ _. refl) (k.controls id m.0 me) (λ h. refl) (omega arith) (λ h. refl),
       (
         tries,
@@ -125,7 +128,7 @@ takes_free n id m idle t k wide me _ = let tries : TriesTurn (step n 0 0 1 none)
             d = d;
             missed = m.0.missed;
             is = ap (λ (l : List (ℕ × DeskView)). (w, (0, d) ∷ l)) idle.out;
-            stood = λ e. record { s = k.s; stands = k.world.stands; last = k.world.last; fits = f.pass e };
+            stood = λ e. record { s = k.s; swaps = k.swaps; stands = k.world.stands; last = k.world.last; fits = f.pass e };
             drained = λ e. (f.drains e).0;
             halted = f.note.stood;
           },
@@ -138,7 +141,7 @@ takes_free n id m idle t k wide me _ = let tries : TriesTurn (step n 0 0 1 none)
       w,
       keeps,
       tt,
-      moved t k id m.0 w (set t.words 0 x) t.homes k.s k.d k.head k.halt me k.world
+      moved t k id m.0 w (set t.words 0 x) t.homes k.s k.swaps k.d k.head k.halt me k.world k.buffer
           record { wide = length-set t.words 0 x ∙ long; homes_one = near; turn = omega arith; free = λ e. absurd (miss (sym at ∙ e)); out = λ e. k.wired.out (sym at ∙ e) }
           (omega arith)
           record { hand = λ e. no e; pass = f.pass; known = f.known; note = f.note; drains = f.drains; idle = f.idle } (λ j u _ e. k.each j u e)
@@ -155,16 +158,16 @@ takes_turn n id m i old new tries idle =
 
 -- the turn is freed, with what the pass shows then
 frees : (n id : ℕ) (v : View) (d : DeskView) (c : View → PassState) → v.holds ≡ true → d ≡ v.hand
-    → ((s : State) → DeskStandsFor v.hand s → PassFits s.history v.hand v.pass → PassFits s.history v.hand (c v)) → (c v).own ≡ v.pass.own
+    → ((s : State) (swaps : List ℕ) → DeskStandsFor v.hand s → BufferFits swaps v.hand → PassFits s.history swaps v.hand v.pass → PassFits s.history swaps v.hand (c v)) → (c v).own ≡ v.pass.own
     → Allows KeepsTurnRule n id (v, (0, d) ∷ []) 0 (λ _. 0) (λ _. freed c (step n 0 0 0 none) (v, (0, d) ∷ []) 0)
 frees n id v d c holds is learns own t k wide me _ = let x : ℕ = get_or t.words 0 0 in let long = k.wired.wide in let near = k.wired.homes_one in let most = k.wired.turn in
     let busy = has v holds in let part = term_le has_turn t.views id v me in let all = k.holders in let f = k.each id v me in
     let w : View = frees_view v (c v) in let same = get_or-set_same t.words 0 0 0 (omega arith) in let hand : v.hand ≡ k.d = f.hand holds in let desk : d ≡ k.d = is ∙ hand in
-    let told : PassFits k.s.history v.hand v.pass → PassFits k.s.history v.hand (c v) = learns k.s (subst (λ (z : DeskView). DeskStandsFor z k.s) (sym hand) k.world.stands) in (
+    let told : PassFits k.s.history k.swaps v.hand v.pass → PassFits k.s.history k.swaps v.hand (c v) = learns k.s k.swaps (subst (λ (z : DeskView). DeskStandsFor z k.s) (sym hand) k.world.stands) (subst (BufferFits k.swaps) (sym hand) k.buffer) in (
       w,
       gives,
       tt,
-      moved t k id v w (set t.words 0 0) (set t.homes 0 (some d)) k.s k.d k.head k.halt me k.world
+      moved t k id v w (set t.words 0 0) (set t.homes 0 (some d)) k.s k.swaps k.d k.head k.halt me k.world k.buffer
           record {
             wide = length-set t.words 0 0 ∙ long;
             homes_one = length-set t.homes 0 (some d) ∙ near;
@@ -175,7 +178,7 @@ frees n id v d c holds is learns own t k wide me _ = let x : ℕ = get_or t.word
           (omega arith)
           record {
             hand = λ e. no e;
-            pass = λ e. subst (λ (z : DeskView). PassFits k.s.history z (c v)) hand (told (subst (λ (z : DeskView). PassFits k.s.history z v.pass) (sym hand) (f.pass e)));
+            pass = λ e. subst (λ (z : DeskView). PassFits k.s.history k.swaps z (c v)) hand (told (subst (λ (z : DeskView). PassFits k.s.history k.swaps z v.pass) (sym hand) (f.pass e)));
             known = f.known;
             note = f.note;
             drains = f.drains;
@@ -187,20 +190,20 @@ frees n id v d c holds is learns own t k wide me _ = let x : ℕ = get_or t.word
     )
 
 frees_as : (n id : ℕ) (m : Sat) (c : View → PassState) → HasDesk m
-    → ((s : State) → DeskStandsFor m.0.hand s → PassFits s.history m.0.hand m.0.pass → PassFits s.history m.0.hand (c m.0)) → (c m.0).own ≡ m.0.pass.own
+    → ((s : State) (swaps : List ℕ) → DeskStandsFor m.0.hand s → BufferFits swaps m.0.hand → PassFits s.history swaps m.0.hand m.0.pass → PassFits s.history swaps m.0.hand (c m.0)) → (c m.0).own ≡ m.0.pass.own
     → Allows KeepsTurnRule n id m 0 (λ _. 0) (λ _. freed c (step n 0 0 0 none) m 0)
 frees_as n id m c desk learns own = subst (λ (l : List (ℕ × DeskView)). Allows KeepsTurnRule n id (m.0, l) 0 (λ _. 0) (λ _. freed c (step n 0 0 0 none) (m.0, l) 0)) (sym desk.out) (frees n id m.0 m.0.hand c desk.holds refl learns own)
 
 pub frees_turn : (n id : ℕ) (m : Sat) → HasDesk m → Allows KeepsTurnRule n id m 0 (λ _. 0) (λ _. freed same_pass (step n 0 0 0 none) m 0)
-frees_turn n id m desk = frees_as n id m same_pass desk (λ s stands fits. fits) refl
+frees_turn n id m desk = frees_as n id m same_pass desk (λ s swaps stands buffer fits. fits) refl
 
 pub frees_full : (n id : ℕ) (m : Sat) → HasDesk m → Allows KeepsTurnRule n id m 0 (λ _. 0) (λ _. freed with_full_hand (step n 0 0 0 none) m 0)
 frees_full n id m desk = let d = m.0.hand in frees_as n id m with_full_hand desk
-    (λ s stands fits. record {
+    (λ s swaps stands buffer fits. record {
       own = fits.own;
       named = fits.named;
       named_ids = fits.named_ids;
-      fulls = each_last (HeldThere s.history) m.0.pass.fulls (full_at (found_of d)) fits.fulls (full_there d s stands);
+      fulls = each_last (HeldThere m.0.pass.limit s.history swaps) m.0.pass.fulls (full_at (found_of d)) fits.fulls (subst (λ (n : ℕ). HeldThere n s.history swaps (full_at (found_of d))) (sym fits.limit) (full_there swaps d s stands buffer));
       lacks = fits.lacks;
       found = fits.found;
       there = fits.there;
@@ -209,10 +212,10 @@ frees_full n id m desk = let d = m.0.hand in frees_as n id m with_full_hand desk
 
 pub frees_named : (n id : ℕ) (m : Sat) (pair : ℕ × ChannelDef) → HasDesk m → NamedAt m.0.hand pair → Allows KeepsTurnRule n id m 0 (λ _. 0) (λ _. freed (with_name pair) (step n 0 0 0 none) m 0)
 frees_named n id m pair desk named = let d = m.0.hand in frees_as n id m (with_name pair) desk
-    (λ s stands fits. let there = named s stands in let p = parts d s stands in record {
+    (λ s swaps stands buffer fits. let there = named s stands in let p = parts d s stands in record {
       own = fits.own;
-      named = each_last (λ (x : ℕ × ChannelDef). ChannelStands s.history x.0 x.1) m.0.pass.named pair fits.named there.0;
-      named_ids = each_last (λ (x : ℕ × ChannelDef). (1 ≤ x.0) × (x.0 ≤ length (channels_in s.history))) m.0.pass.named pair fits.named_ids (there.1, omega (arith, there.2, ap length p.contents.channels));
+      named = each_last (NameStands s.history) m.0.pass.named (named_by pair.0 pair.1 (accepted m.0.hand)) fits.named (name_there m.0.hand s pair stands there.0);
+      named_ids = each_last (λ (x : NamedBy). (1 ≤ x.id) × (x.id ≤ length (channels_in s.history))) m.0.pass.named (named_by pair.0 pair.1 (accepted m.0.hand)) fits.named_ids (there.1, omega (arith, there.2, ap length p.contents.channels));
       fulls = fits.fulls;
       lacks = fits.lacks;
       found = fits.found;
@@ -222,12 +225,12 @@ frees_named n id m pair desk named = let d = m.0.hand in frees_as n id m (with_n
 
 pub frees_lacking : (n id : ℕ) (m : Sat) (pair : ChannelDef × CallRefused) → HasDesk m → LacksIdAt m.0.hand pair → Allows KeepsTurnRule n id m 0 (λ _. 0) (λ _. freed (with_lacking pair) (step n 0 0 0 none) m 0)
 frees_lacking n id m pair desk lacks = frees_as n id m (with_lacking pair) desk
-    (λ s stands fits. record {
+    (λ s swaps stands buffer fits. record {
       own = fits.own;
       named = fits.named;
       named_ids = fits.named_ids;
       fulls = fits.fulls;
-      lacks = each_last (λ (x : ChannelDef × CallRefused). IdsLack s.history x.0 x.1) m.0.pass.lacks pair fits.lacks (lacks s stands);
+      lacks = each_last (IdsLackAt s.history) m.0.pass.lacks (lack_at pair.0 pair.1 (accepted m.0.hand)) fits.lacks (lack_there m.0.hand s pair stands (lacks s stands));
       found = fits.found;
       there = fits.there;
       limit = fits.limit;
@@ -238,15 +241,15 @@ by_bool X true f g = f refl
 by_bool X false f g = g refl
 
 -- an event of the seat that holds the turn: word 1 rises, and the desk, the history and its view change
-event : (t : St) (k : KeepsTurnRule t) (id : ℕ) (v w : View) (y : ℕ) (s : State) (d : DeskView) (head : Post) (halt : Option Stop) → get_elem? t.views id ≡ some v → v.holds ≡ true → w.holds ≡ true
-    → World s d head halt → ViewFits s.history d halt w → ((u : View) (j : ℕ) → j ≢ id → get_elem? t.views j ≡ some u → u.holds ≡ false → ViewFits k.s.history k.d k.halt u → ViewFits s.history d halt u)
+event : (t : St) (k : KeepsTurnRule t) (id : ℕ) (v w : View) (y : ℕ) (s : State) (swaps : List ℕ) (d : DeskView) (head : Post) (halt : Option Stop) → get_elem? t.views id ≡ some v → v.holds ≡ true → w.holds ≡ true
+    → World s d head halt → BufferFits swaps d → ViewFits s.history swaps d halt w → ((u : View) (j : ℕ) → j ≢ id → get_elem? t.views j ≡ some u → u.holds ≡ false → ViewFits k.s.history k.swaps k.d k.halt u → ViewFits s.history swaps d halt u)
     → (id ≡ 0 → w.post ≡ head) → (id ≢ 0 → k.head ≡ head) → (w.post.controls ≡ true → id ≡ 0)
     → ((h : ℕ → ℕ) → seat_numbers h w + total h (below k.head.made) ≡ seat_numbers h v + total h (below head.made)) → is_drain w + one_if k.head.started ≡ is_drain v + one_if head.started
     → ((h : ℕ × Rec → ℕ) → weigh h w + total h (with_places 0 k.s.history) ≡ weigh h v + total h (with_places 0 s.history))
     → KeepsTurnRule (board (set t.words 1 y) t.homes (set t.views id w))
-event t k id v w y s d head halt me holds still world mine others here there controls made drains pairs =
+event t k id v w y s swaps d head halt me holds still world buffer mine others here there controls made drains pairs =
     let other = get_or-set_other t.words 1 0 y 0 (λ e. omega arith) in let busy = has v holds in let now = has w still in let part = term_le has_turn t.views id v me in let all = k.holders in let most = k.wired.turn in
-    moved t k id v w (set t.words 1 y) t.homes s d head halt me world
+    moved t k id v w (set t.words 1 y) t.homes s swaps d head halt me world buffer
     record { wide = length-set t.words 1 y ∙ k.wired.wide; homes_one = k.wired.homes_one; turn = omega arith; free = λ e. absurd (omega arith); out = λ e. k.wired.out (sym other ∙ e) }
     (omega arith) mine
     (λ j u apart e. others u j apart e (by_bool _ u.holds (λ yes_turn. absurd (omega (arith, has u yes_turn, terms_le has_turn t.views id j v u apart me e))) (λ no_turn. no_turn)) (k.each j u e))
@@ -278,8 +281,9 @@ none_unended d unended e is = none-some e (sym (ap first_of unended) ∙ is)
 -- its own view, of the others, which don't hold the turn, and of the pairs.
 record Counting (t : St) (k : KeepsTurnRule t) (v : View) (records : List Rec) : Type 0 where
   world : World (accept 0 records k.s) (with_more_records v.hand records) k.head k.halt
-  mine : (held : Bool) → ViewFits (k.s.history ++ records) (with_more_records v.hand records) k.halt (view held (with_more_records v.hand records) v.missed (counts v (with_more_records v.hand records)).pass v.post)
-  others : (u : View) → u.holds ≡ false → ViewFits k.s.history k.d k.halt u → ViewFits (k.s.history ++ records) (with_more_records v.hand records) k.halt u
+  buffer : BufferFits k.swaps (with_more_records v.hand records)
+  mine : (held : Bool) → ViewFits (k.s.history ++ records) k.swaps (with_more_records v.hand records) k.halt (view held (with_more_records v.hand records) v.missed (counts v (with_more_records v.hand records)).pass v.post)
+  others : (u : View) → u.holds ≡ false → ViewFits k.s.history k.swaps k.d k.halt u → ViewFits (k.s.history ++ records) k.swaps (with_more_records v.hand records) k.halt u
   pairs : (h : ℕ × Rec → ℕ) → weigh h (counts v (with_more_records v.hand records)) + total h (with_places 0 k.s.history) ≡ weigh h v + total h (with_places 0 (k.s.history ++ records))
 
 counting : (t : St) (k : KeepsTurnRule t) (id : ℕ) (v : View) (records : List Rec) → get_elem? t.views id ≡ some v → v.holds ≡ true → MayCount v.hand records (with_more_records v.hand records) → v.post.publishes ≡ true → Counting t k v records
@@ -288,11 +292,12 @@ counting t k id v records me holds may named = let hand = v.hand in let d = with
     let stands : DeskStandsFor hand k.s = subst (λ (z : DeskView). DeskStandsFor z k.s) (sym is) k.world.stands in let p = parts hand k.s stands in
     let new : fresh_records hand d ≡ records = drop-append_seam hand.primary records in
     let spares = may.spares k.s stands in
+    let filled : BufferFits k.swaps hand = subst (BufferFits k.swaps) (sym is) k.buffer in
     let unended = may.unended in
     let idle_view : View = view false v.hand v.missed v.pass v.post in
-    let was : ViewFits k.s.history hand k.halt idle_view = subst (λ (z : DeskView). ViewFits k.s.history z k.halt idle_view) (sym is)
+    let was : ViewFits k.s.history k.swaps hand k.halt idle_view = subst (λ (z : DeskView). ViewFits k.s.history k.swaps z k.halt idle_view) (sym is)
     record { hand = λ e. no e; pass = f.pass; known = f.known; note = f.note; drains = f.drains; idle = f.idle } in
-    let g : ViewFits history d k.halt idle_view = view_grown k.s.history records hand k.halt idle_view unended spares refl was in
+    let g : ViewFits history k.swaps d k.halt idle_view = view_grown k.s.history records k.swaps hand k.halt idle_view unended spares refl was in
     let more = subst (λ (l : List Rec). Each (λ (pair : ℕ × Rec). At history pair.0 pair.1) (with_places (accepted hand) l)) (sym new) (placed_behind k.s.history records (accepted hand) p.count) in record {
       world = record {
         stands = may.stands k.s stands;
@@ -304,6 +309,7 @@ counting t k id v records me holds may named = let hand = v.hand in let d = with
         halted = λ stop e. absurd (none_unended hand unended (Stopped stop) e);
         stood = λ stop e. ap desk_end is ∙ k.world.stood stop e;
       };
+      buffer = record { rise = filled.rise; begun = filled.begun; before = filled.before; room = may.room filled.room };
       mine = λ held. record {
         hand = λ _. refl;
         pass = λ e. let there = g.pass e in record {
@@ -321,7 +327,7 @@ counting t k id v records me holds may named = let hand = v.hand in let d = with
         drains = g.drains;
         idle = λ z. absurd (true≢false (sym named ∙ z));
       };
-      others = λ u idle h. view_grown k.s.history records hand k.halt u unended spares idle (subst (λ (z : DeskView). ViewFits k.s.history z k.halt u) (sym is) h);
+      others = λ u idle h. view_grown k.s.history records k.swaps hand k.halt u unended spares idle (subst (λ (z : DeskView). ViewFits k.s.history k.swaps z k.halt u) (sym is) h);
       pairs = λ h.
           let a : total h (v.pass.own ++ with_places (accepted hand) (fresh_records hand d)) ≡ total h v.pass.own + total h (with_places (length k.s.history) records) =
           total-append h v.pass.own (with_places (accepted hand) (fresh_records hand d)) ∙ ap (λ (z : ℕ × List Rec). total h v.pass.own + total h (with_places z.0 z.1)) (λ i. (p.count i, new i)) in
@@ -338,7 +344,7 @@ counts_records n id v records holds may named t k wide me _ = let d = with_more_
   w,
   keeps,
   tt,
-  event t k id v w ((get_or t.words 1 0 + 1) % 2 ^ 64) (accept 0 records k.s) d k.head k.halt me holds refl it.world (it.mine true) (λ u j _ _ idle h. it.others u idle h)
+  event t k id v w ((get_or t.words 1 0 + 1) % 2 ^ 64) (accept 0 records k.s) k.swaps d k.head k.halt me holds refl it.world it.buffer (it.mine true) (λ u j _ _ idle h. it.others u idle h)
       (heads t k id v me) (λ _. refl) (k.controls id v me) (λ h. refl) (omega arith) it.pairs,
   (rises n, refl),
 )
@@ -352,7 +358,7 @@ frees_records n id v records holds may named t k wide me _ = let x : ℕ = get_o
       w,
       gives,
       tt,
-      moved t k id v w (set t.words 0 0) (set t.homes 0 (some d)) (accept 0 records k.s) d k.head k.halt me it.world
+      moved t k id v w (set t.words 0 0) (set t.homes 0 (some d)) (accept 0 records k.s) k.swaps d k.head k.halt me it.world it.buffer
           record {
             wide = length-set t.words 0 0 ∙ long;
             homes_one = length-set t.homes 0 (some d) ∙ near;
@@ -382,9 +388,9 @@ one_most true = omega arith
 one_most false = omega arith
 
 -- the buffer is handed over
-hands_primary : (n id : ℕ) (v : View) → v.holds ≡ true → v.post ≡ drain_post v.post.stop v.post.taken → let d = swapped v.hand in
+hands_primary : (n id : ℕ) (v : View) → v.holds ≡ true → v.post ≡ drain_post v.post.stop v.post.taken → (v.hand.primary ≡ [] → ⊥) → let d = swapped v.hand in
     Allows KeepsTurnRule n id (v, (0, d) ∷ []) 1 (λ y. (y + 1) % 2 ^ 64) (handed_over (step n 1 1 0 none) (v, (0, d) ∷ []))
-hands_primary n id v holds shape t k wide me _ = let hand = v.hand in let d = swapped hand in let f = k.each id v me in let is : hand ≡ k.d = f.hand holds in
+hands_primary n id v holds shape loaded t k wide me _ = let hand = v.hand in let d = swapped hand in let f = k.each id v me in let is : hand ≡ k.d = f.hand holds in
     let history = k.s.history in let s : State = all_taken k.s in let w : View = hands_over v d in
     let stands : DeskStandsFor hand k.s = subst (λ (z : DeskView). DeskStandsFor z k.s) (sym is) k.world.stands in let p = parts hand k.s stands in
     let drains : v.post.drains ≡ true = ap (λ (x : Post). x.drains) shape in
@@ -392,6 +398,7 @@ hands_primary n id v holds shape t k wide me _ = let hand = v.hand in let d = sw
     let kind : v.post.controls ≡ false = ap (λ (x : Post). x.controls) shape in
     let none_made : v.post.publishes ≡ false = ap (λ (x : Post). x.publishes) shape in
     let none_known : v.post.known ≡ [] = ap (λ (x : Post). x.known) shape in
+    let filled : BufferFits k.swaps hand = subst (BufferFits k.swaps) (sym is) k.buffer in let swaps : List ℕ = k.swaps ++ accepted hand ∷ [] in let end : length history ≤ accepted hand = omega (arith, p.count) in
     let had : length v.post.taken ≡ k.s.taken = (f.drains drains).0 ∙ ap (λ (z : DeskView). z.taken) (sym is) ∙ p.taken in
     let whole : v.post.taken ++ hand.primary ≡ history =
     ap (λ (l : List Rec). l ++ hand.primary) (f.note.taken.same ∙ ap (λ (i : ℕ). take i history) had) ∙ ap (λ (l : List Rec). take k.s.taken history ++ l) p.primary ∙ take-append-drop k.s.taken history in
@@ -400,7 +407,7 @@ hands_primary n id v holds shape t k wide me _ = let hand = v.hand in let d = sw
       w,
       keeps,
       tt,
-      event t k id v w ((get_or t.words 1 0 + 1) % 2 ^ 64) s d k.head k.halt me holds refl
+      event t k id v w ((get_or t.words 1 0 + 1) % 2 ^ 64) s swaps d k.head k.halt me holds refl
           record {
             stands = swapped_stands hand k.s stands;
             last = λ e at end. let same = k.world.last e at (ap (λ (z : DeskView). z.end) (sym is) ∙ end) in omega (arith, same, ap accepted is);
@@ -411,9 +418,10 @@ hands_primary n id v holds shape t k wide me _ = let hand = v.hand in let d = sw
             halted = λ stop e. k.world.halted stop (ap desk_end (sym is) ∙ e);
             stood = λ stop e. ap desk_end is ∙ k.world.stood stop e;
           }
+          (handed_buffer k.swaps hand loaded filled)
           record {
             hand = λ _. refl;
-            pass = λ _. pass_later history hand d v.pass (later_swapped hand) (subst (λ (z : DeskView). PassFits history z v.pass) (sym is) (f.pass seated));
+            pass = λ _. pass_later history swaps hand d v.pass (later_swapped hand) (pass_handed history k.swaps (accepted hand) hand v.pass end (subst (λ (z : DeskView). PassFits history k.swaps z v.pass) (sym is) (f.pass seated)));
             known = λ j x at. absurd (at_none j x at);
             note = record {
               taken = record { within = omega (arith, ap length whole); same = whole ∙ sym (take_all (length (v.post.taken ++ hand.primary)) history (omega (arith, ap length whole))) };
@@ -424,17 +432,17 @@ hands_primary n id v holds shape t k wide me _ = let hand = v.hand in let d = sw
             drains = λ _. (ap length whole ∙ sym p.count, (f.drains drains).1);
             idle = λ _. f.idle none_made;
           }
-          (λ u j apart e idle h. view_later history hand d k.halt k.halt u (later_swapped hand) idle
+          (λ u j apart e idle h. view_later history swaps hand d k.halt k.halt u (later_swapped hand) idle
           (λ theirs. let both : is_drain u ≡ 1 = ap one_if theirs in let most = one_most k.head.started in absurd (omega (arith, terms_le is_drain t.views id j v u apart me e, k.drains)))
-          (subst (λ (z : DeskView). ViewFits history z k.halt u) (sym is) h))
+          (view_handed history k.swaps (accepted hand) hand k.halt u end (subst (λ (z : DeskView). ViewFits history k.swaps z k.halt u) (sym is) h)))
           (λ z. absurd (not_first z)) (λ _. refl) (λ e. no e) (λ h. omega (arith, ap (numbers_in h) shape)) (omega arith) (λ h. omega (arith, ap (total (λ (x : Gathered). total h x.pass.own)) none_known)),
       (rises n, refl, subst Numbered (sym whole) k.world.stands.numbered),
     )
 
-pub hands_as : (n id : ℕ) (m : Sat) (i more : ℕ) → IsEvent (step n i more 0 none) → m.1 ≡ (0, swapped m.0.hand) ∷ [] → m.0.holds ≡ true → m.0.post ≡ drain_post m.0.post.stop m.0.post.taken
+pub hands_as : (n id : ℕ) (m : Sat) (i more : ℕ) → IsEvent (step n i more 0 none) → m.1 ≡ (0, swapped m.0.hand) ∷ [] → m.0.holds ≡ true → m.0.post ≡ drain_post m.0.post.stop m.0.post.taken → (m.0.hand.primary ≡ [] → ⊥)
     → ByEvent n id m handed_over i more
-hands_as n id m i more event out holds shape = by_event n id m handed_over i more event (subst (λ (c : List (ℕ × DeskView)). Allows KeepsTurnRule n id (m.0, c) 1 (λ y. (y + 1) % 2 ^ 64) (handed_over (step n 1 1 0 none) (m.0, c)))
-    (sym out) (hands_primary n id m.0 holds shape))
+hands_as n id m i more event out holds shape loaded = by_event n id m handed_over i more event (subst (λ (c : List (ℕ × DeskView)). Allows KeepsTurnRule n id (m.0, c) 1 (λ y. (y + 1) % 2 ^ 64) (handed_over (step n 1 1 0 none) (m.0, c)))
+    (sym out) (hands_primary n id m.0 holds shape loaded))
 
 abbrev placed_end : End → ℕ → End × ℕ
 placed_end end at = (end, at)
@@ -472,7 +480,7 @@ closes_log n id v holds unended controls quiet t k wide me _ = let hand = v.hand
       w,
       keeps,
       tt,
-      event t k id v w ((get_or t.words 1 0 + 1) % 2 ^ 64) s d (shuts k.head) k.halt me holds refl
+      event t k id v w ((get_or t.words 1 0 + 1) % 2 ^ 64) s k.swaps d (shuts k.head) k.halt me holds refl
           record {
             stands = ended_stands hand k.s Closed stands;
             last = ended_last hand Closed unended;
@@ -483,16 +491,17 @@ closes_log n id v holds unended controls quiet t k wide me _ = let hand = v.hand
             halted = λ stop e. closed_stopped stop (end_of_is hand Closed (Stopped stop) unended e);
             stood = λ stop e. absurd (none_unended hand unended (Stopped stop) (ap desk_end is ∙ k.world.stood stop e));
           }
+          (ended_buffer k.swaps hand Closed (subst (BufferFits k.swaps) (sym is) k.buffer))
           record {
             hand = λ _. refl;
-            pass = λ e. pass_later history hand d v.pass go (subst (λ (z : DeskView). PassFits history z v.pass) (sym is) (f.pass e));
-            known = λ j x at. pass_later history hand d x.pass go (subst (λ (z : DeskView). PassFits history z x.pass) (sym is) (f.known j x at));
+            pass = λ e. pass_later history k.swaps hand d v.pass go (subst (λ (z : DeskView). PassFits history k.swaps z v.pass) (sym is) (f.pass e));
+            known = λ j x at. pass_later history k.swaps hand d x.pass go (subst (λ (z : DeskView). PassFits history k.swaps z x.pass) (sym is) (f.known j x at));
             note = note_later history hand d (shuts v.post) go (subst (λ (z : DeskView). NoteFits history z (shuts v.post)) (sym is) (record { taken = f.note.taken; told = f.note.told; cause = f.note.cause; stood = f.note.stood }));
             drains = λ e. no (sym quiet ∙ e);
             idle = f.idle;
           }
-          (λ u j apart e idle h. view_later history hand d k.halt k.halt u go idle (λ theirs. let there = h.drains theirs in (there.0 ∙ ap (λ (z : DeskView). z.taken) (sym is), there.1))
-          (subst (λ (z : DeskView). ViewFits history z k.halt u) (sym is) h))
+          (λ u j apart e idle h. view_later history k.swaps hand d k.halt k.halt u go idle (λ theirs. let there = h.drains theirs in (there.0 ∙ ap (λ (z : DeskView). z.taken) (sym is), there.1))
+          (subst (λ (z : DeskView). ViewFits history k.swaps z k.halt u) (sym is) h))
           (λ _. ap shuts mine) (λ nz. absurd (nz zero_id)) (λ _. zero_id) (λ h. refl) (omega (arith, ap (λ (x : Post). one_if x.started) mine)) (λ h. refl),
       (rises n, refl),
     )
@@ -522,7 +531,7 @@ stops_log n id v stop holds unended shape t k wide me _ = let hand = v.hand in l
       w,
       keeps,
       tt,
-      event t k id v w ((get_or t.words 1 0 + 1) % 2 ^ 64) s d k.head (Some stop) me holds refl
+      event t k id v w ((get_or t.words 1 0 + 1) % 2 ^ 64) s k.swaps d k.head (Some stop) me holds refl
           record {
             stands = ended_stands hand k.s (Stopped stop) stands;
             last = ended_last hand (Stopped stop) unended;
@@ -533,17 +542,18 @@ stops_log n id v stop holds unended shape t k wide me _ = let hand = v.hand in l
             halted = λ other e. ap Some (stopped_same stop other (end_of_is hand (Stopped stop) (Stopped other) unended e));
             stood = stops_so;
           }
+          (ended_buffer k.swaps hand (Stopped stop) (subst (BufferFits k.swaps) (sym is) k.buffer))
           record {
             hand = λ _. refl;
-            pass = λ _. pass_later history hand d v.pass go (subst (λ (z : DeskView). PassFits history z v.pass) (sym is) (f.pass seated));
+            pass = λ _. pass_later history k.swaps hand d v.pass go (subst (λ (z : DeskView). PassFits history k.swaps z v.pass) (sym is) (f.pass seated));
             known = λ j x at. absurd (at_none j x at);
             note = record { taken = f.note.taken; told = λ g e. absurd (none-some _ e); cause = λ g other e. absurd (none-some _ e); stood = λ other e. stops_so other (sym set_to ∙ e) };
             drains = λ _. ((f.drains drains).0 ∙ ap (λ (z : DeskView). z.taken) (sym is), set_to);
             idle = λ _. f.idle none_made;
           }
-          (λ u j apart e idle h. view_later history hand d k.halt (Some stop) u go idle
+          (λ u j apart e idle h. view_later history k.swaps hand d k.halt (Some stop) u go idle
           (λ theirs. let both : is_drain u ≡ 1 = ap one_if theirs in let most = one_most k.head.started in absurd (omega (arith, terms_le is_drain t.views id j v u apart me e, k.drains)))
-          (subst (λ (z : DeskView). ViewFits history z k.halt u) (sym is) h))
+          (subst (λ (z : DeskView). ViewFits history k.swaps z k.halt u) (sym is) h))
           (λ z. absurd (not_first z)) (λ _. refl) (λ e. no e) (λ h. omega (arith, ap (numbers_in h) shape)) (omega arith) (λ h. omega (arith, ap (total (λ (x : Gathered). total h x.pass.own)) none_known)),
       (rises n, refl),
     )
@@ -557,18 +567,20 @@ stops_as n id m stop i more event out holds unended shape = by_event n id m stop
 
 -- a seat is cut in two
 split : (t : St) (k : KeepsTurnRule t) (id : ℕ) (v w r : View) (head : Post) → get_elem? t.views id ≡ some v → w.holds ≡ v.holds → r.holds ≡ false
-    → World k.s k.d head k.halt → ViewFits k.s.history k.d k.halt w → ViewFits k.s.history k.d k.halt r → (id ≡ 0 → w.post ≡ head) → (id ≢ 0 → k.head ≡ head) → (w.post.controls ≡ true → id ≡ 0) → r.post.controls ≡ false
+    → World k.s k.d head k.halt → ViewFits k.s.history k.swaps k.d k.halt w → ViewFits k.s.history k.swaps k.d k.halt r → (id ≡ 0 → w.post ≡ head) → (id ≢ 0 → k.head ≡ head) → (w.post.controls ≡ true → id ≡ 0) → r.post.controls ≡ false
     → ((h : ℕ → ℕ) → seat_numbers h w + seat_numbers h r + total h (below k.head.made) ≡ seat_numbers h v + total h (below head.made)) → is_drain w + is_drain r + one_if k.head.started ≡ is_drain v + one_if head.started
     → ((h : ℕ × Rec → ℕ) → weigh h w ≡ weigh h v) → ((h : ℕ × Rec → ℕ) → weigh h r ≡ 0) → KeepsTurnRule (board t.words t.homes (set t.views id w ++ r ∷ []))
 split t k id v w r head me holds idle world mine new here there controls not_control made drains same none_yet = let vs : List View = set t.views id w in record {
   s = k.s;
+  swaps = k.swaps;
   d = k.d;
   head = head;
   halt = k.halt;
   world = world;
+  buffer = k.buffer;
   wired = k.wired;
   holders = omega (arith, total-append has_turn vs (r ∷ []), total-set has_turn t.views id v w me, ap one_if holds, has_not r idle, k.holders);
-  each = λ j u e. ⊎_elim (λ old. ⊎_elim (λ x. subst (ViewFits k.s.history k.d k.halt) x.1 mine) (λ x. k.each j u x.1) (at_set t.views id j w u old)) (λ (x : r ≡ u). subst (ViewFits k.s.history k.d k.halt) x new) (at_snoc vs r u j e);
+  each = λ j u e. ⊎_elim (λ old. ⊎_elim (λ x. subst (ViewFits k.s.history k.swaps k.d k.halt) x.1 mine) (λ x. k.each j u x.1) (at_set t.views id j w u old)) (λ (x : r ≡ u). subst (ViewFits k.s.history k.swaps k.d k.halt) x new) (at_snoc vs r u j e);
   first = dite (ℕ_discrete 0 id)
       (λ z. (w, at_longer vs (r ∷ []) 0 w (ap (λ (i : ℕ). get_elem? vs i) z ∙ set_at t.views id v w me), here (sym z)))
       (λ nz. (k.first.0, at_longer vs (r ∷ []) 0 k.first.0 (set_else t.views id 0 w nz ∙ k.first.1), k.first.2 ∙ there (λ z. nz (sym z))));
@@ -580,24 +592,24 @@ split t k id v w r head me holds idle world mine new here there controls not_con
 }
 
 -- what a seat says that has done nothing
-fits_new : (history : List Rec) (d : DeskView) (halt : Option Stop) (limit : ℕ) (p : Post) → (p.seated ≡ true → limit ≡ d.limit) → p.known ≡ [] → p.taken ≡ [] → p.told ≡ None → p.stop ≡ None
-    → (p.drains ≡ true → (d.taken ≡ 0) × (p.stop ≡ halt)) → ViewFits history d halt (newcomer limit p)
-fits_new history d halt limit p limited unknown untaken untold unset drains = record {
+fits_new : (history : List Rec) (swaps : List ℕ) (d : DeskView) (halt : Option Stop) (limit : ℕ) (p : Post) → (p.seated ≡ true → limit ≡ d.limit) → p.known ≡ [] → p.taken ≡ [] → p.told ≡ None → p.stop ≡ None
+    → (p.drains ≡ true → (d.taken ≡ 0) × (p.stop ≡ halt)) → ViewFits history swaps d halt (newcomer limit p)
+fits_new history swaps d halt limit p limited unknown untaken untold unset drains = record {
   hand = λ e. no e;
-  pass = λ e. fits_none history d limit (limited e);
-  known = subst (Each (λ (g : Gathered). PassFits history d g.pass)) (sym unknown) (λ n x at. absurd (at_none n x at));
+  pass = λ e. fits_none history swaps d limit (limited e);
+  known = subst (Each (λ (g : Gathered). PassFits history swaps d g.pass)) (sym unknown) (λ n x at. absurd (at_none n x at));
   note = note_none history d p untaken untold unset;
   drains = λ e. (omega (arith, ap length untaken, (drains e).0), (drains e).1);
   idle = λ _. refl;
 }
 
 -- the same view with another post, which tells as much
-fits_post : (history : List Rec) (d : DeskView) (halt : Option Stop) (v : View) (p : Post) → v.post.seated ≡ true → p.known ≡ v.post.known → p.drains ≡ false → p.publishes ≡ v.post.publishes
-    → p.taken ≡ v.post.taken → p.told ≡ v.post.told → p.stop ≡ v.post.stop → ViewFits history d halt v → ViewFits history d halt (view v.holds v.hand v.missed v.pass p)
-fits_post history d halt v p seated known quiet publishing taken told stop f = record {
+fits_post : (history : List Rec) (swaps : List ℕ) (d : DeskView) (halt : Option Stop) (v : View) (p : Post) → v.post.seated ≡ true → p.known ≡ v.post.known → p.drains ≡ false → p.publishes ≡ v.post.publishes
+    → p.taken ≡ v.post.taken → p.told ≡ v.post.told → p.stop ≡ v.post.stop → ViewFits history swaps d halt v → ViewFits history swaps d halt (view v.holds v.hand v.missed v.pass p)
+fits_post history swaps d halt v p seated known quiet publishing taken told stop f = record {
   hand = f.hand;
   pass = λ e. f.pass seated;
-  known = subst (Each (λ (g : Gathered). PassFits history d g.pass)) (sym known) f.known;
+  known = subst (Each (λ (g : Gathered). PassFits history swaps d g.pass)) (sym known) f.known;
   note = record {
     taken = subst (λ (l : List Rec). IsFront l history) (sym taken) f.note.taken;
     told = λ g is. f.note.told g (sym told ∙ is);
@@ -614,8 +626,8 @@ hires_seat id v controls quiet seated t k me = let z = k.controls id v me contro
     let head : Post = record k.head { made = k.head.made + 1 } in
     split t k id v w (hired v) head me refl refl
     record { stands = k.world.stands; last = k.world.last; controls = k.world.controls; unstarted = k.world.unstarted; closed = k.world.closed; shut = k.world.shut; halted = k.world.halted; stood = k.world.stood }
-    (fits_post k.s.history k.d k.halt v w.post seated refl quiet refl refl refl refl f)
-    (fits_new k.s.history k.d k.halt v.pass.limit (publisher_post v.post.made) (λ _. (f.pass seated).limit) refl refl refl refl (λ e. no e))
+    (fits_post k.s.history k.swaps k.d k.halt v w.post seated refl quiet refl refl refl refl f)
+    (fits_new k.s.history k.swaps k.d k.halt v.pass.limit (publisher_post v.post.made) (λ _. (f.pass seated).limit) refl refl refl refl (λ e. no e))
     (λ _. ap (λ (p : Post). record p { made = p.made + 1 }) mine) (λ nz. absurd (nz z)) (λ _. z) refl
     (λ h. omega (arith, ap (λ (p : Post). h p.made) mine, below-more h k.head.made)) (omega arith) (λ h. refl) (λ h. refl)
 
@@ -629,8 +641,8 @@ starts_drain id v controls quiet seated fresh_one t k me = let z = k.controls id
     let head : Post = record k.head { started = true } in
     split t k id v w (drainer v) head me refl refl
     record { stands = k.world.stands; last = k.world.last; controls = k.world.controls; unstarted = λ e. absurd (true≢false e); closed = k.world.closed; shut = k.world.shut; halted = k.world.halted; stood = k.world.stood }
-    (fits_post k.s.history k.d k.halt v w.post seated refl quiet refl refl refl refl f)
-    (fits_new k.s.history k.d k.halt v.pass.limit (drain_post None []) (λ _. (f.pass seated).limit) refl refl refl refl (λ _. (before.0, sym before.1)))
+    (fits_post k.s.history k.swaps k.d k.halt v w.post seated refl quiet refl refl refl refl f)
+    (fits_new k.s.history k.swaps k.d k.halt v.pass.limit (drain_post None []) (λ _. (f.pass seated).limit) refl refl refl refl (λ _. (before.0, sym before.1)))
     (λ _. ap (λ (p : Post). record p { started = true }) mine) (λ nz. absurd (nz z)) (λ _. z) refl
     (λ h. omega arith) (omega arith) (λ h. refl) (λ h. refl)
 
@@ -657,7 +669,7 @@ notes_drain id v shape t k me = let f = k.each id v me in
 
 -- two seats become one
 joined : (t : St) (k : KeepsTurnRule t) (id : ℕ) (v : View) (other : ℕ) (u w : View) (head : Post) → get_elem? t.views id ≡ some v → ¬ (other ≡ id) → get_elem? (set t.views id w) other ≡ some u → id ≡ 0
-    → w.holds ≡ v.holds → u.holds ≡ false → World k.s k.d head k.halt → ViewFits k.s.history k.d k.halt w → w.post ≡ head
+    → w.holds ≡ v.holds → u.holds ≡ false → World k.s k.d head k.halt → ViewFits k.s.history k.swaps k.d k.halt w → w.post ≡ head
     → ((h : ℕ → ℕ) → seat_numbers h w + total h (below k.head.made) ≡ seat_numbers h v + seat_numbers h u + total h (below head.made)) → is_drain w + one_if k.head.started ≡ is_drain v + is_drain u + one_if head.started
     → ((h : ℕ × Rec → ℕ) → weigh h w ≡ weigh h v + weigh h u)
     → KeepsTurnRule (board t.words t.homes (set (set t.views id w) other nobody))
@@ -665,14 +677,16 @@ joined t k id v other u w head me apart them z holds idle world mine here made d
     let both : (g : View → ℕ) → total g (set vs other nobody) + g u + g v ≡ total g t.views + g w + g nobody = λ g. omega (arith, total-set g t.views id v w me, total-set g vs other u nobody them) in
     record {
       s = k.s;
+      swaps = k.swaps;
       d = k.d;
       head = head;
       halt = k.halt;
       world = world;
+      buffer = k.buffer;
       wired = k.wired;
       holders = omega (arith, both has_turn, ap one_if holds, has_not u idle, k.holders);
-      each = λ j x e. ⊎_elim (λ y. subst (ViewFits k.s.history k.d k.halt) y.1 (fits_new k.s.history k.d k.halt 0 no_post (λ e'. no e') refl refl refl refl (λ e'. no e')))
-          (λ y. ⊎_elim (λ q. subst (ViewFits k.s.history k.d k.halt) q.1 mine) (λ q. k.each j x q.1) (at_set t.views id j w x y.1)) (at_set vs other j nobody x e);
+      each = λ j x e. ⊎_elim (λ y. subst (ViewFits k.s.history k.swaps k.d k.halt) y.1 (fits_new k.s.history k.swaps k.d k.halt 0 no_post (λ e'. no e') refl refl refl refl (λ e'. no e')))
+          (λ y. ⊎_elim (λ q. subst (ViewFits k.s.history k.swaps k.d k.halt) q.1 mine) (λ q. k.each j x q.1) (at_set t.views id j w x y.1)) (at_set vs other j nobody x e);
       first = (w, set_else vs other 0 nobody (λ e. apart (sym e ∙ sym z)) ∙ (ap (λ (i : ℕ). get_elem? vs i) (sym z) ∙ set_at t.views id v w me), here);
       controls = λ j x e c. ⊎_elim (λ (y : (j ≡ other) × (nobody ≡ x)). no (ap (λ (q : View). q.post.controls) y.1 ∙ c))
           (λ y. ⊎_elim (λ (q : (j ≡ id) × (w ≡ x)). q.0 ∙ z) (λ q. k.controls j x q.1 c) (at_set t.views id j w x y.1)) (at_set vs other j nobody x e);
@@ -687,14 +701,14 @@ gathers_seat id v other u number controls quiet seated idle shape t k me apart t
     let there : get_elem? t.views other ≡ some u = sym (set_else t.views id other w apart) ∙ them in let g = k.each other u there in
     let silent : is_drain u ≡ 0 = ap (λ (p : Post). one_if p.drains) shape in
     let unknown : u.post.known ≡ [] = ap (λ (p : Post). p.known) shape in
-    let shown : PassFits k.s.history k.d u.pass = g.pass (ap (λ (p : Post). p.seated) shape) in
+    let shown : PassFits k.s.history k.swaps k.d u.pass = g.pass (ap (λ (p : Post). p.seated) shape) in
     let head : Post = record k.head { known = k.head.known ++ gathered u ∷ [] } in
     joined t k id v other u w head me apart them z refl idle
     record { stands = k.world.stands; last = k.world.last; controls = k.world.controls; unstarted = k.world.unstarted; closed = k.world.closed; shut = k.world.shut; halted = k.world.halted; stood = k.world.stood }
     record {
       hand = f.hand;
       pass = f.pass;
-      known = each_last (λ (g : Gathered). PassFits k.s.history k.d g.pass) v.post.known (gathered u) f.known shown;
+      known = each_last (λ (g : Gathered). PassFits k.s.history k.swaps k.d g.pass) v.post.known (gathered u) f.known shown;
       note = record { taken = f.note.taken; told = f.note.told; cause = f.note.cause; stood = f.note.stood };
       drains = λ e. no (sym quiet ∙ e);
       idle = f.idle;
@@ -727,7 +741,7 @@ reads_note id v other u controls quiet seated shape t k me apart them = let z = 
 -- a load changes nothing
 loads : (t : St) (k : KeepsTurnRule t) (id : ℕ) (v : View) → get_elem? t.views id ≡ some v → KeepsTurnRule (board (set t.words 1 (get_or t.words 1 0)) t.homes (set t.views id v))
 loads t k id v me = let x : ℕ = get_or t.words 1 0 in let f = k.each id v me in let same = set-get_or t.words 1 0 in
-    moved t k id v v (set t.words 1 x) t.homes k.s k.d k.head k.halt me k.world
+    moved t k id v v (set t.words 1 x) t.homes k.s k.swaps k.d k.head k.halt me k.world k.buffer
     record {
       wide = length-set t.words 1 x ∙ k.wired.wide;
       homes_one = k.wired.homes_one;
@@ -757,8 +771,8 @@ settles n id m t k wide me _ = let v = m.0 in let f = k.each id v me in (
 )
 
 -- what a pass showed, where the intake has ended and the history is whole
-shown_to : (s : State) (d : DeskView) (end : End) (p : PassState) → DeskStandsFor d s → desk_end d ≡ Some end → PassFits s.history d p → ShownTo s.history end p
-shown_to s d end p stands is fits =
+shown_to : (s : State) (swaps : List ℕ) (d : DeskView) (end : End) (p : PassState) → DeskStandsFor d s → desk_end d ≡ Some end → PassFits s.history swaps d p → ShownTo s.history swaps end p
+shown_to s swaps d end p stands is fits =
     let parts_of = parts d s stands in
     record {
       own = fits.own;
@@ -813,7 +827,9 @@ meets n id m t k wide me _ = let v = m.0 in let f = k.each id v me in (
               let alone = total-alone (seat_numbers one) (weigh h) t.views id v me everyone
               (λ i u e none_there. let quiet = silent u none_there in omega (arith, ap (total h) ((k.each i u e).idle quiet.0), ap (total (λ (x : Gathered). total h x.pass.own)) quiet.1)) in
               omega (arith, alone, k.pairs h, ap (total h) all.own, ap (λ (l : List Rec). total h (with_places 0 l)) whole);
-          shown = λ j x at. subst (λ (l : List Rec). ShownTo l end x.pass) (sym whole) (shown_to k.s k.d end x.pass k.world.stands stood (f.known j x at));
+          swaps = k.swaps;
+          handed = record { rise = k.buffer.rise; within = λ j x at. let le = k.buffer.before j x at in omega (arith, le, p.held, p.count, size) };
+          shown = λ j x at. subst (λ (l : List Rec). ShownTo l k.swaps end x.pass) (sym whole) (shown_to k.s k.swaps k.d end x.pass k.world.stands stood (f.known j x at));
           closes = λ is. ap (λ (x : Post). x.closed) mine ∙ k.world.closed (stood ∙ ap Some is);
           stops = λ stop is. f.note.cause all.found stop all.told (all.ended ∙ ap Some is);
           closed_is = λ is. same_Some end Closed (sym stood ∙ k.world.shut (ap (λ (x : Post). x.closed) (sym mine) ∙ is));
@@ -827,9 +843,10 @@ meets n id m t k wide me _ = let v = m.0 in let f = k.each id v me in (
 start_stands : (limit : ℕ) → DeskStandsFor (new_desk limit) start
 start_stands limit = record { desk = refl; within = omega arith; numbered = λ n x at. absurd (at_none n x at) }
 
-pub opens : (limit : ℕ) → KeepsTurnRule (opening (0 ∷ 0 ∷ []) (new_desk limit ∷ []) (newcomer limit first_post))
-opens limit = let d = new_desk limit in let v = newcomer limit first_post in record {
+pub opens : (limit : ℕ) → 1 ≤ limit → KeepsTurnRule (opening (0 ∷ 0 ∷ []) (new_desk limit ∷ []) (newcomer limit first_post))
+opens limit least = let d = new_desk limit in let v = newcomer limit first_post in record {
   s = start;
+  swaps = [];
   d = d;
   head = first_post;
   halt = None;
@@ -843,9 +860,10 @@ opens limit = let d = new_desk limit in let v = newcomer limit first_post in rec
     halted = λ stop e. absurd (none-some _ e);
     stood = λ stop e. absurd (none-some _ e);
   };
+  buffer = record { rise = λ i j x lt within. absurd (omega (arith, lt, within)); begun = (0, refl); before = λ j x at. absurd (at_none j x at); room = let some_room : 0 < limit = omega (arith, least) in some_room };
   wired = record { wide = refl; homes_one = refl; turn = omega arith; free = λ _. refl; out = λ e. absurd (omega arith) };
   holders = refl;
-  each = λ j u e. ⊎_elim (λ (x : get_elem? [] j ≡ some u). absurd (some-ne-none u (sym x))) (λ (x : v ≡ u). subst (ViewFits [] d None) x (fits_new [] d None limit first_post (λ _. refl) refl refl refl refl (λ e'. no e'))) (at_snoc [] v u j e);
+  each = λ j u e. ⊎_elim (λ (x : get_elem? [] j ≡ some u). absurd (some-ne-none u (sym x))) (λ (x : v ≡ u). subst (ViewFits [] [] d None) x (fits_new [] [] d None limit first_post (λ _. refl) refl refl refl refl (λ e'. no e'))) (at_snoc [] v u j e);
   first = (v, refl, refl);
   controls = λ j u e _. at_zero v j u e;
   made = λ h. refl;

@@ -2,6 +2,7 @@ pub mod Growing
 pub mod Reasons
 pub mod NumberedOnce
 pub mod Numbers
+mod Buffers
 mod Sums
 pub mod Desks
 pub mod Fulls

@@ -1,5 +1,5 @@
 -- What a pass names behind a call.
-use Rattle.std.proofs.Common.{◌≡◌, ℕ, List, [], ◌∷◌, ◌++◌, Option, Some, None, Result, Ok, Err, refl, sym, ap, subst}
+use Rattle.std.proofs.Common.{◌≡◌, ℕ, ◌+◌, List, [], ◌∷◌, ◌++◌, length, Option, Some, None, Result, Ok, Err, refl, sym, ap, subst}
 use Rattle.std.specs.Prelude.{OnOk}
 use Rattle.rec_data.specs.declared.schema.SchemaDef.{SchemaDef}
 use Rattle.rec_data.specs.declared.channel.ChannelDef.{ChannelDef}
@@ -9,7 +9,7 @@ use Rattle.record_core.specs.declared.answers.Declared.{Declared}
 use Rattle.record_core.specs.declared.answers.CallRefused.{CallRefused}
 use Rattle.record_core.specs.declared.answers.CallRefused.TheVariants as refusing
 use Rattle.record_core.specs.declared.answers.NewMessage.{NewMessage}
-use Rattle.feed_lane.specs.Pass.{PassState}
+use Rattle.feed_lane.specs.Pass.{NamedBy, named_by, PassState}
 use Rattle.feed_lane.specs.PassCalls.{PublishedBy, DeclaredInto}
 use Rattle.buffer_swap.specs.Calls.{reasoned, PublishesMessage, DeclaresChannel, NamesSchema, MayName, last_of, LooksOn}
 
@@ -40,7 +40,7 @@ refused_names before after c refusing.TooManyChannels is = named_there is.7
 refused_names before after c refusing.Memory is = named_there is.7
 
 names_on : (before after : PassState) (id : ℕ) (schema : Option SchemaDef) → after.named ≡ before.named → NamesSchema before id schema → NamesSchema after id schema
-names_on before after id schema same names = (names.0, subst (λ (l : List (ℕ × ChannelDef)). Has l (id, names.0)) (sym same) names.1, names.2)
+names_on before after id schema same names = (names.0, subst (λ (l : List NamedBy). Has l names.0) (sym same) names.1, names.2, names.3)
 
 -- a look at the intake names nothing
 pub names_looking : (before after : PassState) (like : Option ℕ) (schema : Option SchemaDef) → LooksOn before after → MayName before like schema → MayName after like schema
@@ -58,8 +58,9 @@ names_behind_message before after m result last now published same schema names 
 declared_names : (before after : PassState) (c : ChannelDef) (given : Declared) → DeclaresChannel before after c (Ok given) → NamesSchema after given.channel c.schema
 declared_names before after c given declared =
     let call = declared [] in
-    let named : after.named ≡ before.named ++ (given.channel, c) ∷ [] = named_there call.1.9 in
-    (c, subst (λ (l : List (ℕ × ChannelDef)). Has l (given.channel, c)) (sym named) (has_last before.named (given.channel, c) []), refl)
+    let name = named_by given.channel c (call.1.0.count + length call.1.1) in
+    let named : after.named ≡ before.named ++ name ∷ [] = named_there call.1.9 in
+    (name, subst (λ (l : List NamedBy). Has l name) (sym named) (has_last before.named name []), refl, refl)
 
 -- a channel that got an id is named
 pub names_if : (before after : PassState) (c : ChannelDef) (result : Result Declared CallRefused) (last now : ℕ) → DeclaresChannel before after c result → now ≡ last_of last result

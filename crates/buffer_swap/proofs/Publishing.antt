@@ -1,5 +1,5 @@
 -- A turn in which a message was published, as a pass says it.
-use Rattle.std.proofs.Common.{◌≡◌, ℕ, ◌<◌, ◌≤◌, true, List, [], ◌∷◌, ◌++◌, length, drop, Option, Some, None, Result, Ok, Err, refl, sym, ap, subst, ◌∙◌, arith}
+use Rattle.std.proofs.Common.{◌≡◌, ℕ, ◌+◌, ◌<◌, ◌≤◌, true, List, [], ◌∷◌, ◌++◌, length, drop, Option, Some, None, Result, Ok, Err, refl, sym, ap, subst, ◌∙◌, length-append, arith}
 use Rattle.std.proofs.Math.Seq.{drop-append_seam}
 use Rattle.rec_data.specs.declared.owned.Rec.{Rec}
 use Rattle.rec_data.specs.declared.schema.SchemaDef.{SchemaDef}
@@ -14,7 +14,7 @@ use Rattle.record_core.specs.declared.answers.Declared.{Declared}
 use Rattle.record_core.specs.declared.answers.NewMessage.{NewMessage}
 use Rattle.record_core.specs.declared.answers.CallRefused.{CallRefused}
 use Rattle.record_core.specs.declared.answers.CallRefused.TheVariants as refusing
-use Rattle.feed_lane.specs.Pass.{PassState, full_at, with_places, AreAdded}
+use Rattle.feed_lane.specs.Pass.{named_by, PassState, full_at, with_places, AreAdded}
 use Rattle.feed_lane.specs.PassCalls.{refused_full, Finds, with_found, message_record, MayTakeMessage, HasPlace, IsUnnamed, GetsId, with_declared}
 use Rattle.buffer_swap.specs.Shown.{ChannelStands}
 use Rattle.buffer_swap.specs.Posts.{Post}
@@ -22,6 +22,7 @@ use Rattle.buffer_swap.specs.Turns.{view}
 use Rattle.buffer_swap.specs.Plays.{Sat, Stood, Took, fresh_records}
 use Rattle.buffer_swap.specs.Calls.{counts_message, pass_published, counts_declared, pass_declared, PublishedInTurn, DeclaredInTurn, reasoned, PublishesMessage, DeclaresChannel, NamesSchema, MayName, TriesBy}
 use Rattle.buffer_swap.specs.declared.view.View.{View}
+use Rattle.buffer_swap.proofs.Growing.{name_stands}
 use Rattle.buffer_swap.proofs.Desks.{parts, known_id, unknown_id}
 use Rattle.buffer_swap.proofs.Reasons.{PublishReason, HasRecords, HasAll, MayHave, publish_reason, declare_reason}
 use Rattle.buffer_swap.proofs.Numbers.{are_added, lacking_schemas, stands_sharing, stands_nowhere, gets_id}
@@ -98,8 +99,9 @@ too_large p message len is over reasons = (reasons ++ refusing.TooLarge len ∷ 
 -- ---- declarations
 
 unnamed : (d : DeskView) (p : PassState) (reasons : List CallRefused) (c : ChannelDef) → Stood d p → channel_place d.ids c ≡ None → IsUnnamed (reasoned p reasons) c
-unnamed d p reasons c stood none = λ k pair at same.
-    stands_nowhere d.ids stood.s.history c pair.0 (parts d stood.s stood.stands).contents stood.stands.numbered none (subst (ChannelStands stood.s.history pair.0) same (stood.fits.named k pair at))
+unnamed d p reasons c stood none = λ k name at same.
+    stands_nowhere d.ids stood.s.history c name.id (parts d stood.s stood.stands).contents stood.stands.numbered none
+    (subst (ChannelStands stood.s.history name.id) same (name_stands stood.s.history name (stood.fits.named k name at)))
 
 placed : (d : DeskView) (p : PassState) (reasons : List CallRefused) → Stood d p → HasRecords d → HasPlace (reasoned p reasons) (found_of d)
 placed d p reasons stood has = let room = has.room in record { few = has.few; room = omega (arith, room, stood.fits.limit) }
@@ -111,6 +113,17 @@ named_same : (p : PassState) (d after : DeskView) (c : ChannelDef) (channel : �
     → named_grown p d c channel reasons (fresh_records d after) ≡ named_grown p d c channel reasons records
 named_same p d after c channel reasons records is =
     ap (named_grown p d c channel reasons) (ap (λ (x : DeskView). drop (length d.primary) x.primary) is ∙ drop-append_seam d.primary records)
+
+-- so many records are behind it
+counted_same : (p : PassState) (d after : DeskView) (c : ChannelDef) (channel : ℕ) (reasons : List CallRefused) (records : List Rec) → after ≡ with_more_records d records
+    → record (named_grown p d c channel reasons (fresh_records d after)) { named = p.named ++ named_by channel c (accepted after) ∷ [] } ≡ named_grown p d c channel reasons (fresh_records d after)
+counted_same p d after c channel reasons records is =
+    let fresh : fresh_records d after ≡ records = ap (λ (x : DeskView). drop (length d.primary) x.primary) is ∙ drop-append_seam d.primary records in
+    let taken : after.taken ≡ d.taken = ap (λ (x : DeskView). x.taken) is in
+    let primary : length after.primary ≡ length (d.primary ++ records) = ap (λ (x : DeskView). length x.primary) is in
+    let size : length (fresh_records d after) ≡ length records = ap length fresh in
+    let many : accepted after ≡ accepted d + length (fresh_records d after) = omega (arith, taken, primary, length-append d.primary records, size) in
+    ap (λ (n : ℕ). record (named_grown p d c channel reasons (fresh_records d after)) { named = p.named ++ named_by channel c n ∷ [] }) many
 
 declares : (d after : DeskView) (missed : ℕ) (p : PassState) (post : Post) (c : ChannelDef) (result : Result Declared CallRefused) → Stood d p → declared_size c ≤ 1048576 → HasFewIds after.ids
     → DeclaredBy d c result after → let v = counts_declared (sees d missed p post) after result in DeclaresChannel p (pass_declared v c result) c result
@@ -129,7 +142,7 @@ declares d after missed p post c (Ok given) stood small few is reasons =
         is.3,
         subst (λ (k : ℕ). AreAdded c k records) (sym channel) (are_added d.ids c),
         subst (λ (k : ℕ). GetsId (reasoned p reasons) (found_of d) k records) (sym channel) (gets_id d c (reasoned p reasons) stood.fits.limit why.1),
-        named_same p d after c given.channel reasons records is.4,
+        counted_same p d after c given.channel reasons records is.4 ∙ named_same p d after c given.channel reasons records is.4,
       ),
     )
 declares d after missed p post c (Err (refusing.TooLarge len)) stood small few is reasons =
@@ -175,9 +188,9 @@ too_wide p c len is over reasons = (reasons ++ refusing.TooLarge len ∷ [], (is
 
 named_sharing : (d : DeskView) (p : PassState) (schema : Option SchemaDef) (id : ℕ) → Stood d p → NamesSchema p id schema → HasSchemaOf d.ids schema id
 named_sharing d p schema id stood names =
-    let c = names.0 in
-    let there = stood.fits.named names.1.0 (id, c) names.1.1 in
-    subst (λ (o : Option SchemaDef). HasSchemaOf d.ids o id) names.2 (stands_sharing d.ids stood.s.history c id (parts d stood.s stood.stands).contents stood.stands.numbered there)
+    let name = names.0 in
+    let there : ChannelStands stood.s.history id name.content = subst (λ (k : ℕ). ChannelStands stood.s.history k name.content) names.2 (name_stands stood.s.history name (stood.fits.named names.1.0 name names.1.1)) in
+    subst (λ (o : Option SchemaDef). HasSchemaOf d.ids o id) names.3 (stands_sharing d.ids stood.s.history name.content id (parts d stood.s stood.stands).contents stood.stands.numbered there)
 
 pub may_share : (m n : Sat) (schema : Option SchemaDef) (like : Option ℕ) → Took m n → m.0.post.seated ≡ true → MayName m.0.pass like schema → MayShare n.0.hand.ids schema like
 may_share m n schema None took seated names = tt

@@ -16,7 +16,7 @@ use Rattle.record_core.specs.declared.answers.Found.{Found}
 use Rattle.record_core.specs.declared.answers.NewMessage.{NewMessage}
 use Rattle.record_core.specs.declared.answers.CallRefused.{CallRefused}
 use Rattle.record_core.specs.declared.answers.CallRefused.TheVariants as refusing
-use Rattle.feed_lane.specs.Pass.{PassState}
+use Rattle.feed_lane.specs.Pass.{NamedBy, PassState}
 use Rattle.feed_lane.specs.PassCalls.{with_found, IsLater, Finds, FitsDataLimit, PublishedBy, DeclaredInto}
 use Rattle.atomic_table.specs.Seated.{TableId}
 use Rattle.atomic_table.specs.declared.shared.Seat.{Seat}
@@ -135,7 +135,7 @@ DeclaresChannel before after c result = (reasons : List CallRefused)
 
 -- the pass has that id for a channel with this schema, or with none where this is none
 abbrev pub NamesSchema : PassState → ℕ → Option SchemaDef → Type 0
-NamesSchema pass id schema = (c : ChannelDef) × Has pass.named (id, c) × (c.schema ≡ schema)
+NamesSchema pass id schema = (name : NamedBy) × Has pass.named name × (name.id ≡ id) × (name.content.schema ≡ schema)
 
 -- so it is of the id that is handed in, if one is
 abbrev pub MayName : PassState → Option ℕ → Option SchemaDef → Type 0

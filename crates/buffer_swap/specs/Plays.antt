@@ -1,5 +1,5 @@
 -- What each step tells: of the step, the seat before, the number found and the seat after.
-use Rattle.std.specs.Prelude.{◌≡◌, ◌≢◌, ℕ, ◌+◌, ◌≤◌, List, [], ◌∷◌, ◌++◌, length, drop, Bool, true, false, Option, Some, None}
+use Rattle.std.specs.Prelude.{◌≡◌, ◌≢◌, ℕ, ◌+◌, ◌<◌, ◌≤◌, List, [], ◌∷◌, ◌++◌, length, drop, Bool, true, false, Option, Some, None}
 use Rattle.atomic_table.specs.Table.{Me, Step, rest}
 use Rattle.rec_data.specs.declared.owned.Rec.{Rec}
 use Rattle.rec_data.specs.declared.channel.ChannelDef.{ChannelDef}
@@ -13,10 +13,10 @@ use Rattle.record_core.specs.Machine.{State, accept}
 use Rattle.record_core.specs.Stands.{DeskStandsFor}
 use Rattle.record_core.specs.declared.answers.CallRefused.{CallRefused}
 use Rattle.record_core.specs.declared.answers.Found.{Found}
-use Rattle.feed_lane.specs.Pass.{PassState, with_places, full_at}
+use Rattle.feed_lane.specs.Pass.{PassState, with_places, full_at, named_by, lack_at}
 use Rattle.feed_lane.specs.PassCalls.{with_found}
 use Rattle.buffer_swap.specs.Weights.{total, below}
-use Rattle.buffer_swap.specs.Shown.{ChannelStands, IdsLack}
+use Rattle.buffer_swap.specs.Shown.{ChannelStands, IdsLack, AreHandOvers, bytes_before_call}
 use Rattle.buffer_swap.specs.ShownSteps.{Spares, ShownTo}
 use Rattle.buffer_swap.specs.Posts.{Gathered, Post, drain_post, publisher_post, note_post}
 use Rattle.buffer_swap.specs.Turns.{view, newcomer, PassFits}
@@ -73,9 +73,10 @@ pub record FreesTurn (st : Step DeskView) (m : Sat) : Type 0 where
 -- a desk stands for a state in whose history is what the pass showed
 pub record Stood (d : DeskView) (p : PassState) : Type 0 where
   pub s : State
+  pub swaps : List ℕ
   pub stands : DeskStandsFor d s
   pub last : EndIsLast d
-  pub fits : PassFits s.history d p
+  pub fits : PassFits s.history swaps d p
 
 -- the desk came out so, with the turn, for a seat that missed it so often
 abbrev pub taking : View → ℕ → DeskView → Sat
@@ -107,6 +108,7 @@ fresh_records hand d = drop (length hand.primary) d.primary
 pub record MayCount (hand : DeskView) (records : List Rec) (d : DeskView) : Type 0 where
   pub is : d ≡ with_more_records hand records
   pub unended : hand.end ≡ None
+  pub room : bytes_before_call hand.primary < hand.limit → bytes_before_call d.primary < d.limit
   pub stands : (s : State) → DeskStandsFor hand s → DeskStandsFor d (accept 0 records s)
   pub spares : (s : State) → DeskStandsFor hand s → Spares s.history records
 
@@ -170,13 +172,13 @@ freed_counting st m r n = FreesTurn st m × (n ≡ (frees_counting m.0 (desk_out
 abbrev pub with_full_hand : View → PassState
 with_full_hand v = record v.pass { fulls = v.pass.fulls ++ full_at (found_of v.hand) ∷ [] }
 
--- an id and its channel, for a declaration that was accepted
+-- an id and its channel, for a declaration that was accepted, with how many records there are after it
 abbrev pub with_name : ℕ × ChannelDef → View → PassState
-with_name pair v = record v.pass { named = v.pass.named ++ pair ∷ [] }
+with_name pair v = record v.pass { named = v.pass.named ++ named_by pair.0 pair.1 (accepted v.hand) ∷ [] }
 
--- a channel and why it got no id
+-- a channel and why it got no id, with how many records were accepted
 abbrev pub with_lacking : ChannelDef × CallRefused → View → PassState
-with_lacking pair v = record v.pass { lacks = v.pass.lacks ++ pair ∷ [] }
+with_lacking pair v = record v.pass { lacks = v.pass.lacks ++ lack_at pair.0 pair.1 (accepted v.hand) ∷ [] }
 
 -- the channel stands under that id, in whatever state the desk stands
 abbrev pub NamedAt : DeskView → ℕ × ChannelDef → Type 0
@@ -250,14 +252,17 @@ abbrev pub AreAll : List Gathered → ℕ → Type 0
 AreAll known made = (h : ℕ → ℕ) → total (λ (g : Gathered). h g.number) known ≡ total h (below made)
 
 -- What a control, which has made so many publishers, knows and what a drain took are one history, which came to this end: what
--- each publisher showed is so of the records that were taken, their places with their records are those of the publishers,
--- each once, and the end is that of the control or of the drain: that of whichever set one.
+-- each publisher showed is so of the records that were taken, and of the same places at which buffers were handed over. Their
+-- places with their records are those of the publishers, each once, and the end is that of the control or of the drain: that
+-- of whichever set one.
 pub record Met (made : ℕ) (known : List Gathered) (closed : Bool) (stop : Option Stop) (taken : List Rec) (end : End)
     : Type 0 where
   pub publishers : AreAll known made
   pub numbered : Numbered taken
   pub pairs : WeighAlike known taken
-  pub shown : Each (λ g. ShownTo taken end g.pass) known
+  pub swaps : List ℕ
+  pub handed : AreHandOvers taken swaps
+  pub shown : Each (λ g. ShownTo taken swaps end g.pass) known
   pub closes : end ≡ Closed → closed ≡ true
   pub stops : (s : Stop) → end ≡ Stopped s → stop ≡ Some s
   pub closed_is : closed ≡ true → end ≡ Closed

@@ -1,5 +1,5 @@
 -- That what a pass showed is so of the history of a recording.
-use Rattle.std.specs.Prelude.{◌≡◌, ℕ, ◌-◌, ◌≤◌, List, length, take, drop, Option, Some, None}
+use Rattle.std.specs.Prelude.{◌≡◌, ◌⊎◌, ℕ, ◌-◌, ◌<◌, ◌≤◌, List, ◌∷◌, length, take, drop, AllPairs, Option, Some, None}
 use Rattle.mcap_wire.specs.Limits.{id_limit}
 use Rattle.rec_data.specs.declared.owned.Rec.{Rec}
 use Rattle.rec_data.specs.declared.schema.SchemaDef.{SchemaDef}
@@ -12,7 +12,7 @@ use Rattle.history_ids.specs.DeclarationFields.{fields_of_schema, fields_with}
 use Rattle.record_core.specs.declared.answers.CallRefused.{CallRefused}
 use Rattle.record_core.specs.declared.answers.CallRefused.TheVariants as refusing
 use Rattle.record_core.specs.declared.answers.Found.{Found}
-use Rattle.feed_lane.specs.Pass.{FullAt, full_at, PassState}
+use Rattle.feed_lane.specs.Pass.{FullAt, full_at, NamedBy, LackAt, PassState}
 
 -- ---- channels
 
@@ -26,6 +26,11 @@ pub record ChannelStands (history : List Rec) (id : ℕ) (d : ChannelDef) : Type
   pub schema : ℕ
   pub has : Has history (channel_of id (fields_with d schema))
   pub schema_stands : SchemaStands history schema d.schema
+
+-- The channel of a declaration that got an id stands under it among the records that there were after the declaration.
+pub record NameStands (history : List Rec) (name : NamedBy) : Type 0 where
+  pub within : name.count ≤ length history
+  pub stands : ChannelStands (take name.count history) name.id name.content
 
 -- all ids of schemas were given, and none to this schema
 abbrev pub LacksSchema : List Rec → Option SchemaDef → Type 0
@@ -43,34 +48,60 @@ IdsLack history d refusing.TooManySchemas = LacksSchema history d.schema
 IdsLack history d refusing.TooManyChannels = LacksChannelId history d × (LacksSchema history d.schema → ⊥)
 IdsLack history d refusal = ⊥
 
+-- No id was left for a declaration when the history had so many records, and none is left in the whole of it.
+pub record IdsLackAt (history : List Rec) (lack : LackAt) : Type 0 where
+  pub within : lack.at ≤ length history
+  pub there : IdsLack (take lack.at history) lack.content lack.cause
+  pub still : IdsLack history lack.content lack.cause
+
+-- ---- buffers
+
+-- The places at which buffers of a history were handed over, in their order: none was empty.
+pub record AreHandOvers (history : List Rec) (swaps : List ℕ) : Type 0 where
+  pub rise : AllPairs (λ a b. a < b) (0 ∷ swaps)
+  pub within : Each (λ s. s ≤ length history) swaps
+
+-- the records from one place to before another
+abbrev pub records_between : ℕ → ℕ → List Rec → List Rec
+records_between from to history = take (to - from) (drop from history)
+
+-- how many bytes a buffer held before its last call, which added two records at most
+abbrev pub bytes_before_call : List Rec → ℕ
+bytes_before_call records = length (history_bytes (take (length records - 2) records))
+
 -- ---- a pass
 
--- a full buffer held the records of the history at its places
-pub record HeldThere (history : List Rec) (full : FullAt) : Type 0 where
+-- The buffer held the records of the history at its places: it begins where one was handed over, and none was handed over
+-- between its places. Before its last call it was below the limit.
+pub record HeldThere (limit : ℕ) (history : List Rec) (swaps : List ℕ) (full : FullAt) : Type 0 where
   pub order : full.from ≤ full.to
   pub within : full.to ≤ length history
-  pub held : full.held ≡ length (history_bytes (take (full.to - full.from) (drop full.from history)))
+  pub held : full.held ≡ length (history_bytes (records_between full.from full.to history))
+  pub begun : Has (0 ∷ swaps) full.from
+  pub unswapped : Each (λ s. (s ≤ full.from) ⊎ (full.to ≤ s)) swaps
+  pub room : bytes_before_call (records_between full.from full.to history) < limit
 
 -- The numbers with which the intake was found are those of the history so far: the bytes that its buffer held, and how many
 -- ids were given.
-pub record FoundThere (history : List Rec) (found : Found) : Type 0 where
-  pub held : HeldThere history (full_at found)
+pub record FoundThere (limit : ℕ) (history : List Rec) (swaps : List ℕ) (found : Found) : Type 0 where
+  pub held : HeldThere limit history swaps (full_at found)
   pub schemas : found.schemas ≡ schema_count (take found.count history)
   pub channels : found.channels ≡ channel_count (take found.count history)
 
 -- The intake was found with no more records than the history has. An end that was found is the recording's, which isn't that
 -- it was closed, and behind it nothing was accepted.
-pub record FoundIn (history : List Rec) (end : End) (found : Found) : Type 0 where
+pub record FoundIn (limit : ℕ) (history : List Rec) (swaps : List ℕ) (end : End) (found : Found) : Type 0 where
   pub within : found.count ≤ length history
-  pub numbers : FoundThere history found
+  pub numbers : FoundThere limit history swaps found
   pub all : (e : End) → found.end ≡ Some e → found.count ≡ length history
   pub same : (e : End) → found.end ≡ Some e → e ≡ end
   pub unclosed : found.end ≡ Some ends.Closed → ⊥
 
--- What a pass showed is so of a history whose recording came to this end.
-pub record ShownBy (history : List Rec) (end : End) (pass : PassState) : Type 0 where
+-- What a pass showed is so of a history whose buffers were handed over at these places, and whose recording came to this
+-- end.
+pub record ShownBy (history : List Rec) (swaps : List ℕ) (end : End) (pass : PassState) : Type 0 where
   pub own : Each (λ pair. At history pair.0 pair.1) pass.own
-  pub named : Each (λ pair. ChannelStands history pair.0 pair.1) pass.named
-  pub fulls : Each (HeldThere history) pass.fulls
-  pub lacks : Each (λ pair. IdsLack history pair.0 pair.1) pass.lacks
-  pub found : (found : Found) → pass.found ≡ Some found → FoundIn history end found
+  pub named : Each (NameStands history) pass.named
+  pub fulls : Each (HeldThere pass.limit history swaps) pass.fulls
+  pub lacks : Each (IdsLackAt history) pass.lacks
+  pub found : (found : Found) → pass.found ≡ Some found → FoundIn pass.limit history swaps end found

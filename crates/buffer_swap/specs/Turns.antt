@@ -1,5 +1,5 @@
 -- The rule of a turn. Word 0 is 1 where a seat holds the turn, word 1 rises with each event, and slot 0 has the desk.
-use Rattle.std.specs.Prelude.{◌≡◌, ℕ, ◌+◌, ◌≤◌, List, [], length, take, slice_index, Bool, true, false, cond, Option, Some, None}
+use Rattle.std.specs.Prelude.{◌≡◌, ℕ, ◌+◌, ◌<◌, ◌≤◌, List, [], ◌∷◌, length, take, AllPairs, slice_index, Bool, true, false, cond, Option, Some, None}
 use mathlib.Core.Option.{none, some}
 use lib.ListN.{get_elem?}
 use Rattle.atomic_table.specs.Table.{State as TableState}
@@ -7,7 +7,7 @@ use Rattle.rec_data.specs.declared.owned.Rec.{Rec}
 use Rattle.mcap_model.specs.declared.ends.End.{End}
 use Rattle.mcap_model.specs.declared.ends.End.TheVariants.{Closed, Stopped}
 use Rattle.mcap_model.specs.declared.ends.Stop.{Stop}
-use Rattle.mcap_model.specs.Places.{At, Each}
+use Rattle.mcap_model.specs.Places.{At, Has, Each}
 use Rattle.history_ids.specs.Ids.{channels_in}
 use Rattle.record_core.specs.Desk.{DeskView, new_desk, accepted, desk_end, found_of, EndIsLast}
 use Rattle.record_core.specs.Machine.{State}
@@ -16,7 +16,7 @@ use Rattle.record_core.specs.declared.answers.Found.{Found}
 use Rattle.feed_lane.specs.Pass.{PassState, with_places}
 use Rattle.feed_lane.specs.PassCalls.{no_calls, IsLater}
 use Rattle.buffer_swap.specs.Weights.{total, one_if, below}
-use Rattle.buffer_swap.specs.Shown.{ChannelStands, IdsLack, HeldThere, FoundThere}
+use Rattle.buffer_swap.specs.Shown.{NameStands, IdsLackAt, bytes_before_call, HeldThere, FoundThere}
 use Rattle.buffer_swap.specs.Posts.{Gathered, Post, no_post}
 use Rattle.buffer_swap.specs.declared.view.View.{View}
 
@@ -55,14 +55,14 @@ pub record FoundFits (d : DeskView) (f : Found) : Type 0 where
   pub all : (e : End) → f.end ≡ Some e → f.count ≡ accepted d
 
 -- what a pass showed is so of the history of the desk
-pub record PassFits (history : List Rec) (d : DeskView) (p : PassState) : Type 0 where
+pub record PassFits (history : List Rec) (swaps : List ℕ) (d : DeskView) (p : PassState) : Type 0 where
   pub own : Each (λ pair. At history pair.0 pair.1) p.own
-  pub named : Each (λ pair. ChannelStands history pair.0 pair.1) p.named
-  pub named_ids : Each (λ pair. (1 ≤ pair.0) × (pair.0 ≤ length (channels_in history))) p.named
-  pub fulls : Each (HeldThere history) p.fulls
-  pub lacks : Each (λ pair. IdsLack history pair.0 pair.1) p.lacks
+  pub named : Each (NameStands history) p.named
+  pub named_ids : Each (λ name. (1 ≤ name.id) × (name.id ≤ length (channels_in history))) p.named
+  pub fulls : Each (HeldThere p.limit history swaps) p.fulls
+  pub lacks : Each (IdsLackAt history) p.lacks
   pub found : (f : Found) → p.found ≡ Some f → FoundFits d f
-  pub there : (f : Found) → p.found ≡ Some f → FoundThere history f
+  pub there : (f : Found) → p.found ≡ Some f → FoundThere p.limit history swaps f
   pub limit : p.limit ≡ d.limit
 
 pub record IsFront (taken history : List Rec) : Type 0 where
@@ -78,10 +78,10 @@ pub record NoteFits (history : List Rec) (d : DeskView) (p : Post) : Type 0 wher
   pub stood : (stop : Stop) → p.stop ≡ Some stop → desk_end d ≡ Some (Stopped stop)
 
 -- What a view says of the history and of the desk. The last stop that the drain set is handed in.
-pub record ViewFits (history : List Rec) (d : DeskView) (halt : Option Stop) (v : View) : Type 0 where
+pub record ViewFits (history : List Rec) (swaps : List ℕ) (d : DeskView) (halt : Option Stop) (v : View) : Type 0 where
   pub hand : v.holds ≡ true → v.hand ≡ d
-  pub pass : v.post.seated ≡ true → PassFits history d v.pass
-  pub known : Each (λ g. PassFits history d g.pass) v.post.known
+  pub pass : v.post.seated ≡ true → PassFits history swaps d v.pass
+  pub known : Each (λ g. PassFits history swaps d g.pass) v.post.known
   pub note : NoteFits history d v.post
   pub drains : v.post.drains ≡ true → (length v.post.taken ≡ d.taken) × (v.post.stop ≡ halt)
   pub idle : v.post.publishes ≡ false → v.pass.own ≡ []
@@ -100,6 +100,14 @@ pub record World (s : State) (d : DeskView) (head : Post) (halt : Option Stop) :
   pub halted : (stop : Stop) → desk_end d ≡ Some (Stopped stop) → halt ≡ Some stop
   pub stood : (stop : Stop) → halt ≡ Some stop → desk_end d ≡ Some (Stopped stop)
 
+-- Buffers were handed over at these places, and the desk's begins at the last of them. Before its last call it was below the
+-- limit.
+pub record BufferFits (swaps : List ℕ) (d : DeskView) : Type 0 where
+  pub rise : AllPairs (λ a b. a < b) (0 ∷ swaps)
+  pub begun : Has (0 ∷ swaps) d.taken
+  pub before : Each (λ s. s ≤ d.taken) swaps
+  pub room : bytes_before_call d.primary < d.limit
+
 -- the words and the slot of a table: where no seat holds the turn, the desk is at home
 pub record Wired (words : List ℕ) (homes : List (mathlib.Core.Option.Option DeskView)) (d : DeskView) : Type 0 where
   pub wide : length words ≡ 2
@@ -110,14 +118,16 @@ pub record Wired (words : List ℕ) (homes : List (mathlib.Core.Option.Option De
 
 pub record KeepsTurnRule (t : TableState DeskView View) : Type 0 where
   pub s : State
+  pub swaps : List ℕ
   pub d : DeskView
   pub head : Post
   pub halt : Option Stop
   pub world : World s d head halt
+  pub buffer : BufferFits swaps d
   pub wired : Wired t.words t.homes d
   -- the turn word is 1 exactly where one seat holds the turn
   pub holders : total has_turn t.views ≡ slice_index t.words 0
-  pub each : (j : ℕ) (v : View) → get_elem? t.views j ≡ some v → ViewFits s.history d halt v
+  pub each : (j : ℕ) (v : View) → get_elem? t.views j ≡ some v → ViewFits s.history swaps d halt v
   -- the first seat is the control's
   pub first : (c : View) × (get_elem? t.views 0 ≡ some c) × (c.post ≡ head)
   pub controls : (j : ℕ) (v : View) → get_elem? t.views j ≡ some v → v.post.controls ≡ true → j ≡ 0

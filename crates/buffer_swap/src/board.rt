@@ -70,7 +70,8 @@ fn pause(pauses: u32) {
 
 impl Board {
     pub(crate) fn open(alloc: Global, desk: Desk) -> Result<(Board, Seat), Memory>
-        requires { (limit : ℕ) × (desk ≡ new_desk limit) }
+        requires new { (limit : ℕ) × (desk ≡ new_desk limit) }
+        requires some { 1 ≤ desk.limit }
         ensures { IfOk result (λ t. (t.1.table_id ≡ t.0.table.shared.table_id)
             × (t.1.me ≡ (newcomer desk.limit first_post, []))) }
     {
@@ -277,6 +278,7 @@ impl Board {
         requires id { seat.old.table_id ≡ self.now.table.shared.table_id }
         requires desk { (seat.old.me.0.holds ≡ true) × (seat.old.me.1 ≡ (0, swapped seat.old.me.0.hand) ∷ []) }
         requires drain { IsDrain seat.old.me.0.post }
+        requires some { seat.old.me.0.hand.primary ≡ [] → ⊥ }
         ensures id { seat.new.table_id ≡ seat.old.table_id }
         ensures me { seat.new.me
             ≡ (hands_over seat.old.me.0 (swapped seat.old.me.0.hand), (0, swapped seat.old.me.0.hand) ∷ []) }

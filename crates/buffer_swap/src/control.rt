@@ -21,6 +21,7 @@ impl<'t> Control<'t> {
         ensures made { self.new.seat.me.0 ≡ hires self.old.seat.me.0 }
         ensures number { result.number ≡ self.old.seat.me.0.post.made }
         ensures new { result.seat.me.0 ≡ hired self.old.seat.me.0 }
+        ensures last { result.last ≡ 0 }
     {
         let board = self.board;
         let number = self.made;

@@ -66,6 +66,7 @@ impl<'t> Publisher<'t> {
     pub fn try_publish(&mut self, m: &NewMessage<'_>) -> Option<Result<u64, CallRefused>>
         ensures turn { self.new.seat.table_id ≡ self.old.seat.table_id }
         ensures number { self.new.number ≡ self.old.number }
+        ensures last { self.new.last ≡ self.old.last }
         ensures answer { TriesBy self.old.seat.me.0.pass self.old.seat.me.0.missed self.new.seat.me.0.pass
             self.new.seat.me.0.missed m.now result }
     {

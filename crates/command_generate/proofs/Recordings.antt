@@ -110,7 +110,7 @@ module _ (options : RecordOptions) (sources back : List SourceState) (live live_
     report_at : At r.feeds.items n f.feed
     report_at = subst (λ (l : List FeedReport). At l n f.feed) (sym it.are.reports_are) (at_mapped (λ (x : FeedRecorded). x.feed) it.feeds n f at)
 
-    stands : LanePartStands options.limit it.history r.writer.end (lane_of f)
+    stands : LanePartStands options.limit it.history it.assembled.swaps r.writer.end (lane_of f)
     stands = it.assembled.stand n (lane_of f) (at_mapped lane_of it.feeds n f at)
 
     -- the intake that was found had no end, since the recording's is that it was closed
@@ -171,7 +171,7 @@ module _ (options : RecordOptions) (sources back : List SourceState) (live live_
         many = came_so.1 ∙ ap length tops_are ∙ map_long top_of ms
 
         says : Says (flat f.reports.tops) (lane_of f).lists it.history
-        says = lane_says options.limit it.history r.writer.end (lane_of f) stands
+        says = lane_says options.limit it.history it.assembled.swaps r.writer.end (lane_of f) stands
 
         accepted_all : (k : ℕ) → 0 ≤ k → k < 0 + length ms → (a : Accepted) × Has f.feed.accepted.items a × (a.index ≡ k)
         accepted_all k least most = elim (f.reports.fits.listed k (omega (arith, most, many))) [

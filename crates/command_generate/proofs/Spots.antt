@@ -177,7 +177,7 @@ module _ (made : ℕ → List MessageFields) where
     once j k place one other at_j at_k has has_other =
         is.once j k place (lane_of one) (lane_of other) (at_mapped lane_of fs j one at_j) (at_mapped lane_of fs k other at_k) (given_by j place one at_j has) (given_by k place other at_k has_other)
 
-    stands : (k : ℕ) (f : FeedRecorded) → At fs k f → LanePartStands limit history end (lane_of f)
+    stands : (k : ℕ) (f : FeedRecorded) → At fs k f → LanePartStands limit history is.swaps end (lane_of f)
     stands k f at = is.stand k (lane_of f) (at_mapped lane_of fs k f at)
 
     pub rise : Each (λ f. PlacesRise f.feed.accepted.items) fs
@@ -188,7 +188,7 @@ module _ (made : ℕ → List MessageFields) where
 
     declared_not : (k place channel : ℕ) (m : MessageFields) (f : FeedRecorded) (d : DeclaredAt) → At fs k f → Has f.feed.declared.items d → d.first ≤ place → place < d.first + d.count → At history place (message_of channel m) → ⊥
     declared_not k place channel m f d at has from to there =
-        let says = lane_says limit history end (lane_of f) (stands k f at) in
+        let says = lane_says limit history is.swaps end (lane_of f) (stands k f at) in
         let adds = says.declares has.0 d has.1 in
         let i = place - d.first in
         let here : d.first + i ≡ place = omega (arith, from) in

@@ -15,13 +15,6 @@ pub(crate) fn add_record(sums: &mut Sums, op: u8, content: &[u8])
 {
     match view_record(op, content) {
         RecordView::Message(message) => return sums.add(&message),
-        RecordView::Header(_)
-        | RecordView::Schema(_)
-        | RecordView::Channel(_)
-        | RecordView::Chunk(_)
-        | RecordView::MessageIndex(_)
-        | RecordView::Attachment(_)
-        | RecordView::Metadata(_)
-        | RecordView::Other => return,
+        _ => return,
     }
 }

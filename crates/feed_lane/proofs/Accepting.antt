@@ -17,7 +17,7 @@ use Rattle.feed_lane.specs.PassCalls.{Finds, message_record, with_published}
 use Rattle.feed_lane.specs.Lanes.{ReportLists, messages, Accepts, full_in, InTurnWith, IsGiven, IsAccountedFor, ListsFit}
 use Rattle.feed_lane.specs.Kept.{LaneIds}
 use Rattle.feed_lane.specs.Steps.{Extends, DeclaredWithId, ListsStand}
-use Rattle.feed_lane.proofs.Members.{open_by, finds_above, seen_later, declares_on, accepts_on, cause_on, full_shown, declared_above, accepted_above}
+use Rattle.feed_lane.proofs.Members.{open_by, finds_above, seen_later, declares_on, accepts_on, cause_on, full_shown, lacks_below, declared_above, accepted_above}
 
 abbrev pub accepted_at : ℕ → ℕ → Accepted
 accepted_at index place = record { index = index; place = place }
@@ -98,11 +98,22 @@ accepted_fits records handled ids lists before found m source t stands finds tak
       ];
       named = was.named;
       lacks = was.lacks;
+      lacks_between = (
+        was.lacks_between.0,
+        λ n refusal lack at_r at_l. let it = was.lacks_between.1 n refusal lack at_r at_l in record {
+          accepted = λ k a at. elim (at_more lists.accepted new k a at) [
+            | inl old ↦ it.accepted k a old
+            | inr last ↦ subst (λ (x : Accepted). InTurnWith lack.at refusal.0 x.index x.place (x.place + 1)) (sym last.1)
+                (λ lt. absurd (let below = lacks_below lists.refused handled was.refused_below n refusal at_r in omega (arith, lt, below)), λ lt. above.seen lack.at (stands.ats n lack at_l))
+          ];
+          declared = it.declared;
+        },
+      );
       reasons = was.reasons;
       fulls = was.fulls;
       accepted_between = λ j k r a at_j at_k. elim (at_more lists.accepted new k a at_k) [
         | inl old ↦ was.accepted_between j k r a at_j old
-        | inr last ↦ subst (λ (x : Accepted). Each (λ full. InTurnWith full r.index x.index x.place (x.place + 1)) (full_in r.cause)) (sym last.1)
+        | inr last ↦ subst (λ (x : Accepted). Each (λ full. InTurnWith full.to r.index x.index x.place (x.place + 1)) (full_in r.cause)) (sym last.1)
             (λ n full at. (
               λ lt. absurd (let below = was.refused_below j r at_j in omega (arith, lt, below)),
               λ lt. let shown = full_shown records handled before r.index r.cause n full (was.refuses j r at_j) at in above.seen full.to (stands.tos shown.0 full shown.1),
@@ -136,6 +147,7 @@ accepted_stands records handled ids lists before found m source t stands finds e
       going = stands.going;
       firsts = λ k d at. extends.seen d.first (stands.firsts k d at);
       tos = λ k full at. extends.seen full.to (stands.tos k full at);
+      ats = λ k lack at. extends.seen lack.at (stands.ats k lack at);
       is_open = open_by (with_published before found m) found refl end;
       tried = stands.tried;
     }

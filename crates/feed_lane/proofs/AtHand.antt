@@ -11,12 +11,6 @@ use Rattle.feed_lane.specs.Lanes.{ReportLists, IsOn}
 use Rattle.feed_lane.specs.Kept.{LaneIds}
 use Rattle.feed_lane.specs.Steps.{ListsStand, AtHand}
 
--- it meets its layout
-pub message_at : (records : List Top) (handled : ℕ) (content : List ℕ) → Each V6 records → AtHand records handled content → (channel : ℕ) × (m : MessageFields) × IsMessage (top 5 content) channel m
-message_at records handled content layouts at =
-    let has = (filter_passed (λ (t : Top). eqb t.op 5) records handled (top 5 content) at).0 in
-    (layouts has.0 (top 5 content) has.1).message refl
-
 pub is_on : (records : List Top) (handled channel : ℕ) (content : List ℕ) (m : MessageFields) → AtHand records handled content → IsMessage (top 5 content) channel m → IsOn records handled channel
 is_on records handled channel content m at is = record { top = top 5 content; message = m; at = at; is = is }
 

@@ -16,7 +16,7 @@ use Rattle.record_core.specs.declared.answers.CallRefused.{CallRefused}
 use Rattle.record_core.specs.declared.answers.CallRefused.TheVariants as refusing
 use Rattle.record_core.specs.declared.answers.Declared.{Declared}
 use Rattle.feed_lane.specs.declared.report.DeclaredAt.{DeclaredAt}
-use Rattle.feed_lane.specs.Pass.{FullAt, filled, PassState, full_at, FoundAtLeast}
+use Rattle.feed_lane.specs.Pass.{FullAt, filled, LackAt, lack_at, PassState, full_at, FoundAtLeast}
 use Rattle.feed_lane.specs.PassCalls.{refused_full, Finds, with_found, with_reason, with_full, with_lack, GetsId, PublishedBy, DeclaredInto}
 use Rattle.feed_lane.specs.Lanes.{ReportLists, messages, HasTooMuchData, IsChannelOf, IsWide, LastFindsEnd, CauseFits, IsUndeclared, IsTried, full_in, lack_in, reason_in, IsLacking, InStep, ListsFit}
 use Rattle.feed_lane.specs.Steps.{Above, DeclaredWithId, RefusalLeaves}
@@ -36,6 +36,9 @@ none_lacking records handled cause none =
 none_in : (P : FullAt → Type 0) (cause : CallRefused) → full_in cause ≡ [] → Each P (full_in cause)
 none_in P cause none n full at = absurd (at_none n full (subst (λ (l : List FullAt). At l n full) none at))
 
+none_here : (P : LackAt → Type 0) → Each P []
+none_here P n lack at = absurd (at_none n lack at)
+
 -- no call was made, for want of memory
 pub unchanged : (records : List Top) (handled : ℕ) (pass : PassState) → RefusalLeaves records handled pass pass refusing.Memory
 unchanged records handled pass = record {
@@ -50,6 +53,8 @@ unchanged records handled pass = record {
   fits = tt;
   above = none_in _ refusing.Memory refl;
   tos = none_in _ refusing.Memory refl;
+  lacking_above = none_here _;
+  ats = none_here _;
   is_open = λ on was. was;
 }
 
@@ -67,6 +72,8 @@ too_large records handled pass len large = record {
   fits = large;
   above = none_in _ (refusing.TooLarge len) refl;
   tos = none_in _ (refusing.TooLarge len) refl;
+  lacking_above = none_here _;
+  ats = none_here _;
   is_open = λ on was. was;
 }
 
@@ -88,6 +95,8 @@ found_only records handled before found cause finds end plain fits = record {
   fits = fits;
   above = none_in _ cause plain.0;
   tos = none_in _ cause plain.0;
+  lacking_above = none_here _;
+  ats = none_here _;
   is_open = λ on was. open_by (with_reasons before found (reason_in cause)) found refl (end on);
 }
 
@@ -118,6 +127,8 @@ was_full records handled before found held from to finds end is le =
       fits = (subst (Has (before.fulls ++ full_at found ∷ [])) (sym is) (has_last before.fulls (full_at found) []), le, order);
       above = λ n x at. subst (λ (y : FullAt). Above before y.to) (sym (only n x at)) (finds_above before found finds);
       tos = λ n x at. subst (λ (y : FullAt). FoundAtLeast (with_full before found) y.to) (sym (only n x at)) (record { found = found; shown = refl; within = omega arith });
+      lacking_above = none_here _;
+      ats = none_here _;
       is_open = λ on was. open_by (with_full before found) found refl end;
     }
   where
@@ -130,19 +141,27 @@ was_full records handled before found held from to finds end is le =
 -- no id was left
 lacked : (records : List Top) (handled : ℕ) (before : PassState) (found : Found) (d : ChannelDef) (refusal : CallRefused) → Finds before found → found.end ≡ None → full_in refusal ≡ [] → lack_in handled refusal ≡ (handled, refusal) ∷ [] → reason_in refusal ≡ refusal ∷ [] → IsChannelOf records handled d → CauseFits records (handled + 1) (with_lack before found d refusal) handled refusal → RefusalLeaves records handled before (with_lack before found d refusal) refusal
 lacked records handled before found d refusal finds end none lack why is fits = record {
-  extends = record { own = λ pair has. has; named = λ pair has. has; fulls = λ full has. has; lacks = λ pair has. has_kept before.lacks ((d, refusal) ∷ []) pair has; limit = refl; seen = seen_later before (with_lack before found d refusal) found finds refl };
+  extends = record { own = λ pair has. has; named = λ pair has. has; fulls = λ full has. has; lacks = λ x has. has_kept before.lacks (lack_at d refusal found.count ∷ []) x has; limit = refl; seen = seen_later before (with_lack before found d refusal) found finds refl };
   own = refl;
   fulls = sym (append-nil before.fulls) ∙ ap (λ (l : List FullAt). before.fulls ++ l) (sym none);
   named = refl;
-  lacking = (d, refusal) ∷ [];
+  lacking = lack_at d refusal found.count ∷ [];
   lacks = refl;
-  are = subst (λ (l : List (ℕ × CallRefused)). InStep (IsLacking records) l ((d, refusal) ∷ [])) (sym lack) (in_step_one (IsLacking records) (handled, refusal) (d, refusal) (refl, is));
+  are = subst (λ (l : List (ℕ × CallRefused)). InStep (IsLacking records) l (lack_at d refusal found.count ∷ [])) (sym lack) (in_step_one (IsLacking records) (handled, refusal) (lack_at d refusal found.count) (refl, is));
   reasons = ap (λ (l : List CallRefused). before.reasons ++ l) (sym why);
   fits = fits;
   above = none_in _ refusal none;
   tos = none_in _ refusal none;
+  lacking_above = λ n x at. subst (λ (y : LackAt). Above before y.at) (sym (only n x at)) (finds_above before found finds);
+  ats = λ n x at. subst (λ (y : LackAt). FoundAtLeast (with_lack before found d refusal) y.at) (sym (only n x at)) (record { found = found; shown = refl; within = omega arith });
   is_open = λ on was. open_by (with_lack before found d refusal) found refl end;
 }
+  where
+    only : (n : ℕ) (x : LackAt) → At (lack_at d refusal found.count ∷ []) n x → x ≡ lack_at d refusal found.count
+    only n x at = elim (at_more [] (lack_at d refusal found.count) n x at) [
+      | inl old ↦ absurd (at_none n x old)
+      | inr last ↦ last.1
+    ]
 
 -- the intake has ended
 ended : (handled : ℕ) (before : PassState) (found : Found) (at : ℕ) (end : End) → found.end ≡ Some end → at ≡ found.count → (more : List CallRefused) → LastFindsEnd (handled + 1) (with_reasons before found more) handled at end
@@ -199,10 +218,10 @@ declare_refused records handled before after d (refusing.Full held from to) is (
 declare_refused records handled before after d refusing.UnknownChannel is call = absurd call
 declare_refused records handled before after d refusing.TooManySchemas is (found, narrow, finds, end, unnamed, place, many, same) =
     subst (λ (p : PassState). RefusalLeaves records handled before p refusing.TooManySchemas) (sym same)
-    (lacked records handled before found d refusing.TooManySchemas finds end refl refl refl is (d, is, has_last before.lacks (d, refusing.TooManySchemas) []))
+    (lacked records handled before found d refusing.TooManySchemas finds end refl refl refl is (lack_at d refusing.TooManySchemas found.count, is, refl, has_last before.lacks (lack_at d refusing.TooManySchemas found.count) []))
 declare_refused records handled before after d refusing.TooManyChannels is (found, narrow, finds, end, unnamed, place, many, same) =
     subst (λ (p : PassState). RefusalLeaves records handled before p refusing.TooManyChannels) (sym same)
-    (lacked records handled before found d refusing.TooManyChannels finds end refl refl refl is (d, is, has_last before.lacks (d, refusing.TooManyChannels) []))
+    (lacked records handled before found d refusing.TooManyChannels finds end refl refl refl is (lack_at d refusing.TooManyChannels found.count, is, refl, has_last before.lacks (lack_at d refusing.TooManyChannels found.count) []))
 declare_refused records handled before after d refusing.Memory is (found, narrow, finds, end, unnamed, place, left, same) =
     subst (λ (p : PassState). RefusalLeaves records handled before p refusing.Memory) (sym same) (lacked_memory records handled before found finds end)
 

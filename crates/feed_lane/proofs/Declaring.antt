@@ -10,14 +10,14 @@ use Rattle.mcap_model.proofs.Lists.{at_either, at_second, pairs_at, pairs_from}
 use Rattle.record_core.specs.declared.answers.Found.{Found}
 use Rattle.feed_lane.specs.declared.report.DeclaredAt.{DeclaredAt}
 use Rattle.feed_lane.specs.declared.report.Refused.{Refused}
-use Rattle.feed_lane.specs.Pass.{PassState, with_places, AreAdded}
+use Rattle.feed_lane.specs.Pass.{named_by, PassState, with_places, AreAdded}
 use Rattle.feed_lane.specs.PassCalls.{Finds, with_declared}
 use Rattle.feed_lane.specs.Lanes.{ReportLists, IsOn, DeclarationAdds, IsTried, full_in, ShowsDeclaration, InTurnWith, IsGiven, ListsFit}
 use Rattle.history_ids.specs.FeedContents.{DeclaresContent}
 use Rattle.feed_lane.specs.Kept.{LaneIds, with_channel_id}
 use Rattle.feed_lane.specs.Steps.{Extends, DeclaredWithId, IdsStand, ListsStand}
 use Rattle.feed_lane.proofs.Growing.{on_one}
-use Rattle.feed_lane.proofs.Members.{open_by, finds_above, seen_later, in_step_joined, in_step_one, declares_on, accepts_on, accepts_listed, has_id_listed, cause_on, full_shown, placed_at, declared_above, accepted_above}
+use Rattle.feed_lane.proofs.Members.{open_by, finds_above, seen_later, in_step_joined, in_step_one, declares_on, accepts_on, accepts_listed, has_id_listed, cause_on, full_shown, lacks_below, placed_at, declared_above, accepted_above}
 
 -- the lists with one more declaration
 abbrev pub with_declaration : ReportLists → DeclaredAt → ReportLists
@@ -39,7 +39,7 @@ pub record IsNew (records : List Top) (handled : ℕ) (ids : LaneIds) (source : 
 declared_extends : (before : PassState) (found : Found) (content : ChannelDef) (channel : ℕ) (added : List Rec) → Finds before found → Extends before (with_declared before found content channel added)
 declared_extends before found content channel added finds = record {
   own = λ pair has. has_kept before.own (with_places found.count added) pair has;
-  named = λ pair has. has_kept before.named ((channel, content) ∷ []) pair has;
+  named = λ name has. has_kept before.named (named_by channel content (found.count + length added) ∷ []) name has;
   fulls = λ full has. has;
   lacks = λ pair has. has;
   limit = refl;
@@ -52,7 +52,8 @@ new_declares records handled ids source before found content d is = record {
   on = subst (λ (n : ℕ). IsOn records n source) (sym is.index) is.on;
   content = content;
   describes = is.describes;
-  named = has_last before.named (d.channel, content) [];
+  named = subst (λ (n : ℕ). Has (before.named ++ named_by d.channel content (found.count + length is.added) ∷ []) (named_by d.channel content n)) (omega (arith, is.first, is.many))
+      (has_last before.named (named_by d.channel content (found.count + length is.added)) []);
   added = is.added;
   are = is.are;
   many = is.many;
@@ -129,15 +130,28 @@ declared_fits records handled ids lists source before found content d stands fin
           λ lt. let below = accepted_above records lists.declared before a found.count (was.accepts k a at_k) above in omega (arith, below, is.first),
         )
       ];
-      named = in_step_joined (ShowsDeclaration records) lists.declared (d ∷ []) before.named ((d.channel, content) ∷ []) was.named
-          (in_step_one (ShowsDeclaration records) d (d.channel, content) (refl, record { source = source; on = subst (λ (n : ℕ). IsOn records n source) (sym is.index) is.on; describes = is.describes }));
+      named = in_step_joined (ShowsDeclaration records) lists.declared (d ∷ []) before.named (named_by d.channel content (found.count + length is.added) ∷ []) was.named
+          (in_step_one (ShowsDeclaration records) d (named_by d.channel content (found.count + length is.added)) (refl, omega (arith, is.first, is.many), record { source = source; on = subst (λ (n : ℕ). IsOn records n source) (sym is.index) is.on; describes = is.describes }));
       lacks = was.lacks;
+      lacks_between = (
+        was.lacks_between.0,
+        λ n refusal lack at_r at_l. let it = was.lacks_between.1 n refusal lack at_r at_l in record {
+          accepted = it.accepted;
+          declared = λ k e at. elim (at_more lists.declared d k e at) [
+            | inl old ↦ it.declared k e old
+            | inr last ↦ subst (λ (x : DeclaredAt). InTurnWith lack.at refusal.0 x.index x.first (x.first + x.count)) (sym last.1) (
+              λ lt. absurd (let below = lacks_below lists.refused handled was.refused_below n refusal at_r in omega (arith, lt, below, is.index)),
+              λ lt. let le = above.seen lack.at (stands.ats n lack at_l) in omega (arith, le, is.first),
+            )
+          ];
+        },
+      );
       reasons = was.reasons;
       fulls = was.fulls;
       accepted_between = was.accepted_between;
       declared_between = λ j k r e at_j at_k. elim (at_more lists.declared d k e at_k) [
         | inl old ↦ was.declared_between j k r e at_j old
-        | inr last ↦ subst (λ (x : DeclaredAt). Each (λ full. InTurnWith full r.index x.index x.first (x.first + x.count)) (full_in r.cause)) (sym last.1)
+        | inr last ↦ subst (λ (x : DeclaredAt). Each (λ full. InTurnWith full.to r.index x.index x.first (x.first + x.count)) (full_in r.cause)) (sym last.1)
             (λ n full at. (
               λ lt. absurd (let below = was.refused_below j r at_j in omega (arith, lt, below, is.index)),
               λ lt. let shown = full_shown records handled before r.index r.cause n full (was.refuses j r at_j) at in let le = above.seen full.to (stands.tos shown.0 full shown.1) in omega (arith, le, is.first),
@@ -205,6 +219,7 @@ declared_stands records handled ids lists source before found content d stands f
         | inr last ↦ record { found = found; shown = refl; within = let same = ap (λ (x : DeclaredAt). x.first) last.1 in omega (arith, same, is.first) }
       ];
       tos = λ k full at. extends.seen full.to (stands.tos k full at);
+      ats = λ k lack at. extends.seen lack.at (stands.ats k lack at);
       is_open = open_by after found refl end;
       tried = λ k r at.
           tried_kept records lists.declared d r (let below = stands.fits.refused_below k r at in omega (arith, below, is.index)) (stands.tried k r at);

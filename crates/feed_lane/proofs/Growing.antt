@@ -163,7 +163,7 @@ undeclared_yet records handled source declared ids stand none on other d on_othe
     absurd (stand.fresh source d none has (subst (IsOn records d.index) (on_one records handled other source on_other on) on_d))
 
 lacks_more : (records more : List Top) (pass : PassState) (index : ℕ) (refusal : CallRefused) → LacksId records pass index refusal → LacksId (records ++ more) pass index refusal
-lacks_more records more pass index refusal was = (was.0, channel_more records more index was.0 was.1, was.2)
+lacks_more records more pass index refusal was = (was.0, channel_more records more index was.0.content was.1, was.2, was.3)
 
 long_more : (records more : List Top) (index len : ℕ) → HasTooMuchData records index len → HasTooMuchData (records ++ more) index len
 long_more records more index len was = record {
@@ -193,11 +193,11 @@ cause_more records more handled pass index refusing.Memory was = was
 
 named_more : (records more : List Top) (lists : ReportLists) (pass : PassState) → InStep (ShowsDeclaration records) lists.declared pass.named → InStep (ShowsDeclaration (records ++ more)) lists.declared pass.named
 named_more records more lists pass was =
-    in_step_on (ShowsDeclaration records) (ShowsDeclaration (records ++ more)) lists.declared pass.named (λ d pair is. (is.0, channel_more records more d.index pair.1 is.1)) was
+    in_step_on (ShowsDeclaration records) (ShowsDeclaration (records ++ more)) lists.declared pass.named (λ d name is. (is.0, is.1, channel_more records more d.index name.content is.2)) was
 
 lacking_more : (records more : List Top) (lists : ReportLists) (pass : PassState) → InStep (IsLacking records) (lacks_of lists.refused) pass.lacks → InStep (IsLacking (records ++ more)) (lacks_of lists.refused) pass.lacks
 lacking_more records more lists pass was =
-    in_step_on (IsLacking records) (IsLacking (records ++ more)) (lacks_of lists.refused) pass.lacks (λ lack pair is. (is.0, channel_more records more lack.0 pair.0 is.1)) was
+    in_step_on (IsLacking records) (IsLacking (records ++ more)) (lacks_of lists.refused) pass.lacks (λ refusal lack is. (is.0, channel_more records more refusal.0 lack.content is.1)) was
 
 -- ---- the lists
 
@@ -222,6 +222,7 @@ fits_more records more handled bound lists pass was = record {
   in_turn = was.in_turn;
   named = named_more records more lists pass was.named;
   lacks = lacking_more records more lists pass was.lacks;
+  lacks_between = was.lacks_between;
   reasons = was.reasons;
   fulls = was.fulls;
   accepted_between = was.accepted_between;
@@ -255,6 +256,7 @@ stands_more records more handled bound ids lists pass was = record {
   going = was.going;
   firsts = was.firsts;
   tos = was.tos;
+  ats = was.ats;
   is_open = was.is_open;
   tried = λ k r at.
       tried_more records more lists.declared pass r
@@ -281,6 +283,7 @@ may_declare records handled ids lists pass stands =
         in_turn = was.in_turn;
         named = was.named;
         lacks = was.lacks;
+        lacks_between = was.lacks_between;
         reasons = was.reasons;
         fulls = was.fulls;
         accepted_between = was.accepted_between;
@@ -297,6 +300,7 @@ may_declare records handled ids lists pass stands =
       going = stands.going;
       firsts = stands.firsts;
       tos = stands.tos;
+      ats = stands.ats;
       is_open = stands.is_open;
       tried = stands.tried;
     }
@@ -312,6 +316,7 @@ standing lane now records handled pass is stood stands = subst (λ (it : Lane). 
   going = stands.going;
   firsts = stands.firsts;
   tos = stands.tos;
+  ats = stands.ats;
   is_open = stands.is_open;
   tried = stands.tried;
 })
@@ -325,6 +330,7 @@ keeping records handled bound ids lists pass kept stood stands = record {
   going = stands.going;
   firsts = stands.firsts;
   tos = stands.tos;
+  ats = stands.ats;
   is_open = stands.is_open;
   tried = stands.tried;
 }

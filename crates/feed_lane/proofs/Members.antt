@@ -6,16 +6,17 @@ use Rattle.rec_data.specs.declared.owned.Rec.{Rec}
 use Rattle.mcap_model.specs.declared.ends.End.{End}
 use Rattle.mcap_model.specs.Places.{At, Has, Each}
 use Rattle.mcap_model.specs.Tops.{Top}
-use Rattle.mcap_model.proofs.Places.{at_none, at_within, has_kept}
+use Rattle.mcap_model.proofs.Places.{at_none, at_more, at_within, has_kept}
 use Rattle.mcap_model.proofs.Lists.{at_either}
 use Rattle.record_core.specs.declared.answers.Found.{Found}
 use Rattle.record_core.specs.declared.answers.CallRefused.{CallRefused}
 use Rattle.record_core.specs.declared.answers.CallRefused.TheVariants as refusing
 use Rattle.feed_lane.specs.declared.report.Accepted.{Accepted}
 use Rattle.feed_lane.specs.declared.report.DeclaredAt.{DeclaredAt}
-use Rattle.feed_lane.specs.Pass.{FullAt, PassState, with_places, FoundAtLeast}
+use Rattle.feed_lane.specs.declared.report.Refused.{Refused}
+use Rattle.feed_lane.specs.Pass.{FullAt, named_by, PassState, with_places, FoundAtLeast}
 use Rattle.feed_lane.specs.PassCalls.{Finds}
-use Rattle.feed_lane.specs.Lanes.{DeclarationAdds, Accepts, LacksId, CauseFits, full_in, InStep}
+use Rattle.feed_lane.specs.Lanes.{DeclarationAdds, Accepts, LacksId, CauseFits, full_in, lack_in, lacks_of, InStep}
 use Rattle.feed_lane.specs.Steps.{Above, Extends, IsOpen, DeclaredWithId}
 use Rattle.feed_lane.specs.Causes.{goes_on}
 
@@ -92,7 +93,7 @@ declares_on records before after d extends was = record {
   on = was.on;
   content = was.content;
   describes = was.describes;
-  named = extends.named (d.channel, was.content) was.named;
+  named = extends.named (named_by d.channel was.content (d.first + d.count)) was.named;
   added = was.added;
   are = was.are;
   many = was.many;
@@ -139,7 +140,7 @@ has_id_listed records declared more source id was = record {
 }
 
 lacks_on : (records : List Top) (before after : PassState) (index : ℕ) (refusal : CallRefused) → Extends before after → LacksId records before index refusal → LacksId records after index refusal
-lacks_on records before after index refusal extends was = (was.0, was.1, extends.lacks (was.0, refusal) was.2)
+lacks_on records before after index refusal extends was = (was.0, was.1, was.2, extends.lacks was.0 was.3)
 
 -- a cause behind which the lane goes on
 pub cause_on : (records : List Top) (handled later : ℕ) (before after : PassState) (index : ℕ) (cause : CallRefused) → goes_on cause ≡ true → Extends before after → CauseFits records handled before index cause → CauseFits records later after index cause
@@ -161,6 +162,27 @@ full_shown records handled pass index (refusing.Full held from to) zero full was
     some_same e = cc
 full_shown records handled pass index (refusing.Full held from to) (suc n) full was at = absurd (at_none n full at)
 full_shown records handled pass index cause n full was at = absurd (at_none n full at)
+
+-- ---- refusals for which no id was left
+
+pub lack_index : (index : ℕ) (cause : CallRefused) (n : ℕ) (refusal : ℕ × CallRefused) → At (lack_in index cause) n refusal → refusal.0 ≡ index
+lack_index index refusing.TooManySchemas n refusal at = elim (at_more [] (index, refusing.TooManySchemas) n refusal at) [
+  | inl old ↦ absurd (at_none n refusal old)
+  | inr last ↦ ap (λ (x : ℕ × CallRefused). x.0) last.1
+]
+lack_index index refusing.TooManyChannels n refusal at = elim (at_more [] (index, refusing.TooManyChannels) n refusal at) [
+  | inl old ↦ absurd (at_none n refusal old)
+  | inr last ↦ ap (λ (x : ℕ × CallRefused). x.0) last.1
+]
+lack_index index cause n refusal at = absurd (at_none n refusal at)
+
+-- they are of messages that were refused
+pub lacks_below : (refused : List Refused) (bound : ℕ) → Each (λ r. r.index < bound) refused → Each (λ (refusal : ℕ × CallRefused). refusal.0 < bound) (lacks_of refused)
+lacks_below [] bound below n refusal at = absurd (at_none n refusal at)
+lacks_below (r ∷ rs) bound below n refusal at = elim (at_either (lack_in r.index r.cause) (lacks_of rs) n refusal at) [
+  | inl here ↦ let same = lack_index r.index r.cause n refusal here in let less = below 0 r refl in omega (arith, same, less)
+  | inr (k, there, more) ↦ lacks_below rs bound (λ j x at_x. below (suc j) x at_x) k refusal more
+]
 
 -- ---- places
 

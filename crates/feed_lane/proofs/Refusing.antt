@@ -11,12 +11,12 @@ use Rattle.mcap_model.proofs.Places.{at_kept, at_last, at_more, pairs_more}
 use Rattle.mcap_model.proofs.Lists.{at_either}
 use Rattle.record_core.specs.declared.answers.CallRefused.{CallRefused}
 use Rattle.feed_lane.specs.declared.report.Refused.{Refused}
-use Rattle.feed_lane.specs.Pass.{FullAt, PassState}
-use Rattle.feed_lane.specs.Lanes.{ReportLists, messages, CauseFits, IsTried, full_in, fulls_of, lack_in, lacks_of, reason_in, reasons_of, ShowsDeclaration, IsLacking, InStep, InTurnWith, ListsFit}
+use Rattle.feed_lane.specs.Pass.{FullAt, LackAt, PassState}
+use Rattle.feed_lane.specs.Lanes.{ReportLists, messages, CauseFits, IsTried, full_in, fulls_of, lack_in, lacks_of, reason_in, reasons_of, ShowsDeclaration, IsLacking, InStep, InTurnWith, IsLackBetween, ListsFit}
 use Rattle.feed_lane.specs.Kept.{LaneIds}
 use Rattle.feed_lane.specs.Steps.{RefusalLeaves, ListsStand, LastEnds, ListsTell}
 use Rattle.feed_lane.specs.Causes.{goes_on}
-use Rattle.feed_lane.proofs.Members.{in_step_joined, declares_on, accepts_on, cause_on, declared_above, accepted_above}
+use Rattle.feed_lane.proofs.Members.{in_step_joined, declares_on, accepts_on, cause_on, lack_index, declared_above, accepted_above}
 
 abbrev pub refused_at : ℕ → CallRefused → Refused
 refused_at index cause = record { index = index; cause = cause }
@@ -30,6 +30,24 @@ at_in xs ys n x at = elim (at_either xs ys n x at) [
   | inl old ↦ inl old
   | inr later ↦ inr (later.0, later.2)
 ]
+
+-- the places at which no id was left, with that of the message at hand
+lacks_refused : (records : List Top) (handled : ℕ) (ids : LaneIds) (lists : ReportLists) (before after : PassState) (cause : CallRefused) → ListsStand records handled (handled + 1) ids lists before → RefusalLeaves records handled before after cause
+    → InStep (IsLackBetween (with_refused lists (refused_at handled cause))) (lacks_of (lists.refused ++ refused_at handled cause ∷ [])) after.lacks
+lacks_refused records handled ids lists before after cause stands is =
+    let was = stands.fits in
+    let new = refused_at handled cause in
+    subst (λ (l : List (ℕ × CallRefused)). InStep (IsLackBetween (with_refused lists new)) l after.lacks)
+    (sym (flat_map-append (λ (r : Refused). lack_in r.index r.cause) lists.refused (new ∷ []) ∙ ap (λ (l : List (ℕ × CallRefused)). lacks_of lists.refused ++ l) (append-nil (lack_in handled cause))))
+    (subst (InStep (IsLackBetween (with_refused lists new)) (lacks_of lists.refused ++ lack_in handled cause)) (sym is.lacks)
+    (in_step_joined (IsLackBetween (with_refused lists new)) (lacks_of lists.refused) (lack_in handled cause) before.lacks is.lacking
+    (was.lacks_between.0, λ n refusal lack at_r at_l. let it = was.lacks_between.1 n refusal lack at_r at_l in record { accepted = it.accepted; declared = it.declared }) (
+      is.are.0,
+      λ n refusal lack at_r at_l. let here = lack_index handled cause n refusal at_r in let above = is.lacking_above n lack at_l in record {
+        accepted = λ k a at. (λ lt. let below = accepted_above records lists.declared before a lack.at (was.accepts k a at) above in omega (arith, below), λ lt. absurd (let below = was.accepted_below k a at in omega (arith, lt, below, here)));
+        declared = λ k d at. (λ lt. declared_above records before d lack.at (was.declares k d at) (stands.firsts k d at) above, λ lt. absurd (let below = was.declared_below k d at in omega (arith, lt, below, here)));
+      },
+    )))
 
 pub refused_fits : (records : List Top) (handled : ℕ) (ids : LaneIds) (lists : ReportLists) (before after : PassState) (cause : CallRefused) → ListsStand records handled (handled + 1) ids lists before → RefusalLeaves records handled before after cause → handled < length (messages records) → ListsFit records (handled + 1) (handled + 1) (with_refused lists (refused_at handled cause)) after
 refused_fits records handled ids lists before after cause stands is some =
@@ -54,6 +72,7 @@ refused_fits records handled ids lists before after cause stands is some =
           (sym (flat_map-append (λ (r : Refused). lack_in r.index r.cause) lists.refused (new ∷ []) ∙ ap (λ (l : List (ℕ × CallRefused)). lacks_of lists.refused ++ l) (append-nil (lack_in handled cause))))
           (subst (InStep (IsLacking records) (lacks_of lists.refused ++ lack_in handled cause)) (sym is.lacks)
           (in_step_joined (IsLacking records) (lacks_of lists.refused) (lack_in handled cause) before.lacks is.lacking was.lacks is.are));
+      lacks_between = lacks_refused records handled ids lists before after cause stands is;
       reasons =
           flat_map-append (λ (r : Refused). reason_in r.cause) lists.refused (new ∷ [])
           ∙ ap (λ (l : List CallRefused). reasons_of lists.refused ++ l) (append-nil (reason_in cause))
@@ -66,12 +85,12 @@ refused_fits records handled ids lists before after cause stands is some =
           ∙ sym is.fulls;
       accepted_between = λ j k r a at_j at_k. elim (at_more lists.refused new j r at_j) [
         | inl old ↦ was.accepted_between j k r a old at_k
-        | inr last ↦ subst (λ (x : Refused). Each (λ full. InTurnWith full x.index a.index a.place (a.place + 1)) (full_in x.cause)) (sym last.1)
+        | inr last ↦ subst (λ (x : Refused). Each (λ full. InTurnWith full.to x.index a.index a.place (a.place + 1)) (full_in x.cause)) (sym last.1)
             (λ n full at. (λ lt. let below = accepted_above records lists.declared before a full.to (was.accepts k a at_k) (is.above n full at) in omega (arith, below), λ lt. absurd (let below = was.accepted_below k a at_k in omega (arith, lt, below))))
       ];
       declared_between = λ j k r d at_j at_k. elim (at_more lists.refused new j r at_j) [
         | inl old ↦ was.declared_between j k r d old at_k
-        | inr last ↦ subst (λ (x : Refused). Each (λ full. InTurnWith full x.index d.index d.first (d.first + d.count)) (full_in x.cause)) (sym last.1)
+        | inr last ↦ subst (λ (x : Refused). Each (λ full. InTurnWith full.to x.index d.index d.first (d.first + d.count)) (full_in x.cause)) (sym last.1)
             (λ n full at. (λ lt. declared_above records before d full.to (was.declares k d at_k) (stands.firsts k d at_k) (is.above n full at), λ lt. absurd (let below = was.declared_below k d at_k in omega (arith, lt, below))))
       ];
       handled_some = omega (arith, some);
@@ -123,6 +142,10 @@ refused_stands records handled ids lists before after cause stands is some tried
       tos = λ k full at. elim (at_in before.fulls (full_in cause) k full (subst (λ (l : List FullAt). At l k full) is.fulls at)) [
         | inl old ↦ is.extends.seen full.to (stands.tos k full old)
         | inr (n, last) ↦ is.tos n full last
+      ];
+      ats = λ k lack at. elim (at_in before.lacks is.lacking k lack (subst (λ (l : List LackAt). At l k lack) is.lacks at)) [
+        | inl old ↦ is.extends.seen lack.at (stands.ats k lack old)
+        | inr (n, last) ↦ is.ats n lack last
       ];
       is_open = is.is_open on stands.is_open;
       tried = tried_more records lists new stands.tried tried;

@@ -19,7 +19,7 @@ use Rattle.record_core.specs.declared.answers.CallRefused.TheVariants as refusin
 use Rattle.feed_lane.specs.declared.report.Accepted.{Accepted}
 use Rattle.feed_lane.specs.declared.report.DeclaredAt.{DeclaredAt}
 use Rattle.feed_lane.specs.declared.report.Refused.{Refused}
-use Rattle.feed_lane.specs.Pass.{FullAt, filled, PassState, FoundAtLeast, with_places, AreAdded}
+use Rattle.feed_lane.specs.Pass.{FullAt, filled, NamedBy, named_by, LackAt, PassState, FoundAtLeast, with_places, AreAdded}
 
 -- the lists of a report
 pub record ReportLists : Type 0 where
@@ -46,7 +46,7 @@ pub record DeclarationAdds (records : List Top) (pass : PassState) (d : Declared
   pub on : IsOn records d.index source
   pub content : ChannelDef
   pub describes : DeclaresContent records source content
-  pub named : Has pass.named (d.channel, content)
+  pub named : Has pass.named (named_by d.channel content (d.first + d.count))
   pub added : List Rec
   pub are : AreAdded content d.channel added
   pub many : d.count ≡ length added
@@ -94,7 +94,7 @@ IsWide records index len = (content : ChannelDef) × IsChannelOf records index c
 -- no id was left for that message's channel
 abbrev pub LacksId : List Top → PassState → ℕ → CallRefused → Type 0
 LacksId records pass index refusal =
-    (content : ChannelDef) × IsChannelOf records index content × Has pass.lacks (content, refusal)
+    (lack : LackAt) × IsChannelOf records index lack.content × (lack.cause ≡ refusal) × Has pass.lacks lack
 
 -- The last of the handled messages was refused since the intake had ended.
 pub record LastFindsEnd (handled : ℕ) (pass : PassState) (index at : ℕ) (end : End) : Type 0 where
@@ -166,20 +166,31 @@ abbrev pub reasons_of : List Refused → List CallRefused
 reasons_of refused = flat_map (λ r. reason_in r.cause) refused
 
 -- what the pass shows of a declaration, and of a refusal for which no id was left
-abbrev pub ShowsDeclaration : List Top → DeclaredAt → ℕ × ChannelDef → Type 0
-ShowsDeclaration records d pair = (pair.0 ≡ d.channel) × IsChannelOf records d.index pair.1
+abbrev pub ShowsDeclaration : List Top → DeclaredAt → NamedBy → Type 0
+ShowsDeclaration records d name =
+    (name.id ≡ d.channel) × (name.count ≡ d.first + d.count) × IsChannelOf records d.index name.content
 
-abbrev pub IsLacking : List Top → ℕ × CallRefused → ChannelDef × CallRefused → Type 0
-IsLacking records lack pair = (pair.1 ≡ lack.1) × IsChannelOf records lack.0 pair.0
+abbrev pub IsLacking : List Top → ℕ × CallRefused → LackAt → Type 0
+IsLacking records refusal lack = (lack.cause ≡ refusal.1) × IsChannelOf records refusal.0 lack.content
 
 -- the lists have as many members, and it holds of those of each place
 abbrev pub InStep : {X Y : Type 0} → (X → Y → Type 0) → List X → List Y → Type 0
 InStep {X} {Y} R xs ys = (length xs ≡ length ys) × ((n : ℕ) (x : X) (y : Y) → At xs n x → At ys n y → R x y)
 
--- Records that a message added, which stand from one place to before another: those of the message itself and of an earlier
--- one stand before the place behind a full buffer, and those of a later one from there on.
-abbrev pub InTurnWith : FullAt → ℕ → ℕ → ℕ → ℕ → Type 0
-InTurnWith full index other first behind = (other ≤ index → behind ≤ full.to) × (index < other → full.to ≤ first)
+-- Records that a message added, which stand from one place to before another, and a message that was refused when so many
+-- records had been accepted: those of that message itself and of an earlier one stand before that place, and those of a later
+-- one from there on.
+abbrev pub InTurnWith : ℕ → ℕ → ℕ → ℕ → ℕ → Type 0
+InTurnWith place index other first behind = (other ≤ index → behind ≤ place) × (index < other → place ≤ first)
+
+-- so it is of all that was recorded and declared
+pub record IsBetween (lists : ReportLists) (index place : ℕ) : Type 0 where
+  pub accepted : Each (λ a. InTurnWith place index a.index a.place (a.place + 1)) lists.accepted
+  pub declared : Each (λ d. InTurnWith place index d.index d.first (d.first + d.count)) lists.declared
+
+-- so it is of a message that was refused since no id was left, and of the declaration for it
+abbrev pub IsLackBetween : ReportLists → ℕ × CallRefused → LackAt → Type 0
+IsLackBetween lists refusal lack = IsBetween lists refusal.0 lack.at
 
 -- ---- all lists
 
@@ -218,15 +229,16 @@ pub record ListsFit (records : List Top) (handled bound : ℕ) (lists : ReportLi
   pub named : InStep (ShowsDeclaration records) lists.declared pass.named
   -- so are the declarations that no id was left for those of the refusals for that
   pub lacks : InStep (IsLacking records) (lacks_of lists.refused) pass.lacks
+  pub lacks_between : InStep (IsLackBetween lists) (lacks_of lists.refused) pass.lacks
   -- The refusals but for want of memory are those of the pass, in their order, one each: what it refused for another reason is
   -- told so, and where memory is told the pass lacked it for a declaration, or the lane itself.
   pub reasons : reasons_of lists.refused ≡ pass.reasons
   -- the refusals for a full buffer are those that the pass shows, in their order, one each, and between the places
   pub fulls : fulls_of lists.refused ≡ pass.fulls
   pub accepted_between : (j k : ℕ) (r : Refused) (a : Accepted) → At lists.refused j r → At lists.accepted k a
-      → Each (λ full. InTurnWith full r.index a.index a.place (a.place + 1)) (full_in r.cause)
+      → Each (λ full. InTurnWith full.to r.index a.index a.place (a.place + 1)) (full_in r.cause)
   pub declared_between : (j k : ℕ) (r : Refused) (d : DeclaredAt) → At lists.refused j r → At lists.declared k d
-      → Each (λ full. InTurnWith full r.index d.index d.first (d.first + d.count)) (full_in r.cause)
+      → Each (λ full. InTurnWith full.to r.index d.index d.first (d.first + d.count)) (full_in r.cause)
   -- each of the first messages was recorded or refused, and no other
   pub handled_some : handled ≤ length (messages records)
   pub count : handled ≡ length lists.accepted + length lists.refused

@@ -16,15 +16,34 @@ pub record FullAt : Type 0 where
 abbrev pub filled : ℕ → ℕ → ℕ → FullAt
 filled held from to = record { from = from; to = to; held = held }
 
+-- a declaration that got an id: the id, its channel, and how many records had been accepted after it
+pub record NamedBy : Type 0 where
+  pub id : ℕ
+  pub content : ChannelDef
+  pub count : ℕ
+
+abbrev pub named_by : ℕ → ChannelDef → ℕ → NamedBy
+named_by id content count = record { id = id; content = content; count = count }
+
+-- a declaration that no id was left for: its channel, of what there were no ids, and how many records had been accepted
+-- before it
+pub record LackAt : Type 0 where
+  pub content : ChannelDef
+  pub cause : CallRefused
+  pub at : ℕ
+
+abbrev pub lack_at : ChannelDef → CallRefused → ℕ → LackAt
+lack_at content cause at = record { content = content; cause = cause; at = at }
+
 -- The records that the pass added, each with its place; the ids that its declarations got; where it was
 -- answered that the buffer is full; the declarations that no id was left for; the reasons of all refusals but want of memory,
 -- those for size also without a call; how the intake stood in its last call, before what that did; and how many bytes a buffer may
 -- hold before it is full.
 pub record PassState : Type 0 where
   pub own : List (ℕ × Rec)
-  pub named : List (ℕ × ChannelDef)
+  pub named : List NamedBy
   pub fulls : List FullAt
-  pub lacks : List (ChannelDef × CallRefused)
+  pub lacks : List LackAt
   pub reasons : List CallRefused
   pub found : Option Found
   pub limit : ℕ

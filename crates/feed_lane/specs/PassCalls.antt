@@ -14,7 +14,7 @@ use Rattle.record_core.specs.declared.answers.Found.{Found}
 use Rattle.record_core.specs.declared.answers.NewMessage.{NewMessage}
 use Rattle.record_core.specs.declared.answers.CallRefused.{CallRefused}
 use Rattle.record_core.specs.declared.answers.CallRefused.TheVariants as refusing
-use Rattle.feed_lane.specs.Pass.{FullAt, filled, PassState, with_places, full_at, AreAdded}
+use Rattle.feed_lane.specs.Pass.{FullAt, filled, named_by, lack_at, PassState, with_places, full_at, AreAdded}
 
 abbrev pub refused_full : FullAt → CallRefused
 refused_full full = refusing.Full full.held full.from full.to
@@ -36,7 +36,7 @@ pub record IsLater (before now : Found) : Type 0 where
 -- that the pass had.
 pub record Finds (before : PassState) (found : Found) : Type 0 where
   pub places : Each (λ pair. pair.0 < found.count) before.own
-  pub ids : Each (λ pair. (1 ≤ pair.0) × (pair.0 ≤ found.channels)) before.named
+  pub ids : Each (λ name. (1 ≤ name.id) × (name.id ≤ found.channels)) before.named
   pub later : (last : Found) → before.found ≡ Some last → IsLater last found
   pub within : found.taken ≤ found.count
 
@@ -114,11 +114,11 @@ PublishedBy before after m (Err refusing.Memory) = ⊥
 
 abbrev pub with_declared : PassState → Found → ChannelDef → ℕ → List Rec → PassState
 with_declared before found d channel records = record before
-    { own = before.own ++ with_places found.count records; named = before.named ++ (channel, d) ∷ []; found = Some found }
+    { own = before.own ++ with_places found.count records; named = before.named ++ named_by channel d (found.count + length records) ∷ []; found = Some found }
 
 abbrev pub with_lack : PassState → Found → ChannelDef → CallRefused → PassState
 with_lack before found d refusal = record before
-    { lacks = before.lacks ++ (d, refusal) ∷ []; reasons = before.reasons ++ refusal ∷ []; found = Some found }
+    { lacks = before.lacks ++ lack_at d refusal found.count ∷ []; reasons = before.reasons ++ refusal ∷ []; found = Some found }
 
 -- the records of a declaration are no longer than they may be
 abbrev pub IsNarrow : ChannelDef → Type 0
@@ -126,7 +126,7 @@ IsNarrow d = declared_size d ≤ declaration_limit
 
 -- the pass got no id for this content
 abbrev pub IsUnnamed : PassState → ChannelDef → Type 0
-IsUnnamed before d = Each (λ pair. pair.1 ≡ d → ⊥) before.named
+IsUnnamed before d = Each (λ name. name.content ≡ d → ⊥) before.named
 
 -- a channel whose content is new gets the next id, and its records have a place; ids were left
 pub record IsNextId (before : PassState) (found : Found) (channel : ℕ) (records : List Rec) : Type 0 where

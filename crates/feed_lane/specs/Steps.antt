@@ -25,7 +25,7 @@ use Rattle.feed_lane.specs.declared.report.FeedEnd.TheVariants as feed_ends
 use Rattle.feed_lane.specs.declared.lane.Lane.{Lane}
 use Rattle.feed_lane.specs.declared.lane.Over.{Over}
 use Rattle.feed_lane.specs.declared.lane.Over.TheVariants as overs
-use Rattle.feed_lane.specs.Pass.{FullAt, PassState, FoundAtLeast}
+use Rattle.feed_lane.specs.Pass.{FullAt, NamedBy, LackAt, PassState, FoundAtLeast}
 use Rattle.feed_lane.specs.Kept.{LaneIds}
 use Rattle.history_ids.specs.FeedContents.{KeptStands}
 use Rattle.feed_lane.specs.Sizes.{IsLength}
@@ -42,9 +42,9 @@ pub record Above (pass : PassState) (n : ℕ) : Type 0 where
 -- what the pass showed it shows still
 pub record Extends (before after : PassState) : Type 0 where
   pub own : (pair : ℕ × Rec) → Has before.own pair → Has after.own pair
-  pub named : (pair : ℕ × ChannelDef) → Has before.named pair → Has after.named pair
+  pub named : (name : NamedBy) → Has before.named name → Has after.named name
   pub fulls : (full : FullAt) → Has before.fulls full → Has after.fulls full
-  pub lacks : (pair : ChannelDef × CallRefused) → Has before.lacks pair → Has after.lacks pair
+  pub lacks : (lack : LackAt) → Has before.lacks lack → Has after.lacks lack
   pub limit : after.limit ≡ before.limit
   pub seen : (n : ℕ) → FoundAtLeast before n → FoundAtLeast after n
 
@@ -79,6 +79,7 @@ pub record ListsStand (records : List Top) (handled bound : ℕ) (ids : LaneIds)
   pub going : Each (λ r. goes_on r.cause ≡ true) lists.refused
   pub firsts : Each (λ d. FoundAtLeast pass d.first) lists.declared
   pub tos : Each (λ full. FoundAtLeast pass full.to) pass.fulls
+  pub ats : Each (λ lack. FoundAtLeast pass lack.at) pass.lacks
   pub is_open : IsOpen pass
   pub tried : Each (IsTried records lists.declared) lists.refused
 
@@ -108,13 +109,15 @@ pub record RefusalLeaves (records : List Top) (handled : ℕ) (before after : Pa
   pub own : after.own ≡ before.own
   pub named : after.named ≡ before.named
   pub fulls : after.fulls ≡ before.fulls ++ full_in cause
-  pub lacking : List (ChannelDef × CallRefused)
+  pub lacking : List LackAt
   pub lacks : after.lacks ≡ before.lacks ++ lacking
   pub are : InStep (IsLacking records) (lack_in handled cause) lacking
   pub reasons : after.reasons ≡ before.reasons ++ reason_in cause
   pub fits : CauseFits records (handled + 1) after handled cause
   pub above : Each (λ full. Above before full.to) (full_in cause)
   pub tos : Each (λ full. FoundAtLeast after full.to) (full_in cause)
+  pub lacking_above : Each (λ lack. Above before lack.at) lacking
+  pub ats : Each (λ lack. FoundAtLeast after lack.at) lacking
   pub is_open : goes_on cause ≡ true → IsOpen before → IsOpen after
 
 -- the lane stood before the call, with declarations up to the message at hand

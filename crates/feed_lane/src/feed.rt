@@ -105,7 +105,7 @@ pub fn publish_feed<S: Source, P: Pass>(
             FlatStep::End { offset: _ } => return lane.report(FeedEnd::Done),
             FlatStep::Refused => match flat.into_refusal() {
                 Some(why) => return lane.report(FeedEnd::Refused { why }),
-                None => return lane.report(over_end(Over::Memory)),
+                None => unreachable!(),
             },
         }
     }

@@ -1,9 +1,12 @@
 //! A lane at a message: its channel is declared where it wasn't, the message is published, and what became of both is listed.
 ghost use Rattle.std.specs.Prelude.{◌≡◌, ◌+◌, ◌<◌, ◌∷◌, ◌++◌, [], ℕ, List, length, vec_len, vec_capacity, ◌≤◌, true, IfOk, IfSome, OnOk};
 ghost use Rattle.mcap_wire.specs.Limits.{declaration_limit};
+ghost use Rattle.rec_data.specs.Records.{message_opcode};
 ghost use Rattle.mcap_model.specs.Places.{At};
 ghost use Rattle.mcap_model.specs.Tops.{Top};
 ghost use Rattle.mcap_model.specs.Fields.{IsMessage};
+ghost use Rattle.mcap_model.specs.Rules.{V6};
+ghost use Rattle.mcap_model.specs.Made.{top};
 ghost use Rattle.mcap_model.specs.Declarations.{TablesOf};
 ghost use Rattle.feed_lane.specs.Pass.{PassState};
 ghost use Rattle.feed_lane.specs.PassCalls.{no_calls, DeclaredInto};
@@ -328,7 +331,8 @@ impl Lane {
         content: &[u8],
         pass: &mut P,
     ) -> Result<(), Over>
-        requires { IsKnown (P.knows pass.old) self.old.ids.kept }
+        requires knows { IsKnown (P.knows pass.old) self.old.ids.kept }
+        requires v6 { V6 (top message_opcode content.now) }
         ensures knows { IsKnown (P.knows pass.new) self.new.ids.kept }
         ensures taken { (begun : P) (before : PassState) → P.since begun pass.old before
             → ThenShows (P.since begun pass.new) before (λ after. (records : List Top) (handled : ℕ)
@@ -343,7 +347,7 @@ impl Lane {
         }
         let message = match Message::parse(content) {
             Ok(message) => message,
-            Err(_) => return Ok(()),
+            Err(_) => unreachable!(),
         };
         match self.channel_of(alloc, tables, message.channel_id, pass) {
             Ok(id) => return self.publish(id, &message, pass),

@@ -1,6 +1,7 @@
 //! A lane at a record of a feed, of the top level or inside a chunk.
 ghost use Rattle.std.specs.Prelude.{◌≡◌, ◌∷◌, [], ℕ, List};
 ghost use Rattle.mcap_model.specs.Tops.{Top};
+ghost use Rattle.mcap_model.specs.Rules.{V6};
 ghost use Rattle.mcap_model.specs.Made.{top};
 ghost use Rattle.feed_lane.specs.Pass.{PassState};
 ghost use Rattle.feed_lane.specs.Kept.{IsKnown};
@@ -22,7 +23,8 @@ impl Lane {
         content: &[u8],
         pass: &mut P,
     ) -> Result<(), Over>
-        requires { IsKnown (P.knows pass.old) self.old.ids.kept }
+        requires knows { IsKnown (P.knows pass.old) self.old.ids.kept }
+        requires v6 { V6 (top op content.now) }
         ensures knows { IsKnown (P.knows pass.new) self.new.ids.kept }
         ensures taken { (begun : P) (before : PassState) → P.since begun pass.old before
             → ThenShows (P.since begun pass.new) before (λ after. (records more : List Top) (handled : ℕ)

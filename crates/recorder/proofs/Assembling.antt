@@ -46,9 +46,9 @@ same_last : (end last e : End) (p : PassState) (f : Found) → Unclosed p → p.
 same_last end last ends.Closed p f unclosed is stops ended same = absurd (unclosed f is ended)
 same_last end last (ends.Stopped stop) p f unclosed is stops ended same = sym (stops stop (sym same))
 
-shown_by : (history : List Rec) (end last : End) (p : PassState) (reasons : List CallRefused) → ShownTo history end p → Unclosed p → ((stop : Stop) → end ≡ ends.Stopped stop → last ≡ ends.Stopped stop)
-    → ShownBy history last (reasoned p reasons)
-shown_by history end last p reasons shown unclosed stops = record {
+shown_by : (history : List Rec) (swaps : List ℕ) (end last : End) (p : PassState) (reasons : List CallRefused) → ShownTo history swaps end p → Unclosed p → ((stop : Stop) → end ≡ ends.Stopped stop → last ≡ ends.Stopped stop)
+    → ShownBy history swaps last (reasoned p reasons)
+shown_by history swaps end last p reasons shown unclosed stops = record {
   own = shown.own;
   named = shown.named;
   fulls = shown.fulls;
@@ -91,13 +91,15 @@ assembled places_are_known limit feeds made known closed halt taken end last are
     let ends_so : (stop : Stop) → end ≡ ends.Stopped stop → last ≡ ends.Stopped stop = λ stop is. stops stop (met.stops stop is) in
     record {
       numbered = met.numbered;
+      swaps = met.swaps;
+      handed = met.handed;
       stand = λ k lane at.
           let (f, at_f, is) = at_map lane_of feeds k lane at in
           let (p, at_p) = partner known feeds k f (sym are.alike.0) at_f in
           let alike = are.alike.1 k f p at_f at_p in
-          subst (LanePartStands limit taken last) (sym is) (record {
+          subst (LanePartStands limit taken met.swaps last) (sym is) (record {
             fits = f.reports.fits;
-            shown = subst (ShownBy taken last) (sym alike) (shown_by taken end last p.pass f.pass.reasons (met.shown k p at_p) (are.unclosed k p at_p) ends_so);
+            shown = subst (ShownBy taken met.swaps last) (sym alike) (shown_by taken met.swaps end last p.pass f.pass.reasons (met.shown k p at_p) (are.unclosed k p at_p) ends_so);
             limit_is = are.limits k f at_f;
           });
       given = λ place less.

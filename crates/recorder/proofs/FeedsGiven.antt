@@ -159,11 +159,11 @@ feed_both one other k place f h at at_h same front given =
     let lists : reported h.feed ≡ reported f.feed = ap (λ (r : FeedReport). reported r) (sym same.feed) in
     let read = feed_read f.before f.now f.reports.tops f.feed.end same.bytes same.left f.reports.ends in
     let other_read = feed_read h.before h.now h.reports.tops h.feed.end same.bytes same.other_left h.reports.ends in
-    let stands : LanePartStands one.options.limit it.history one.report.writer.end (lane_of f) = it.assembled.stand k (lane_of f) (map_at lane_of it.feeds k f at) in
-    let other_stands : LanePartStands other.options.limit its.history other.report.writer.end (lane_of h) = its.assembled.stand k (lane_of h) (map_at lane_of its.feeds k h at_h) in
-    let says : Says (flat f.reports.tops) (reported f.feed) it.history = lane_says one.options.limit it.history one.report.writer.end (lane_of f) stands in
+    let stands : LanePartStands one.options.limit it.history it.assembled.swaps one.report.writer.end (lane_of f) = it.assembled.stand k (lane_of f) (map_at lane_of it.feeds k f at) in
+    let other_stands : LanePartStands other.options.limit its.history its.assembled.swaps other.report.writer.end (lane_of h) = its.assembled.stand k (lane_of h) (map_at lane_of its.feeds k h at_h) in
+    let says : Says (flat f.reports.tops) (reported f.feed) it.history = lane_says one.options.limit it.history it.assembled.swaps one.report.writer.end (lane_of f) stands in
     let other_says : Says (flat h.reports.tops) (reported f.feed) its.history =
-    subst (λ (l : ReportLists). Says (flat h.reports.tops) l its.history) lists (lane_says other.options.limit its.history other.report.writer.end (lane_of h) other_stands) in
+    subst (λ (l : ReportLists). Says (flat h.reports.tops) l its.history) lists (lane_says other.options.limit its.history its.assembled.swaps other.report.writer.end (lane_of h) other_stands) in
     let once : DeclaredOnce (flat f.reports.tops) (reported f.feed).declared = stands.fits.once in
     let other_once : DeclaredOnce (flat h.reports.tops) (reported f.feed).declared = subst (λ (l : ReportLists). DeclaredOnce (flat h.reports.tops) l.declared) lists other_stands.fits.once in
     elim (fronts same.bytes f.reports.tops h.reports.tops read other_read) [

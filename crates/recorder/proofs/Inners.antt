@@ -44,7 +44,7 @@ given_inner records lists history place r says (inr (d, (k, at), from, to)) ther
 pub assembled_inner : (limit : ℕ) (lanes : List LanePart) (history : List Rec) (end : End) → Assembled limit lanes history end → Each IsInner history
 assembled_inner limit lanes history end it n r at =
     let (k, lane, there, given) = it.given n (at_within history n r at) in
-    given_inner lane.records lane.lists history n r (lane_says limit history end lane (it.stand k lane there)) given at
+    given_inner lane.records lane.lists history n r (lane_says limit history it.swaps end lane (it.stand k lane there)) given at
 
 pub recorded_inner : (options : RecordOptions) (before now : Sides) (r : Report) → (it : Recorded options before now r) → Each IsInner it.history
 recorded_inner options before now r it = assembled_inner options.limit (map lane_of it.feeds) it.history r.writer.end it.assembled

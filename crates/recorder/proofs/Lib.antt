@@ -10,6 +10,7 @@ mod Filing
 pub mod FrontsTold
 mod Gathering
 pub mod Inners
+mod LackingIds
 pub mod OneHistory
 pub mod ReadBack
 mod ShortFiles

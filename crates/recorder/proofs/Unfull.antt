@@ -10,14 +10,14 @@ use Rattle.mcap_model.specs.History.{history_bytes}
 use Rattle.mcap_model.proofs.Places.{at_none}
 use Rattle.feed_lane.specs.declared.report.FeedReport.{FeedReport}
 use Rattle.record_core.specs.declared.answers.CallRefused.{CallRefused}
-use Rattle.feed_lane.specs.Pass.{FullAt}
+use Rattle.feed_lane.specs.Pass.{FullAt, filled}
 use Rattle.feed_lane.specs.Lanes.{CauseFits}
 use Rattle.buffer_swap.specs.Shown.{HeldThere}
 use Rattle.mcap_model.specs.declared.options.RecordOptions.{RecordOptions}
 use Rattle.recorder.specs.declared.report.Report.{Report}
 use Rattle.recorder.specs.Assembled.{LanePartStands}
 use Rattle.recorder.specs.Recorded.{FeedRecorded, lane_of, Sides, Recorded}
-use Rattle.recorder.specs.Laws.{RefusesNoneAsFull, FullBuffersAreNeeded, LosslessRefusesNoneAsFull}
+use Rattle.recorder.specs.Laws.{RefusesNoneAsFull, FullBuffersAreNeeded, FullBuffersWereFull, LosslessRefusesNoneAsFull}
 use Rattle.recorder.proofs.Assembling.{map_at, at_map}
 
 has_none : (full : FullAt) → Has [] full → ⊥
@@ -50,12 +50,22 @@ each_report options before now r it each k report at =
 pub full_buffers_are_needed : FullBuffersAreNeeded
 full_buffers_are_needed options before now r it less =
     each_report options before now r it (λ k f at. none_full f (λ full (n, there) over.
-    let stands : LanePartStands options.limit it.history r.writer.end (lane_of f) = it.assembled.stand k (lane_of f) (map_at lane_of it.feeds k f at) in
+    let stands : LanePartStands options.limit it.history it.assembled.swaps r.writer.end (lane_of f) = it.assembled.stand k (lane_of f) (map_at lane_of it.feeds k f at) in
     let limit : f.pass.limit ≡ options.limit = stands.limit_is in
-    let here : HeldThere it.history full = stands.shown.fulls n full there in
+    let here : HeldThere f.pass.limit it.history it.assembled.swaps full = stands.shown.fulls n full there in
     let held : full.held ≡ length (history_bytes (take (full.to - full.from) (drop full.from it.history))) = here.held in
     let within = bytes_within it.history full.from (full.to - full.from) in
     omega (arith, less, over, limit, held, within)))
+
+pub full_buffers_were_full : FullBuffersWereFull
+full_buffers_were_full limit lanes history end it k lane at = λ n r at_r held from to is.
+    let stands : LanePartStands limit history it.swaps end lane = it.stand k lane at in
+    let there = subst (λ (cause : CallRefused). CauseFits lane.records lane.handled lane.pass r.index cause) is (stands.fits.refuses n r at_r) in
+    let full = filled held from to in
+    let limit_is : lane.pass.limit ≡ limit = stands.limit_is in (
+      omega (arith, there.1, limit_is),
+      subst (λ (l : ℕ). HeldThere l history it.swaps full) limit_is (stands.shown.fulls there.0.0 full there.0.1),
+    )
 
 pub lossless_refuses_none_as_full : LosslessRefusesNoneAsFull
 lossless_refuses_none_as_full options before now r it lossless =

@@ -1,5 +1,5 @@
 -- Laws of recordings.
-use Rattle.std.specs.Prelude.{◌≡◌, ℕ, ◌<◌, List, [], length, filter, true, false, Some}
+use Rattle.std.specs.Prelude.{◌≡◌, ℕ, ◌<◌, ◌≤◌, List, [], length, filter, true, false, Some}
 use Rattle.std.specs.List.{AllZip}
 use Rattle.rec_data.specs.declared.owned.Rec.{Rec}
 use Rattle.mcap_io.specs.Outside.{SourceState}
@@ -21,6 +21,10 @@ use Rattle.mcap_model.specs.declared.options.RecordOptions.{RecordOptions}
 use Rattle.recorder.specs.declared.report.Report.{Report}
 use Rattle.recorder.specs.Assembled.{LanePart, Assembled}
 use Rattle.feed_lane.specs.declared.report.FeedReport.{FeedReport}
+use Rattle.feed_lane.specs.Pass.{LackAt, filled}
+use Rattle.feed_lane.specs.Lanes.{IsChannelOf, IsBetween, lacks_of}
+use Rattle.buffer_swap.specs.Shown.{IdsLackAt, HeldThere}
+use Rattle.record_core.specs.declared.answers.CallRefused.{CallRefused}
 use Rattle.record_core.specs.declared.answers.CallRefused.TheVariants as refusing
 use Rattle.recorder.specs.Recorded.{Sides, Recorded, AreReadable}
 
@@ -113,6 +117,30 @@ RefusesNoneAsFull f = Each (λ r. (held from to : ℕ) → r.cause ≡ refusing.
 abbrev pub FullBuffersAreNeeded : Type 0
 FullBuffersAreNeeded = (options : RecordOptions) (before now : Sides) (r : Report) (it : Recorded options before now r)
     → length (history_bytes it.history) < options.limit → Each RefusesNoneAsFull r.feeds.items
+
+-- Where it is, the buffer was full: it held the records of the history from where one was handed over last to where the
+-- message came. They have the bytes that are told, as many as the limit or more, and before its last call it was below that.
+abbrev pub BuffersWereFull : ℕ → List Rec → List ℕ → LanePart → Type 0
+BuffersWereFull limit history swaps lane = Each (λ r. (held from to : ℕ) → r.cause ≡ refusing.Full held from to
+    → (limit ≤ held) × HeldThere limit history swaps (filled held from to)) lane.lists.refused
+
+abbrev pub FullBuffersWereFull : Type 0
+FullBuffersWereFull = (limit : ℕ) (lanes : List LanePart) (history : List Rec) (end : End)
+    (it : Assembled limit lanes history end) → Each (BuffersWereFull limit history it.swaps) lanes
+
+-- No id was left for a message's channel when it came, at a place between those that its feed got for earlier messages and
+-- for later ones: all had been given before.
+pub record HadRunOut (history : List Rec) (lane : LanePart) (refusal : ℕ × CallRefused) : Type 0 where
+  pub lack : LackAt
+  pub cause : lack.cause ≡ refusal.1
+  pub channel : IsChannelOf lane.records refusal.0 lack.content
+  pub there : IdsLackAt history lack
+  pub between : IsBetween lane.lists refusal.0 lack.at
+
+-- So it is of each message that is refused for want of ids.
+abbrev pub IdsHadRunOut : Type 0
+IdsHadRunOut = (limit : ℕ) (lanes : List LanePart) (history : List Rec) (end : End) → Assembled limit lanes history end
+    → Each (λ lane. Each (HadRunOut history lane) (lacks_of lane.lists.refused)) lanes
 
 -- Where lanes wait for room, none is.
 abbrev pub LosslessRefusesNoneAsFull : Type 0

@@ -1,5 +1,5 @@
 //! Laws of recordings, each as the contract of a function that does nothing.
-ghost use Rattle.recorder.specs.Laws.{RecordingsAreReadBack, RecordingsAreValid, HistoriesAreGiven, RecordingsAreGiven, FullBuffersAreNeeded, LosslessRefusesNoneAsFull};
+ghost use Rattle.recorder.specs.Laws.{RecordingsAreReadBack, RecordingsAreValid, HistoriesAreGiven, RecordingsAreGiven, FullBuffersAreNeeded, FullBuffersWereFull, IdsHadRunOut, LosslessRefusesNoneAsFull};
 ghost use Rattle.recorder.specs.Entries.{RecordedEntriesFollow, FrontsAreTold, EntriesAreGathered};
 
 use mcap_io::Extent;
@@ -28,6 +28,16 @@ pub fn recordings_are_given()
 /// A message is refused for a full buffer only where what was recorded could fill one.
 pub fn full_buffers_are_needed()
     ensures { FullBuffersAreNeeded }
+{}
+
+/// A message is refused for a full buffer only where the buffer was full when it came.
+pub fn full_buffers_were_full()
+    ensures { FullBuffersWereFull }
+{}
+
+/// A message is refused for want of ids only where they had run out when it came.
+pub fn ids_had_run_out()
+    ensures { IdsHadRunOut }
 {}
 
 /// Where lanes wait for room, no message is refused for a full buffer.

@@ -12,5 +12,5 @@ returns-in-Message c = λ place.
     (subst (λ (s : Sums). AddsToSums (record { place = place; top = top 5 c.args.content.now } ∷ []) c.args.sums.now s) (sym c.add.ensures)
     (message_added place c.args.content.now c.args.sums.now (record { place = place; log_time = m.log_time; publish_time = m.publish_time; channel = m.channel_id; sequence = m.sequence; payload = m.payload.now }) refl c.in-Message.ensures.1))
 
-pub returns-in-Header : goal.returns-in-Header
-returns-in-Header c = λ place. other_kind (record { place = place; top = top c.args.op c.args.content.now }) c.args.sums.now (λ kind. search rules)
+pub returns-in_default : goal.returns-in_default
+returns-in_default c = λ place. other_kind (record { place = place; top = top c.args.op c.args.content.now }) c.args.sums.now (λ kind. search rules)

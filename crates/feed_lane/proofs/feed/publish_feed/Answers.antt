@@ -1,5 +1,7 @@
 use Rattle.std.proofs.Common.{◌∷◌, ◌++◌, [], ℕ, List, length, sym, ap, subst, ◌∙◌, arith, refl}
 use Rattle.mcap_model.specs.Tops.{Placed, flat}
+use Rattle.mcap_model.specs.Rules.{V6}
+use Rattle.mcap_model.specs.Made.{top}
 use Rattle.mcap_model.specs.Scan.{tops_of}
 use Rattle.mcap_scan.proofs.Scanning.{good_stand, lacks_behind}
 use Rattle.mcap_scan.proofs.Refused.{refusal_stands}
@@ -32,6 +34,12 @@ returns-in-Err-new-clause-reports g c = λ limit since. (
 pub records-init : goal.records-init
 records-init g c =
     (([], [], c.in-Ok.ensures _, λ limit since. (no_calls limit, since, refl, feeds_none c.in-Ok-new.lane (no_calls limit) (c.in-Ok-new.ensures.stands limit) c.in-Ok-new.ensures.passed)), g.S.Source.stays_so _, c.in-Ok-new.ensures.kept, unknown (g.P.Pass.knows c.args.pass.now) _ c.in-Ok-new.ensures.schema)
+
+pub take-requires-clause-v6 : goal.take-requires-clause-v6
+take-requires-clause-v6 g c =
+    let i = c.records.invariant in
+    let s = c.in-Record.ensures.steps (g.S.Source.state c.args.source.now) i.0.0 i.0.1 i.0.2 in
+    subst (λ (content : List ℕ). V6 (top c.in-Record.op content)) (sym c.content.ensures) s.v6
 
 pub records-preserved : goal.records-preserved
 records-preserved g c =

@@ -1,9 +1,13 @@
 use Rattle.std.proofs.Common.{ℕ, ◌∷◌, [], ap, subst}
+use Rattle.mcap_model.specs.Rules.{V6}
 use Rattle.mcap_model.specs.Made.{top}
 use Rattle.feed_lane.specs.Steps.{MessagesWait, passed_among}
 use Rattle.feed_lane.proofs.Walking.{waits_at}
 use Rattle.feed_lane.proofs.Feeding.{message_record, counted_none}
 use Rattle.feed_lane.proofs.lane.Lane.take.Goals as goal
+
+pub take_message-requires-clause-v6 : goal.take_message-requires-clause-v6
+take_message-requires-clause-v6 g c = subst (λ (n : ℕ). V6 (top n c.args.content.now)) c.in-5.is c.requires.v6
 
 pub returns-in-5-clause-taken : goal.returns-in-5-clause-taken
 returns-in-5-clause-taken g c = λ begun before since.

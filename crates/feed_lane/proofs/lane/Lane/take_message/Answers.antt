@@ -4,7 +4,7 @@ use Rattle.mcap_model.specs.Fields.{IsMessage}
 use Rattle.mcap_model.proofs.Places.{at_within}
 use Rattle.feed_lane.specs.Lanes.{messages}
 use Rattle.feed_lane.specs.Steps.{lists_of, fields_of}
-use Rattle.feed_lane.proofs.AtHand.{message_at, is_on, roomed}
+use Rattle.feed_lane.proofs.AtHand.{is_on, roomed}
 use Rattle.feed_lane.proofs.lane.Lane.take_message.Goals as goal
 
 pub returns-in-Err-clause-taken : goal.returns-in-Err-clause-taken
@@ -21,15 +21,8 @@ returns-in-Err-clause-taken g c = λ begun before since. (
       ),
 )
 
-pub returns-in-Err-parse-clause-taken : goal.returns-in-Err-parse-clause-taken
-returns-in-Err-parse-clause-taken g c = λ begun before since. (
-  before,
-  since,
-  refl,
-  λ records handled stands known at.
-      let m = message_at records handled c.args.content.now known.layouts at in
-      absurd (c.in-Err-parse.ensures.none m.0 m.1 m.2.layout),
-)
+pub unreachable-requires : goal.unreachable-requires
+unreachable-requires g c = let (channel, m, is) = c.requires.v6.message refl in c.in-Err-parse.ensures.none channel m is.layout
 
 pub returns-in-Ok-channel_of-clause-taken : goal.returns-in-Ok-channel_of-clause-taken
 returns-in-Ok-channel_of-clause-taken g c = λ begun before since.
