@@ -1,14 +1,13 @@
 mod Halts
 mod Statuses
 pub mod Whole
-mod Held
+pub mod Held
 mod Flags
 mod Parts
 mod Sources
 mod KeptSinks
 mod Beside
 mod WatchEnds
-mod Alone
 mod WatchedRuns
 pub mod Runs
 mod Lines

@@ -28,8 +28,8 @@ use Rattle.command_base.proofs.EndingStatuses.{status_where, due_status, besides
 use Rattle.command_record.specs.Record.{reports_in, report_lack, fails_in, ending_of_recording}
 use Rattle.command_record.specs.Sinks.{SinkKept, sink_names, back_sinks}
 use Rattle.command_record.specs.Watched.{requested, watch_flags}
-use Rattle.command_record.specs.WatchedAnswer.{watched_counts_in, AnyCountRose, AllCountsOn, is_memory_watch, Blamed, LackIsToldBeside, Records}
-use Rattle.command_record.specs.Unwatched.{IsUnwatched, UnwatchedRecordings}
+use Rattle.command_record.specs.WatchedAnswer.{watched_counts_in, AnyCountRose, AllCountsOn, is_memory_watch, Blamed, LackIsToldBeside, RecordsSo}
+use Rattle.command_record.specs.Unwatched.{IsUnwatchedRecording, UnwatchedRecordings}
 use Rattle.command_record.proofs.Halts.{ends_long, ends_halt}
 use Rattle.command_record.proofs.Flags.{any_flag, or_first, or_second}
 
@@ -150,7 +150,7 @@ fails_some (Some r) some is = absurd cc
 
 -- ---- the whole
 
-module _ (options : RecordOptions) (range : Range) (out : List ℕ) (feeds : List (List ℕ)) (old new : Scene) (report : Option Report) (status : Status) (it : Records (requested options range out [] feeds) old new report status) where
+module _ (options : RecordOptions) (range : Range) (out : List ℕ) (feeds : List (List ℕ)) (old new : Scene) (report : Option Report) (sealed : Bool) (reports : List WatchReport) (status : Status) (it : RecordsSo (requested options range out [] feeds) old new report sealed reports status) where
   abbrev b : Blamed
   b = it.blamed
 
@@ -196,12 +196,12 @@ module _ (options : RecordOptions) (range : Range) (out : List ℕ) (feeds : Lis
 
   lacks_in : (there : Option Report) → report ≡ there → it.lacked ≡ report_lack there some
   lacks_in None is =
-      let told : (AnyCountRose (watched_counts_in [] old) (watched_counts_in [] new) → ⊥) ↔ (it.lacked ≡ true) = subst (λ (x : Option Report). LackIsToldBeside (watched_counts_in [] old) (watched_counts_in [] new) x it.sealed it.reports it.lacked) is it.lacks in
+      let told : (AnyCountRose (watched_counts_in [] old) (watched_counts_in [] new) → ⊥) ↔ (it.lacked ≡ true) = subst (λ (x : Option Report). LackIsToldBeside (watched_counts_in [] old) (watched_counts_in [] new) x sealed reports it.lacked) is it.lacks in
       not_some some it.lacked (λ on lacks. told.1 lacks (inl (some_rose.0 on))) (λ off. told.0 (λ risen. off (some_rose.1 (rose_alone risen))))
   lacks_in (Some r) is =
-      let told = subst (λ (x : Option Report). LackIsToldBeside (watched_counts_in [] old) (watched_counts_in [] new) x it.sealed it.reports it.lacked) is it.lacks in
-      let none : it.reports ≡ [] = (it.reported r is).reports_are ∙ ap (map (λ (w : Watch). w.report)) (seen_are r is) in
-      told ∙ or_nothing (lacks_memory r) it.sealed _ ((it.reported r is).unwatched refl) (ap (list_any (λ (w : WatchReport). is_memory_watch w.end)) none)
+      let told = subst (λ (x : Option Report). LackIsToldBeside (watched_counts_in [] old) (watched_counts_in [] new) x sealed reports it.lacked) is it.lacks in
+      let none : reports ≡ [] = (it.reported r is).reports_are ∙ ap (map (λ (w : Watch). w.report)) (seen_are r is) in
+      told ∙ or_nothing (lacks_memory r) sealed _ ((it.reported r is).unwatched refl) (ap (list_any (λ (w : WatchReport). is_memory_watch w.end)) none)
 
   lacked_is : it.lacked ≡ report_lack report some
   lacked_is = lacks_in report refl
@@ -246,7 +246,7 @@ module _ (options : RecordOptions) (range : Range) (out : List ℕ) (feeds : Lis
   unnamed none =
       let (first, second, third) = none_of (some_failed b.feeds) b.out it.printing none in
       let on = counts_on (λ risen. both_ways some none (some_rose.1 risen)) in
-      let sinks : it.exact.sinks ≡ [] = flags_none it.exact.sinks it.reports (sym (it.exact.watches_are on) ∙ none_long b.watches it.exact.few_watches) in
+      let sinks : it.exact.sinks ≡ [] = flags_none it.exact.sinks reports (sym (it.exact.watches_are on) ∙ none_long b.watches it.exact.few_watches) in
       let parts : it.entries ≡ it.exact.inputs ++ it.exact.outputs = it.exact.parts ∙ ap (λ (l : List Opening). it.exact.inputs ++ (it.exact.outputs ++ l)) sinks ∙ ap (λ (l : List Opening). it.exact.inputs ++ l) (append-nil it.exact.outputs) in
       let inputs = sym (any_flag it.exact.inputs) ∙ ap some_failed (sym (it.exact.feeds_are on)) ∙ first in
       let outputs = sym (it.exact.out_is on) ∙ second in
@@ -291,7 +291,7 @@ module _ (options : RecordOptions) (range : Range) (out : List ℕ) (feeds : Lis
   alone_named : CountsOn old.world → blamed_names (inputs_and_output kinds.Source feeds out) (failed_of b.feeds b.out) ≡ failed_names it.entries
   alone_named seen =
       let on : AllCountsOn [] old.world = record { seen = seen; watching = omega arith } in
-      let sinks : it.exact.sinks ≡ [] = flags_none it.exact.sinks it.reports (sym (it.exact.watches_are on) ∙ none_long b.watches it.exact.few_watches) in
+      let sinks : it.exact.sinks ≡ [] = flags_none it.exact.sinks reports (sym (it.exact.watches_are on) ∙ none_long b.watches it.exact.few_watches) in
       let parts : it.entries ≡ it.exact.inputs ++ it.exact.outputs = it.exact.parts ∙ ap (λ (l : List Opening). it.exact.inputs ++ (it.exact.outputs ++ l)) sinks ∙ ap (λ (l : List Opening). it.exact.inputs ++ l) (append-nil it.exact.outputs) in
       sym (it.exact.named on) ∙ sym (ap failed_names parts)
 
@@ -351,7 +351,7 @@ module _ (options : RecordOptions) (range : Range) (out : List ℕ) (feeds : Lis
     };
   }
 
-  alone : IsUnwatched options range out feeds old new it
+  alone : IsUnwatchedRecording options range out feeds old new it
   unfolding writes
   alone = record {
     wrote = writes;
@@ -362,4 +362,4 @@ module _ (options : RecordOptions) (range : Range) (out : List ℕ) (feeds : Lis
   }
 
 pub unwatched_recordings : UnwatchedRecordings
-unwatched_recordings options range out feeds old new report status it = alone options range out feeds old new report status it
+unwatched_recordings options range out feeds old new report sealed reports status it = alone options range out feeds old new report sealed reports status it

@@ -4,7 +4,7 @@ use Rattle.std.specs.List.{list_any, sum, concat}
 use Rattle.std.proofs.Math.Seq.{drop-length}
 use Rattle.std.proofs.lemmas.Bool.{both_ways}
 use Rattle.std.proofs.lemmas.List.{append-nil}
-use Rattle.std.proofs.lemmas.Option.{same_Some}
+use Rattle.std.proofs.lemmas.Option.{same_Some, none-some}
 use Rattle.mcap_io.specs.Outside.{RisesOnce, SinkState, LiveState, Opening}
 use Rattle.mcap_io.specs.declared.outside.ObjectKind.{ObjectKind}
 use Rattle.mcap_io.specs.declared.outside.ObjectKind.TheVariants as kinds
@@ -20,7 +20,8 @@ use Rattle.live_watcher.specs.declared.report.WatchEnd.{WatchEnd}
 use Rattle.live_watcher.specs.declared.report.WatchEnd.TheVariants as watch_ends
 use Rattle.live_watcher.specs.Text.{SealState, sealed_by, unsealed}
 use Rattle.live_watcher.specs.Watching.{unwritten, written_by, IsQuiet, IsUntold, WritesTo}
-use Rattle.live_recording.specs.Watched.{Watch, WatchTells, AsksView, AsksViews}
+use Rattle.live_recording.specs.Watched.{Watch, AsksView, AsksViews}
+use Rattle.live_recording.specs.WatchedSteps.{seal_by, seal_of, WatchTells}
 use Rattle.command_base.specs.Ran.{has_failed, object_faults, world_faults}
 use Rattle.command_base.specs.Outputs.{some_failed}
 use Rattle.command_record.specs.Sinks.{SinkKept, sink_entry, back_sinks, sink_faults, watch_faults}
@@ -164,7 +165,7 @@ calm_view w A calm some = absurd (omega (arith, some, ap faults_in calm.0))
 
 view_end : (live viewed : LiveState) (sealed : Bool) (w : Watch) (e : WatchEnd) → EndsSo live viewed sealed w e → 1 ≤ faults_in w.view → is_watch_fault e ≡ true
 view_end live viewed sealed w (watch_ends.Fault n) ends some = refl
-view_end live viewed sealed w watch_ends.Whole ends some = calm_view w _ ends some
+view_end live viewed sealed w watch_ends.Whole ends some = calm_view w _ ends.0 some
 view_end live viewed sealed w watch_ends.Unsealed ends some = calm_view w _ ends.0 some
 view_end live viewed sealed w (watch_ends.Flaw rule offset) ends some = calm_view w _ ends some
 view_end live viewed sealed w watch_ends.Memory ends some = calm_view w _ ends some
@@ -223,6 +224,14 @@ asked_for before (x ∷ ws) now (mid, held, waits, asks, more) (suc n) w at =
 
 -- ---- the end of one watcher
 
+not_true : (b : Bool) → (b ≡ true → ⊥) → b ≡ false
+not_true true other = absurd (other refl)
+not_true false other = refl
+
+not_false : (b : Bool) → (b ≡ false → ⊥) → b ≡ true
+not_false true other = refl
+not_false false other = absurd (other refl)
+
 abbrev some_count : ℕ → Option ℕ
 some_count n = Some n
 
@@ -230,32 +239,34 @@ module _ {X : Type 0} (tells : X → Option (List ℕ)) (range : Range) (live vi
   calm_so : (failures : ℕ) → w.view ≡ Some failures → IsQuiet (unwritten w.before 0) (written_by w.now failures w.report) → IsCalm w
   calm_so failures view quiet = (view ∙ ap some_count quiet.view, quiet.sink)
 
-  wrote_so : (failures : ℕ) (entries : List (Entry X)) (ending : SealState) (e : WatchEnd) → w.view ≡ Some failures → (ending ≡ unsealed → sealed ≡ false)
+  wrote_so : (failures : ℕ) (entries : List (Entry X)) (ending : SealState) (e : WatchEnd) → w.view ≡ Some failures → (ending ≡ unsealed → sealed ≡ false) → ((end : End) → ending ≡ sealed_by end → sealed ≡ true)
       → WritesTo tells range entries ending (unwritten w.before 0) (written_by w.now failures w.report) (Some e) → EndsSo live viewed sealed w e
-  wrote_so failures entries ending watch_ends.Whole view closed wrote = calm_so failures view wrote.0
-  wrote_so failures entries ending watch_ends.Unsealed view closed wrote = (calm_so failures view wrote.0, closed wrote.1)
-  wrote_so failures entries ending (watch_ends.Fault n) view closed wrote = elim wrote.0 [
-    | inl (rises, is, still) ↦ inl (rises, is, view ∙ ap some_count still)
-    | inr (rises, is, same) ↦ inr (inl (subst (RisesOnce 0) (sym is) rises, view ∙ ap some_count (sym is), same))
-  ]
-  wrote_so failures entries ending (watch_ends.Flaw rule offset) view closed wrote = calm_so failures view wrote.0
-  wrote_so failures entries ending watch_ends.Memory view closed wrote = calm_so failures view wrote.0
+  wrote_so failures entries ending watch_ends.Whole view closed told wrote = (calm_so failures view wrote.0, told wrote.1.0 wrote.1.1)
+  wrote_so failures entries ending watch_ends.Unsealed view closed told wrote = (calm_so failures view wrote.0, closed wrote.1)
+  wrote_so failures entries ending (watch_ends.Fault n) view closed told (inl ((rises, is, still), part)) = inl (rises, is, view ∙ ap some_count still)
+  wrote_so failures entries ending (watch_ends.Fault n) view closed told (inr ((rises, is, same), fronts)) = inr (inl (subst (RisesOnce 0) (sym is) rises, view ∙ ap some_count (sym is), same))
+  wrote_so failures entries ending (watch_ends.Flaw rule offset) view closed told wrote = calm_so failures view wrote.0
+  wrote_so failures entries ending watch_ends.Memory view closed told wrote = calm_so failures view wrote.0
 
-  apart_so : (end : End) → sealed_by end ≡ unsealed → sealed ≡ false
-  apart_so end is = absurd (let same = is in cc)
+  -- how the directory is seen to end is what the recording tells
+  unclosed_so : (o : Option End) → (sealed ≡ true → (end : End) × (o ≡ Some end)) → seal_by o ≡ unsealed → sealed ≡ false
+  unclosed_so None some is = not_true sealed (λ yes. none-some (some yes).0 (some yes).1)
+  unclosed_so (Some end) some is = absurd (cc is)
 
-  ended_of : (seal : Option (List (Added X))) (end : End) (view : Option ℕ) → w.view ≡ view → ((told : List (Added X)) → seal ≡ Some told → end_of told ≡ Some end) → (seal ≡ None → sealed ≡ false)
-      → (from to : LiveState) → live.faults ≤ from.faults → to.faults ≤ viewed.faults → AsksView from to view w.report → WatchTells tells range seal w.before w.now view w.report → EndsSo live viewed sealed w w.report.end
-  ended_of seal end None is ends unclosed from to first last asks tells_so =
+  closed_so : (o : Option End) (end : End) → (sealed ≡ false → o ≡ None) → seal_by o ≡ sealed_by end → sealed ≡ true
+  closed_so None end none is = absurd (cc is)
+  closed_so (Some other) end none is = not_false sealed (λ no. none-some other (sym (none no)))
+
+  ended_of : (note : List (Added X)) (view : Option ℕ) → w.view ≡ view → (sealed ≡ true → (end : End) × (end_of note ≡ Some end)) → (sealed ≡ false → end_of note ≡ None)
+      → (from to : LiveState) → live.faults ≤ from.faults → to.faults ≤ viewed.faults → AsksView from to view w.report → WatchTells tells range note w.before w.now view w.report → EndsSo live viewed sealed w w.report.end
+  ended_of note None is some none from to first last asks tells_so =
       subst (EndsSo live viewed sealed w) (sym asks.1.end_is) (inr (inr (is, tells_so, omega (arith, first, asks.0.once), last)))
-  ended_of (Some told) end (Some failures) is ends unclosed from to first last asks tells_so =
-      wrote_so failures (entries_of told) (sealed_by end) w.report.end is (apart_so end) (tells_so end (ends told refl))
-  ended_of None end (Some failures) is ends unclosed from to first last asks (reader, tells_so) =
-      wrote_so failures reader.entries tells_so.ending w.report.end is (λ closed. unclosed refl) tells_so.watches
+  ended_of note (Some failures) is some none from to first last asks tells_so =
+      wrote_so failures (entries_of note) (seal_of note) w.report.end is (unclosed_so (end_of note) some) (λ end. closed_so (end_of note) end none) tells_so
 
-  pub ended : (seal : Option (List (Added X))) (end : End) → ((told : List (Added X)) → seal ≡ Some told → end_of told ≡ Some end) → (seal ≡ None → sealed ≡ false) → AskedFor live viewed w
-      → WatchTells tells range seal w.before w.now w.view w.report → EndsSo live viewed sealed w w.report.end
-  ended seal end ends unclosed (from, to, first, last, asks) tells_so = ended_of seal end w.view refl ends unclosed from to first last asks tells_so
+  pub ended : (note : List (Added X)) → (sealed ≡ true → (end : End) × (end_of note ≡ Some end)) → (sealed ≡ false → end_of note ≡ None) → AskedFor live viewed w
+      → WatchTells tells range note w.before w.now w.view w.report → EndsSo live viewed sealed w w.report.end
+  ended note some none (from, to, first, last, asks) tells_so = ended_of note w.view refl some none from to first last asks tells_so
 
   -- ---- no flaw where the extents tell
 
@@ -267,11 +278,11 @@ module _ {X : Type 0} (tells : X → Option (List ℕ)) (range : Range) (live vi
   unflawed_so failures entries ending (watch_ends.Flaw rule offset) told wrote = absurd (told wrote.1)
   unflawed_so failures entries ending watch_ends.Memory told wrote = refl
 
-  unflawed_of : (note : List (Added X)) (end : End) (view : Option ℕ) → end_of note ≡ Some end → (IsUntold tells (entries_of note) → ⊥)
-      → (from to : LiveState) → AsksView from to view w.report → WatchTells tells range (Some note) w.before w.now view w.report → is_flaw w.report.end ≡ false
-  unflawed_of note end None ends told from to asks tells_so = ap is_flaw asks.1.end_is
-  unflawed_of note end (Some failures) ends told from to asks tells_so = unflawed_so failures (entries_of note) (sealed_by end) w.report.end told (tells_so end ends)
+  unflawed_of : (note : List (Added X)) (view : Option ℕ) → (IsUntold tells (entries_of note) → ⊥)
+      → (from to : LiveState) → AsksView from to view w.report → WatchTells tells range note w.before w.now view w.report → is_flaw w.report.end ≡ false
+  unflawed_of note None told from to asks tells_so = ap is_flaw asks.1.end_is
+  unflawed_of note (Some failures) told from to asks tells_so = unflawed_so failures (entries_of note) (seal_of note) w.report.end told tells_so
 
-  pub unflawed : (note : List (Added X)) (end : End) → end_of note ≡ Some end → (IsUntold tells (entries_of note) → ⊥) → AskedFor live viewed w
-      → WatchTells tells range (Some note) w.before w.now w.view w.report → is_flaw w.report.end ≡ false
-  unflawed note end ends told (from, to, first, last, asks) tells_so = unflawed_of note end w.view ends told from to asks tells_so
+  pub unflawed : (note : List (Added X)) → (IsUntold tells (entries_of note) → ⊥) → AskedFor live viewed w
+      → WatchTells tells range note w.before w.now w.view w.report → is_flaw w.report.end ≡ false
+  unflawed note told (from, to, first, last, asks) tells_so = unflawed_of note w.view told from to asks tells_so

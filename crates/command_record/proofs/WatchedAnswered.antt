@@ -2,6 +2,7 @@
 use Rattle.std.proofs.Common.{◌≡◌, ◌⊎◌, ℕ, ◌^◌, ◌<◌, ◌≤◌, suc, length, Bool, true, false, cond, ◌||◌, not, map, List, [], ◌∷◌, Option, Some, None, refl, sym, ap, subst, inl, inr, ◌∙◌, arith}
 use Rattle.std.specs.List.{list_any, AllZip}
 use Rattle.std.proofs.lemmas.Bool.{both_ways, false_from_ne_true}
+use Rattle.std.proofs.lemmas.Option.{same_Some, none-some}
 use Rattle.std.proofs.lemmas.List.{length-map}
 use Rattle.mcap_io.specs.Outside.{Rose, WorldState, SinkState, Told, Opening, added}
 use Rattle.mcap_model.specs.declared.replay.Range.{Range}
@@ -10,6 +11,9 @@ use Rattle.mcap_model.proofs.Places.{at_within}
 use Rattle.mcap_model.specs.Kept.{Halt}
 use Rattle.mcap_model.specs.declared.options.RecordOptions.{RecordOptions}
 use Rattle.recorder.specs.declared.report.Report.{Report}
+use Rattle.recorder.specs.Lanes.{AreMessagesListed}
+use Rattle.feed_lane.specs.declared.report.FeedReport.{FeedReport}
+use Rattle.feed_lane.specs.Steps.{ListsMessages}
 use Rattle.live_watcher.specs.declared.report.WatchEnd.{WatchEnd}
 use Rattle.live_watcher.specs.declared.report.WatchEnd.TheVariants as watch_ends
 use Rattle.live_watcher.specs.declared.report.WatchReport.{WatchReport}
@@ -18,7 +22,9 @@ use Rattle.command_base.specs.Printing.{Takes}
 use Rattle.command_base.specs.declared.statuses.Status.{Status}
 use Rattle.command_base.specs.declared.statuses.Status.TheVariants as statuses
 use Rattle.command_base.specs.Texts.{halt_status}
-use Rattle.command_base.specs.Ran.{Scene, has_failed, blamed_names, input_faults, output_faults}
+use Rattle.command_base.specs.Ran.{Scene, Complains, has_failed, blamed_names, input_faults, output_faults}
+use Rattle.command_record.specs.declared.recording.RecordingReport.{RecordingReport}
+use Rattle.command_record.specs.RecordSteps.{AreListed, IsReportOf}
 use Rattle.command_record.specs.declared.watched_names.WatchedOutcome.{WatchedOutcome}
 use Rattle.command_record.specs.declared.watched_answer.WatchedCounts.{WatchedCounts}
 use Rattle.command_record.specs.declared.watched_answer.WatchedFailures.{WatchedFailures}
@@ -28,9 +34,9 @@ use Rattle.mcap_io.specs.declared.outside.ObjectKind.TheVariants as kinds
 use Rattle.command_base.specs.Outputs.{inputs_and_output, failed_of, some_failed}
 use Rattle.command_base.specs.OutputSteps.{flags_of}
 use Rattle.command_record.specs.Sinks.{SinkKept, sink_entry}
-use Rattle.command_record.specs.Watched.{named, requested, reported_with, CountsBeside, ReportedBeside, is_watch_fault, is_flaw}
+use Rattle.command_record.specs.Watched.{Requested, named, requested, reported_with, CountsBeside, ReportedBeside, is_watch_fault, is_flaw}
 use Rattle.command_record.specs.WatchedSteps.{NamesWatched, some_flaw, watch_flags_of, blamed_in, AnyPartFailed, WatchedPartsShow, LacksMemoryBeside, AnswersBeside}
-use Rattle.command_record.specs.WatchedAnswer.{watched_counts_in, AnyCountRose, is_memory_watch, lacks_beside, LackIsToldBeside, BlamesExactly, ends_status_beside, EndsBeside, RecordsAllBeside, Records}
+use Rattle.command_record.specs.WatchedAnswer.{watched_counts_in, AnyCountRose, is_memory_watch, lacks_beside, LackIsToldBeside, BlamesExactly, ends_status_beside, EndsBeside, watched_troubles, RecordsAllBeside, RecordsSo, Records}
 use Rattle.command_record.proofs.Runs.{input_faults-append, output_faults-append}
 use Rattle.command_base.proofs.BlamedNames.{flags_long}
 use Rattle.command_record.proofs.Flags.{every_caused}
@@ -229,7 +235,7 @@ module _ (options : RecordOptions) (range : Range) (out : List ℕ) (watches fee
         let lacking_here : lacked ≡ lacks_beside r outcome.sealed outcome.watches.items = subst (λ (x : Option Report). LackIsToldBeside before after x outcome.sealed outcome.watches.items lacked) is lacking in
         let none = none_lacks (lacks_memory r) outcome.sealed _ (sym lacking_here ∙ enough) in
         let it = made.reported r (here ∙ is) in
-        let unflawed : some_flaw outcome.watches.items ≡ false = ap some_flaw it.reports_are ∙ none_flaws it.seen (it.unflawed told there none.1.0) in
+        let unflawed : some_flaw outcome.watches.items ≡ false = ap some_flaw it.reports_are ∙ none_flaws it.seen (it.unflawed told there) in
         let ends = ends_decided options feeds old.world new.world r (read_in options range out watches feeds old.world new.world outcome made inputs_fit outputs_fit r (here ∙ is)) inputs_fit outputs_fit
         (λ rose. quiet (inl (inr (inl rose)))) (λ rose. quiet (inl (inr (inr (inl rose))))) none.0 within told halts there all in
         unlimited (passes_limit r) (ends_status_beside r.feeds.items outcome.watches.items) answer (came.calm enough quiet r is) within
@@ -309,7 +315,7 @@ blames options range out watches feeds old new outcome failed made shows showing
 -- all that the program promises of a recording with watchers
 pub watched_recorded : (options : RecordOptions) (range : Range) (out : List ℕ) (watches feeds : List (List ℕ)) (old new : Scene) (outcome : WatchedOutcome) (failed : WatchedFailures) (answer : Status) → 1 ≤ length feeds
     → old.world.input_faults < 2 ^ 64 → old.world.output_faults < 2 ^ 64 → NamesWatched (requested options range out watches feeds) old.world new.world outcome → ShowingBeside watches old.world new.world outcome → Takes old.out new.out (report_text outcome.report)
-    → AnswersBeside (named out watches feeds) outcome failed old.err new.err answer → WatchedPartsShow (watched_counts_in watches old) (watched_counts_in watches new) watches feeds outcome failed → Records (requested options range out watches feeds) old new outcome.report answer
+    → AnswersBeside (named out watches feeds) outcome failed old.err new.err answer → WatchedPartsShow (watched_counts_in watches old) (watched_counts_in watches new) watches feeds outcome failed → RecordsSo (requested options range out watches feeds) old new outcome.report outcome.sealed outcome.watches.items answer
 watched_recorded options range out watches feeds old new outcome failed answer many inputs_fit outputs_fit made showing prints a shows =
     let before = watched_counts_in watches old in
     let now = watched_counts_in watches new in
@@ -325,8 +331,6 @@ watched_recorded options range out watches feeds old new outcome failed answer m
       leaves = made.leaves;
       failures = made.failures;
       counts = made.counts;
-      sealed = outcome.sealed;
-      reports = outcome.watches.items;
       reported = made.reported;
       unreported = made.unreported;
       none = made.none;
@@ -355,3 +359,48 @@ watched_counts_same P b before n now same same_now holds = subst (λ (x : Watche
 
 pub some_counted : (b before n now : WatchedCounts) (watches : List (List ℕ)) → b ≡ before → n ≡ now → (Rose before.watches now.watches → 1 ≤ length watches) → Rose b.watches n.watches → 1 ≤ length watches
 some_counted b before n now watches same same_now some = watched_counts_same (λ (x y : WatchedCounts). Rose x.watches y.watches → 1 ≤ length watches) b before n now same same_now some
+
+-- without a report there are none on watchers, and nothing is said of whether these were told of the end
+unreported_so : (request : Requested) (old new : Scene) (sealed : Bool) (reports : List WatchReport) (status : Status) → RecordsSo request old new None sealed reports status → RecordsSo request old new None true [] status
+unreported_so request old new sealed reports status it =
+    let none : reports ≡ [] = it.none refl in
+    record {
+      entries = it.entries;
+      opened = it.opened;
+      leaves = it.leaves;
+      failures = it.failures;
+      counts = it.counts;
+      reported = λ r is. absurd (none-some r is);
+      unreported = it.unreported;
+      none = λ is. refl;
+      spares = it.spares;
+      lacked = it.lacked;
+      lacks = it.lacks;
+      printed = it.printed;
+      blamed = it.blamed;
+      exact = subst (λ (l : List WatchReport). BlamesExactly old.world request.names it.entries l it.blamed) none it.exact;
+      causes = it.causes;
+      printing = it.printing;
+      blames_output = it.blames_output;
+      said = subst (λ (l : List WatchReport). Complains (watched_troubles request.names None l it.lacked it.blamed it.printing) old.err new.err status) none it.said;
+      ended = subst (λ (l : List WatchReport). EndsBeside (watched_counts_in request.names.watches old) (watched_counts_in request.names.watches new) None l it.lacked status) none it.ended;
+      decided = it.decided;
+      whole = λ is. let all = it.whole is in absurd (none-some all.0 all.1);
+    }
+
+-- what a recording answers has all of these
+pub with_report : (request : Requested) (old new : Scene) (recorded : Option Report) (sealed : Bool) (watchers : List WatchReport) (report : Option RecordingReport) (status : Status)
+    → IsReportOf recorded sealed watchers report → RecordsSo request old new recorded sealed watchers status → Records request old new report status
+with_report request old new None sealed watchers report status is it =
+    subst (λ (r : Option RecordingReport). Records request old new r status) (sym is) (unreported_so request old new sealed watchers status it)
+with_report request old new (Some r) sealed watchers report status (all, is, recorded, told, ends) it =
+    subst (λ (x : Option RecordingReport). Records request old new x status) (sym is)
+    (subst (λ (x : Report). RecordsSo request old new (Some x) all.sealed all.watchers.items status) (sym recorded)
+    (subst (λ (b : Bool). RecordsSo request old new (Some r) b all.watchers.items status) (sym told)
+    (subst (λ (l : List WatchReport). RecordsSo request old new (Some r) sealed l status) (sym ends) it)))
+
+pub listed_so : (listed : Bool) (recorded : Option Report) (sealed : Bool) (watchers : List WatchReport) (report : Option RecordingReport) → IsReportOf recorded sealed watchers report → AreMessagesListed recorded listed → AreListed report listed
+listed_so listed None sealed watchers report is lists r here = absurd (none-some r (sym is ∙ here))
+listed_so listed (Some recorded) sealed watchers report (all, is, same, told, ends) lists r here =
+    subst (λ (x : RecordingReport). Each (λ (f : FeedReport). ListsMessages f listed) x.recorded.feeds.items) (same_Some all r (sym is ∙ here))
+    (subst (λ (x : Report). Each (λ (f : FeedReport). ListsMessages f listed) x.feeds.items) (sym same) (lists recorded refl))

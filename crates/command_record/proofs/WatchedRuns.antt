@@ -1,6 +1,5 @@
 -- What the openings, the recording and the keepings of all names come to, where watchers write.
 use Rattle.std.proofs.Common.{◌≡◌, ◌⊎◌, ℕ, zero, suc, ◌+◌, ◌^◌, ◌<◌, ◌≤◌, Bool, true, false, List, [], ◌∷◌, ◌++◌, length, map, take, append_assoc, length-append, Option, Some, None, Result, Ok, Err, refl, sym, ap, subst, inl, inr, ◌∙◌, arith}
-use Rattle.std.specs.Prelude.{IsSome}
 use Rattle.std.specs.List.{AllZip, list_any, sum}
 use Rattle.std.proofs.lemmas.Bool.{both_ways, false≢true}
 use Rattle.std.proofs.lemmas.List.{append-nil, map-append, length-map}
@@ -11,6 +10,7 @@ use Rattle.mcap_io.specs.declared.outside.ObjectKind.{ObjectKind}
 use Rattle.mcap_io.specs.declared.outside.ObjectKind.TheVariants as kinds
 use Rattle.mcap_io.specs.declared.outside.OutsideRefused.{OutsideRefused}
 use Rattle.mcap_io.specs.declared.outside.OutsideRefused.TheVariants as outside_refusals
+use Rattle.mcap_model.specs.declared.ends.End.{End}
 use Rattle.mcap_model.specs.declared.ends.Stop.{Stop}
 use Rattle.mcap_model.specs.declared.ends.Stop.TheVariants as stops
 use Rattle.mcap_model.specs.declared.replay.Range.{Range}
@@ -18,6 +18,7 @@ use Rattle.mcap_model.specs.Places.{At, Has, Each}
 use Rattle.mcap_model.proofs.Places.{at_none, at_within, at_kept, at_last}
 use Rattle.mcap_model.proofs.Lists.{at_either, at_second, take_second, each_cons}
 use Rattle.live_directory.specs.declared.front.Added.{Added}
+use Rattle.live_directory.specs.Published.{entries_of, end_of}
 use Rattle.chunk_writer.specs.Stops.{Cause}
 use Rattle.mcap_model.specs.declared.options.RecordOptions.{RecordOptions}
 use Rattle.recorder.specs.declared.report.Report.{Report}
@@ -25,7 +26,7 @@ use Rattle.recorder.specs.Recorded.{Sides, sides, Recorded, AreFeeds, AreReadabl
 use Rattle.live_watcher.specs.declared.report.WatchReport.{WatchReport}
 use Rattle.live_watcher.specs.declared.report.WatchEnd.{WatchEnd}
 use Rattle.live_watcher.specs.declared.report.WatchEnd.TheVariants as watch_ends
-use Rattle.live_recording.specs.Watched.{Watch, IsWatched}
+use Rattle.live_recording.specs.Watched.{Watch}
 use Rattle.live_recording.specs.WatchedSteps.{RecordedWatched, WatchFilesAreTold}
 use Rattle.live_recording.specs.Files.{IsWatchedFile}
 use Rattle.command_words.specs.Commands.{NamesDiffer}
@@ -36,14 +37,14 @@ use Rattle.command_record.specs.declared.watched_names.WatchedOutcome.{WatchedOu
 use Rattle.command_record.specs.Record.{FeedKept, feed_entry, feed_names_kept, back_sources}
 use Rattle.command_base.specs.InputsSteps.{flags_with}
 use Rattle.command_record.specs.Sinks.{SinkKept, sink_entry, sink_names, back_sinks, sink_faults, watch_faults}
-use Rattle.command_record.specs.Watched.{requested, reported_with, wanted_names, IsWrittenBeside, EndsSo, view_faults, is_flaw, IsWatchedAlone, with_ends, watch_flags, ReportedBeside, UnreportedBeside}
+use Rattle.command_record.specs.Watched.{requested, reported_with, wanted_names, IsWrittenBeside, EndsSo, view_faults, is_flaw, with_ends, watch_flags, ReportedBeside, UnreportedBeside}
 use Rattle.command_record.specs.WatchedSteps.{NamesWatched}
 use Rattle.command_record.proofs.Sources.{feeds_tell, feeds_unused}
 use Rattle.command_record.proofs.Held.{Holds, holds, placed_holds, placed_nothing}
 use Rattle.command_record.proofs.Flags.{some_more, AreKind, rest_kind}
 use Rattle.command_record.proofs.Runs.{NamesUnrecorded, world_faults-append, input_faults-append, output_faults-append, sources_write_nothing, unused_count_nothing, each_both, each_none, each_alone, are_sources, left_all, opened_all, none_some, map_kept, names_same, or_nothing, has_there, refusal_of}
 use Rattle.command_record.proofs.Beside.{watch_faults-append, sinks_read_nothing, sinks_write_nothing, feeds_watch_nothing, unused_sinks_count, are_sinks, opened_sinks, names_once, out_apart, AllSeen, seen_feeds, seen_sinks, store, sinks_behind, seen_entries, told_since, names_since, nothing_yet, sinks_yet, world_since, inputs_since, outputs_since, watches_since}
-use Rattle.command_record.proofs.Alone.{watched_alone}
+use Rattle.live_watcher.proofs.Steps.{untold_lift}
 use Rattle.command_record.proofs.WatchEnds.{ended_so, ends_nothing, ends_why, ends_first, ends_second, some_has_sink, sinks_have, sinks_total, sinks_watched, fault_shows, faults_show, views_told, views_hold, asked_for, ended, unflawed}
 
 -- ---- no watch file was reached
@@ -204,21 +205,15 @@ cause_later before now (Err (stops.Fault faults)) cause = cause.0.later
 cause_later before now (Err (stops.Limit blocks bytes)) cause = omega (arith, cause)
 cause_later before now (Err stops.Memory) cause = omega (arith, cause)
 
-not_some : {X : Type 0} (A : Type 0) (seal : Option X) → IsSome seal → seal ≡ None → A
-not_some A None there is = absurd (both_ways false refl there)
-not_some A (Some x) there is = absurd (let apart = is in cc)
-
-unsealed_so : {X : Type 0} (s : Bool) (seal : Option X) (ks : List SinkState) → (s ≡ true → (ks ≡ []) ⊎ IsSome seal) → (ks ≡ [] → ⊥) → seal ≡ None → s ≡ false
-unsealed_so false seal ks sealed some none = refl
-unsealed_so true seal ks sealed some none = elim (sealed refl) [
-  | inl is ↦ absurd (some is)
-  | inr there ↦ not_some _ seal there none
-]
-
 -- without watchers none is told as unsealed
-sealed_for_none : {X : Type 0} (s : Bool) (seal : Option X) (ks : List SinkState) → (s ≡ false → (ks ≡ [] → ⊥) × (seal ≡ None)) → ks ≡ [] → s ≡ true
-sealed_for_none true seal ks unsealed none = refl
-sealed_for_none false seal ks unsealed none = absurd ((unsealed refl).0 none)
+sealed_for_none : {A : Type 0} (s : Bool) (ks : List SinkState) → (s ≡ false → (ks ≡ [] → ⊥) × A) → ks ≡ [] → s ≡ true
+sealed_for_none true ks unsealed none = refl
+sealed_for_none false ks unsealed none = absurd ((unsealed refl).0 none)
+
+-- where there are watchers the directory was sealed with an end
+sealed_end : {X : Type 0} (note : List (Added X)) (end : End) (ks : List SinkState) → (ks ≡ []) ⊎ (end_of note ≡ Some end) → (ks ≡ [] → ⊥) → (e : End) × (end_of note ≡ Some e)
+sealed_end note end ks (inl none) some = absurd (some none)
+sealed_end note end ks (inr is) some = (end, is)
 
 none_named : (watches names more : List (List ℕ)) → watches ≡ names ++ more → watches ≡ [] → names ≡ []
 none_named watches [] more split none = refl
@@ -444,8 +439,7 @@ module _ (options : RecordOptions) (range : Range) (out : List ℕ) (watches fee
 
   ends_are : {X : Type 0} (tells : X → Option (List ℕ)) (r : Report) (reports : List WatchReport) (sealed : Bool) (it : Watched tells r reports sealed) → Each (λ (w : Watch). EndsSo b.live it.viewed sealed w w.report.end) it.watches
   ends_are tells r reports sealed it n w at =
-      ended tells range b.live it.viewed sealed w it.note r.writer.end it.recorded.end_is
-      (unsealed_so sealed it.note b.ks it.sealed (λ none. before_some it.watches n w at (sym it.are.before_are ∙ none)))
+      ended tells range b.live it.viewed sealed w it.note (λ is. sealed_end it.note r.writer.end b.ks (it.sealed is) (λ none. before_some it.watches n w at (sym it.are.before_are ∙ none))) (λ is. (it.unsealed is).1)
       (asked_for b.live it.watches it.viewed it.asked n w at) (it.each n w at)
 
   unused_before : {X : Type 0} (tells : X → Option (List ℕ)) (r : Report) (reports : List WatchReport) (sealed : Bool) (it : Watched tells r reports sealed) → Each (λ (w : Watch). w.before.faults ≡ 0) it.watches
@@ -459,26 +453,21 @@ module _ (options : RecordOptions) (range : Range) (out : List ℕ) (watches fee
       omega (arith, one, two, sinks_watched sinks)
 
   store_rose : {X : Type 0} (tells : X → Option (List ℕ)) (r : Report) (reports : List WatchReport) (sealed : Bool) (it : Watched tells r reports sealed) → 1 ≤ it.viewed.faults → 1 ≤ b.live_now.faults
-  store_rose tells r reports sealed it some = let later = cause_later it.viewed.faults b.live_now.faults _ it.recorded.recorded.writer.cause in omega (arith, some, later)
+  store_rose tells r reports sealed it some = let later = cause_later it.viewed.faults b.live_now.faults _ it.recorded.writer.cause in omega (arith, some, later)
 
-  -- where it was sealed and the store told what it held, the blocks' extents tell, so that no watcher found a flaw
+  -- where the store told what it held, the blocks' extents tell, so that no watcher found a flaw
   unflawed_by : {X : Type 0} (tells : X → Option (List ℕ)) (r : Report) (reports : List WatchReport) (sealed : Bool) (it : Watched tells r reports sealed) (told : Told) → b.w0.told ≡ Some told
-      → (note : Option (List (Added X))) → it.note ≡ note → (b.ks ≡ []) ⊎ IsSome note → Each (λ (w : Watch). is_flaw w.report.end ≡ false) it.watches
-  unflawed_by tells r reports sealed it told here None is (inl none) n w at = absurd (before_some it.watches n w at (sym it.are.before_are ∙ none))
-  unflawed_by tells r reports sealed it told here None is (inr some) n w at = absurd (false≢true some)
-  unflawed_by {X} tells r reports sealed it told here (Some note) is seal n w at =
-      let (stored, stores) = (it.recorded.blocks_are note is).tell [] (views_hold b.live it.watches it.viewed it.asked ∙ nothing_yet out feeds names b told here) in
-      unflawed tells range b.live it.viewed sealed w note r.writer.end (it.recorded.end_is note is) (λ untold. untold stored stores) (asked_for b.live it.watches it.viewed it.asked n w at)
-      (subst (λ (t : Option (List (Added X))). IsWatched tells range t w) is (it.each n w at))
-
-  alone_by : {X : Type 0} (tells : X → Option (List ℕ)) (r : Report) (reports : List WatchReport) (sealed : Bool) (it : Watched tells r reports sealed) → sealed ≡ false → Each (IsWatchedAlone range) it.watches
-  alone_by {X} tells r reports sealed it apart n w at = watched_alone tells range w (subst (λ (t : Option (List (Added X))). IsWatched tells range t w) (it.unsealed apart).1 (it.each n w at))
+      → Each (λ (w : Watch). is_flaw w.report.end ≡ false) it.watches
+  unflawed_by {X} tells r reports sealed it told here n w at =
+      let shows = it.shows (λ none. before_some it.watches n w at (sym it.are.before_are ∙ none)) in
+      let (stored, stores) = shows.blocks_are.tell [] (views_hold b.live it.watches it.viewed it.asked ∙ nothing_yet out feeds names b told here) in
+      unflawed tells range b.live it.viewed sealed w it.note (λ untold. untold_lift tells (entries_of it.note) shows.given shows.first untold stored stores) (asked_for b.live it.watches it.viewed it.asked n w at) (it.each n w at)
 
   seen_reported : {X : Type 0} (tells : X → Option (List ℕ)) (r : Report) (reports : List WatchReport) (sealed : Bool) (it : Watched tells r reports sealed) → more ≡ [] → b.behind ≡ []
-      → ((told : Told) → b.w0.told ≡ Some told → AreReadable options.file → sealed ≡ true → Each (IsWatchedFile options.file range it.recorded.recorded.history r.writer) it.watches)
+      → ((told : Told) → b.w0.told ≡ Some told → AreReadable options.file → Each (IsWatchedFile options.file range it.recorded.history r.writer sealed) it.watches)
       → ReportedBeside (requested options range out watches feeds) b.w0 b.w8 all (sum b.views) (reported_with r sealed reports)
   seen_reported tells r reports sealed it whole none texts =
-      let there = moved options (sides b.ss it.viewed) b.ss_now (back_sources fs) b.live_now r b.keeps.backs_are it.recorded.recorded in
+      let there = moved options (sides b.ss it.viewed) b.ss_now (back_sources fs) b.live_now r b.keeps.backs_are it.recorded in
       let ends = ends_are tells r reports sealed it in
       let total = totals_are tells r reports sealed it in
       let faults : watch_faults all ≡ watch_faults (map feed_entry fs) + (watch_faults (map sink_entry sinks) + watch_faults b.behind) = omega (arith, watch_faults-append (map feed_entry fs) (file ∷ behind), watch_faults-append (map sink_entry sinks) b.behind) in
@@ -504,7 +493,7 @@ module _ (options : RecordOptions) (range : Range) (out : List ℕ) (watches fee
         sinks_unused = unused_before tells r reports sealed it;
         sinks_empty = λ told here. each_of (λ (w : Watch). w.before) (λ (s : SinkState). s.took ≡ Some []) it.watches (subst (Each (λ (s : SinkState). s.took ≡ Some [])) it.are.before_are (sinks_yet out feeds names b told here));
         ends = ends;
-        unwatched = λ none. sealed_for_none sealed it.note b.ks it.unsealed (none_given names b.ks (none_named watches names more split none) b.opens_sinks.many);
+        unwatched = λ none. sealed_for_none sealed b.ks it.unsealed (none_given names b.ks (none_named watches names more split none) b.opens_sinks.many);
         sealed_ends = λ is n w at un. sealed_so b.live it.viewed sealed w w.report.end (ends n w at) is un;
         fault_cause = λ n w at is. elim (fault_shows b.live it.viewed sealed it.watches (unused_before tells r reports sealed it) ends n w at is) [
           | inl viewed ↦ inl (omega (arith, store_rose tells r reports sealed it viewed, outputs_since out feeds names b, output_faults-append (map feed_entry fs) (file ∷ behind), b.opens.fits.outputs))
@@ -516,8 +505,7 @@ module _ (options : RecordOptions) (range : Range) (out : List ℕ) (watches fee
             placed_holds options.file told.names now.names out there.history r.writer b.live_now.held b.live_kept h ((names_since out feeds names b told now here here_now).output h.text h.is);
         placed = λ told now here here_now. (names_since out feeds names b told now here here_now).watch_files;
         texts = texts;
-        unflawed = λ told here is. unflawed_by tells r reports sealed it told here it.note refl (it.sealed is);
-        texts_alone = alone_by tells r reports sealed it;
+        unflawed = λ told here. unflawed_by tells r reports sealed it told here;
         kept_are = ap (λ (l : List Opening). map feed_entry fs ++ file ∷ l) (ap (λ (l : List Opening). map sink_entry sinks ++ l) none ∙ append-nil (map sink_entry sinks));
       }
 
@@ -553,7 +541,7 @@ module _ (options : RecordOptions) (range : Range) (out : List ℕ) (watches fee
       → outcome.watches_failed.items ≡ with_ends b.sink_flags outcome.watches.items
       → (report ≡ None → (b.ss_now ≡ b.ss) × (b.live_now ≡ b.live) × (b.ks_now ≡ b.ks) × (sum b.views ≡ 0) × (outcome.watches.items ≡ []))
       → ((r : Report) → report ≡ Some r → (it : Watched tells r outcome.watches.items outcome.sealed)
-      × ((told : Told) → b.w0.told ≡ Some told → AreReadable options.file → outcome.sealed ≡ true → Each (IsWatchedFile options.file range it.recorded.recorded.history r.writer) it.watches))
+      × ((told : Told) → b.w0.told ≡ Some told → AreReadable options.file → Each (IsWatchedFile options.file range it.recorded.history r.writer outcome.sealed) it.watches))
       → NamesWatched (requested options range out watches feeds) b.w0 b.w8 outcome
   all_by tells outcome None is whole none flags_are out_is ends_added same made =
       let (sources, lives, sinks_same, no_views, no_reports) = same refl in
@@ -582,11 +570,11 @@ module _ (options : RecordOptions) (range : Range) (out : List ℕ) (watches fee
 
   -- a file without chunks has no watchers
   texts_by : {X : Type 0} (tells : X → Option (List ℕ)) (r : Report) (reports : List WatchReport) (sealed : Bool) (it : Watched tells r reports sealed) → (options.file.chunk ≡ None → watches ≡ []) → WatchFilesAreTold tells
-      → (chunk : Option ℕ) → options.file.chunk ≡ chunk → (told : Told) → b.w0.told ≡ Some told → AreReadable options.file → sealed ≡ true → Each (IsWatchedFile options.file range it.recorded.recorded.history r.writer) it.watches
-  texts_by tells r reports sealed it plain law None is told there readable seal n w at =
+      → (chunk : Option ℕ) → options.file.chunk ≡ chunk → (told : Told) → b.w0.told ≡ Some told → AreReadable options.file → Each (IsWatchedFile options.file range it.recorded.history r.writer sealed) it.watches
+  texts_by tells r reports sealed it plain law None is told there readable n w at =
       absurd (before_some it.watches n w at (sym it.are.before_are ∙ none_given names b.ks (none_named watches names more split (plain is)) b.opens_sinks.many))
-  texts_by tells r reports sealed it plain law (Some size) is told there readable seal n w at =
-      law options range (sides b.ss b.live) (sides b.ss_now b.live_now) r (record { handed = b.ks; sinks = b.ks_now; views = b.views; reports = reports; sealed = sealed }) it readable size is [] (nothing_yet out feeds names b told there) seal n w at
+  texts_by tells r reports sealed it plain law (Some size) is told there readable n w at =
+      law options range (sides b.ss b.live) (sides b.ss_now b.live_now) r (record { handed = b.ks; sinks = b.ks_now; views = b.views; reports = reports; sealed = sealed }) it readable size is [] (nothing_yet out feeds names b told there) n w at
 
   -- of what the recording told, where the world tells too
   pub all_watched : {X : Type 0} (tells : X → Option (List ℕ)) (outcome : WatchedOutcome) → more ≡ [] → b.behind ≡ [] → outcome.feeds_failed.items ≡ b.flags → outcome.out_failed ≡ failed_so (went_well b.live_kept) b.live_now.faults

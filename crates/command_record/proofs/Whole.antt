@@ -187,7 +187,7 @@ module _ (options : RecordOptions) (feeds : List (List ℕ)) (old new : WorldSta
     now_at : At (back_sources is.kept_feeds) n f.now
     now_at = subst (λ (l : List SourceState). At l n f.now) (sym is.recorded.are.now_are) (map_at (λ (x : FeedRecorded). x.now) is.recorded.feeds n f at)
 
-    shown : ShownBy is.recorded.history r.writer.end f.pass
+    shown : ShownBy is.recorded.history is.recorded.assembled.swaps r.writer.end f.pass
     shown = (is.recorded.assembled.stand n (lane_of f) (map_at lane_of is.recorded.feeds n f at)).shown
 
     -- an end that a message was refused for is that of the recording, which wasn't closed

@@ -1,9 +1,10 @@
 -- What a recording does to the names of the feeds and of the output, what it reports, and how its feeds end.
-use Rattle.std.specs.Prelude.{◌≡◌, ◌⊎◌, ◌≤◌, not, ℕ, List, [], ◌∷◌, ◌++◌, map, length, Bool, true, false, if◌then◌else◌, Option, Some, None}
+use Rattle.std.specs.Prelude.{◌≡◌, ◌⊎◌, not, ℕ, List, [], ◌∷◌, ◌++◌, map, length, Bool, true, false, if◌then◌else◌, Option, Some, None}
 use Rattle.std.specs.List.{list_any}
 use Rattle.mcap_io.specs.Outside.{WorldState, SourceState, LiveState, Told, Opening}
 use Rattle.mcap_io.specs.declared.outside.ObjectKind.TheVariants as kinds
 use Rattle.rec_data.specs.declared.owned.Rec.{Rec}
+use Rattle.mcap_model.specs.declared.ends.End.{End}
 use Rattle.mcap_model.specs.declared.ends.End.TheVariants as ends
 use Rattle.mcap_model.specs.declared.refusals.ReadingRefused.{ReadingRefused}
 use Rattle.mcap_model.specs.declared.refusals.ReadingRefused.TheVariants as refusals
@@ -11,7 +12,8 @@ use Rattle.mcap_model.specs.declared.options.FileOptions.{FileOptions}
 use Rattle.mcap_model.specs.Places.{Has, Each}
 use Rattle.mcap_model.specs.Tops.{Top}
 use Rattle.mcap_model.specs.Kept.{Halt, reading_limits, Halts}
-use Rattle.mcap_model.specs.File.{front, file_of, IsPrefix}
+use Rattle.mcap_model.specs.File.{front, file_of}
+use Rattle.mcap_model.specs.Pieces.{file_pieces, StoppedAt}
 use Rattle.record_core.specs.declared.answers.CallRefused.{CallRefused}
 use Rattle.record_core.specs.declared.answers.CallRefused.TheVariants as refusing
 use Rattle.feed_lane.specs.declared.report.Refused.{Refused}
@@ -34,13 +36,18 @@ use Rattle.command_base.specs.Ran.{kept, input_faults, output_faults}
 
 -- ---- with a report
 
--- What stands under the output's name: the file of the history, where the writer closed it and it was kept; else that or a
--- first part of it, with all that was taken in whole appends; or what stood there, where the keeping failed. Where a record was
--- accepted, and the output kept, the front of a file stands there.
+-- What stands of the file of a history, by how its writer ended: all of it, where it closed; else the whole pieces before the one
+-- at hand, which have the bytes that are told, and nothing of that one unless the store failed, and then a first part at most.
+abbrev pub StandsBy : FileOptions → List Rec → ℕ → End → List ℕ → Type 0
+StandsBy options history bytes ends.Closed text = (text ≡ file_of options [] history) × (length text ≡ bytes)
+StandsBy options history bytes (ends.Stopped stop) text =
+    (place : ℕ) × StoppedAt (file_pieces options [] history) place stop text bytes
+
+-- What stands under the output's name: what the writer's report says of the file of the history, or what stood there, where the
+-- keeping failed. Where a record was accepted, and the output kept, the front of a file stands there.
 pub record OutputHolds (options : FileOptions) (history : List Rec) (w : WriterReport) (well : Bool)
     (before now : Option (List ℕ)) : Type 0 where
-  pub whole : w.end ≡ ends.Closed → well ≡ true → now ≡ Some (file_of options [] history)
-  pub part : ((text : List ℕ) × (now ≡ Some text) × (w.bytes ≤ length text) × IsPrefix text (file_of options [] history))
+  pub part : ((text : List ℕ) × (now ≡ Some text) × StandsBy options history w.bytes w.end text)
       ⊎ ((now ≡ before) × (well ≡ false))
   pub begun : (history ≡ [] → ⊥) → well ≡ true → (more : List ℕ) × (now ≡ Some (front options.profile ++ more))
 

@@ -1,4 +1,4 @@
--- What a recording with watchers does to the names of the feeds, of the output and of the watch files, and what it came to.
+-- What a recording, with any number of watchers, does to the names of the feeds, of the output and of the watch files, and what it came to.
 use Rattle.std.specs.Prelude.{◌≡◌, ◌⊎◌, ℕ, ◌+◌, ◌≤◌, ◌||◌, List, [], ◌∷◌, ◌++◌, map, Bool, true, false, Option, Some, None}
 use Rattle.std.specs.List.{AllZip, sum, concat}
 use Rattle.mcap_io.specs.Outside.{Rose, RisesOnce, added, WorldState, SourceState, LiveState, Told, Opening, TellsName}
@@ -12,7 +12,7 @@ use Rattle.recorder.specs.Recorded.{sides, Recorded, AreReadable}
 use Rattle.live_watcher.specs.declared.report.WatchReport.{WatchReport}
 use Rattle.live_watcher.specs.declared.report.WatchEnd.{WatchEnd}
 use Rattle.live_watcher.specs.declared.report.WatchEnd.TheVariants as watch_ends
-use Rattle.live_recording.specs.Watched.{Watch, IsWatched, AsksViews}
+use Rattle.live_recording.specs.Watched.{Watch, AsksViews}
 use Rattle.live_recording.specs.Files.{IsWatchedFile}
 use Rattle.command_base.specs.Ran.{Wanted, wanted, CountsKept, has_failed}
 use Rattle.command_base.specs.Outputs.{inputs_and_output}
@@ -89,24 +89,14 @@ abbrev pub IsCalm : Watch → Type 0
 IsCalm w = (w.view ≡ Some 0) × (w.now.faults ≡ w.before.faults)
 
 -- What the end of a watcher's report says of the counts, where the store was asked for the views between these two states: it
--- ended at a fault exactly where one of them rose. None is told of an unsealed directory where it was sealed.
+-- ended at a fault exactly where one of them rose. It wrote the end of a directory that was sealed, and that there is none of one
+-- that wasn't.
 abbrev pub EndsSo : LiveState → LiveState → Bool → Watch → WatchEnd → Type 0
 EndsSo before now sealed w (watch_ends.Fault faults) = FaultCause before now w faults
-EndsSo before now sealed w watch_ends.Whole = IsCalm w
+EndsSo before now sealed w watch_ends.Whole = IsCalm w × (sealed ≡ true)
 EndsSo before now sealed w watch_ends.Unsealed = IsCalm w × (sealed ≡ false)
 EndsSo before now sealed w (watch_ends.Flaw rule offset) = IsCalm w
 EndsSo before now sealed w watch_ends.Memory = IsCalm w
-
--- ---- what a watcher wrote that wasn't told of the end
-
--- an extent as it is seen from outside: the bytes that it tells, or that it tells none
-abbrev pub told_bytes : Option (List ℕ) → Option (List ℕ)
-told_bytes extent = extent
-
--- It wrote what it had to, of blocks that a reader of its own held. Nothing is said of these, so that they need not be those
--- of the recording.
-abbrev pub IsWatchedAlone : Range → Watch → Type 0
-IsWatchedAlone range w = IsWatched told_bytes range None w
 
 -- ---- which watchers failed
 
@@ -180,15 +170,13 @@ pub record ReportedBeside (request : Requested) (old new : WorldState) (entries 
   pub file : (told now : Told) → old.told ≡ Some told → new.told ≡ Some now
       → OutputHolds request.options.file recorded.history did.report.writer live_kept (told.names request.names.out)
       (now.names request.names.out)
-  -- and the watch files what the watchers' sinks took: where the directory was sealed, the text of that history's blocks
+  -- and the watch files what the watchers' sinks took, which is of that history's blocks, whether they were told of the end or not
   pub placed : (told now : Told) → old.told ≡ Some told → new.told ≡ Some now
       → Each (SinkHolds told.names now.names) kept_sinks
-  pub texts : (told : Told) → old.told ≡ Some told → AreReadable request.options.file → did.sealed ≡ true
-      → Each (IsWatchedFile request.options.file request.range recorded.history did.report.writer) seen
-  -- there no watcher finds a flaw; and where it wasn't sealed, each wrote the same of blocks of its own
-  pub unflawed : (told : Told) → old.told ≡ Some told → did.sealed ≡ true
-      → Each (λ (w : Watch). is_flaw w.report.end ≡ false) seen
-  pub texts_alone : did.sealed ≡ false → Each (IsWatchedAlone request.range) seen
+  pub texts : (told : Told) → old.told ≡ Some told → AreReadable request.options.file
+      → Each (IsWatchedFile request.options.file request.range recorded.history did.report.writer did.sealed) seen
+  -- there no watcher finds a flaw
+  pub unflawed : (told : Told) → old.told ≡ Some told → Each (λ (w : Watch). is_flaw w.report.end ≡ false) seen
   pub kept_are : entries
       ≡ map feed_entry kept_feeds ++ live_entry request.names.out live_now live_kept ∷ map sink_entry kept_sinks
 

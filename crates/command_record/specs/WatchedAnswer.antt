@@ -17,6 +17,7 @@ use Rattle.command_base.specs.Printing.{Takes}
 use Rattle.command_base.specs.Texts.{Trouble, fault, output_fault, output_limit, flaw, no_memory, halt_status}
 use Rattle.command_base.specs.Ran.{Scene, counted_faults, AnyRose, CountsOn, AreOpened, has_failed, failed_names, blamed_names, BlamesOutput, when, told_of, Complains}
 use Rattle.command_record.specs.declared.watched_answer.WatchedCounts.{WatchedCounts}
+use Rattle.command_record.specs.declared.recording.RecordingReport.{RecordingReport}
 use Rattle.recorder.specs.Findings.{limit_passed, passes_limit, lacks_memory}
 use Rattle.command_record.specs.Record.{ends_of, reports_in, end_status, worst, report_text, RecordsAll, FeedHalts, SparesOutput}
 use Rattle.command_base.specs.Outputs.{inputs_and_output, failed_of, some_failed}
@@ -163,9 +164,9 @@ pub record RecordsAllBeside (options : RecordOptions) (r : Report) (sealed : Boo
 
 -- ---- the command
 
--- what `record` does, with any number of watchers
-pub record Records (request : Requested) (old new : Scene) (report : Option Report) (status : Status)
-    : Type 0 where
+-- what `record` does that answers this report, whether its watchers were told of the end, and what each of them came to
+pub record RecordsSo (request : Requested) (old new : Scene) (report : Option Report) (sealed : Bool)
+    (reports : List WatchReport) (status : Status) : Type 0 where
   -- these names were opened, and nothing else; all failures are counted
   pub entries : List Opening
   pub opened : AreOpened (wanted_names request.names.out request.names.watches request.names.feeds) entries
@@ -173,8 +174,6 @@ pub record Records (request : Requested) (old new : Scene) (report : Option Repo
   pub failures : ℕ
   pub counts : CountsBeside old.world new.world entries failures
   -- with a report the feeds were recorded, the output holds the file, and the watchers' names hold what these reported
-  pub sealed : Bool
-  pub reports : List WatchReport
   pub reported : (r : Report) → report ≡ Some r
       → ReportedBeside request old.world new.world entries failures (reported_with r sealed reports)
   -- without one nothing was read or written
@@ -208,3 +207,9 @@ pub record Records (request : Requested) (old new : Scene) (report : Option Repo
   -- that all was done says that all of the feeds was recorded, and that each watcher wrote all that it had to
   pub whole : status ≡ statuses.Done
       → (r : Report) × (report ≡ Some r) × RecordsAllBeside request.options r sealed reports
+
+-- what `record` does, with any number of watchers
+abbrev pub Records : Requested → Scene → Scene → Option RecordingReport → Status → Type 0
+Records request old new None status = RecordsSo request old new None true [] status
+Records request old new (Some r) status =
+    RecordsSo request old new (Some r.recorded) r.sealed r.watchers.items status

@@ -13,7 +13,7 @@ use recorder::{FeedEnd, FeedReport, Report, has_limit, names_memory};
 
 /// What a recording tells, of its report, if it made one.
 #[derive(Clone, Copy)]
-pub struct Telling<'a> {
+pub(crate) struct Telling<'a> {
     pub report: &'a Option<Report>,
 }
 

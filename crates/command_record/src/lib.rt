@@ -9,8 +9,7 @@ mod sinks;
 mod watched_answer;
 mod watched_names;
 
-pub use answering::Telling;
 pub use print::print_report;
-pub use recording::{Ended, record_file};
+pub use recording::{Ended, RecordingReport, record_file};
 pub use watched_answer::{WatchedCounts, WatchedFailures, answer_watched, failed_watched_parts};
 pub use watched_names::WatchedOutcome;

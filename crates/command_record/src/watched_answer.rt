@@ -214,7 +214,7 @@ fn lacks_memory_beside(outcome: &WatchedOutcome, failed: WatchedFailures<'_>) ->
     }
 }
 
-/// Complains of what went wrong in a recording with watchers, and answers the status.
+/// Complains of what went wrong in a recording, with any number of watchers, and answers the status.
 pub fn answer_watched<'a, E: Sink>(
     err: &mut E,
     out: &'a str,

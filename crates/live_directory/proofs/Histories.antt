@@ -37,7 +37,7 @@ module _ {X : Type 0} where
   end_of_snoc (x ∷ xs) t e = let both = end_or_none x.end (end_of xs) e in ap (λ (o : Option End). end_or o (end_of (xs ++ t ∷ []))) both.0 ∙ end_of_snoc xs t both.1
 
   -- what has no end has none at its front
-  end_of_front : (xs ys : List (Added X)) → end_of (xs ++ ys) ≡ None → end_of xs ≡ None
+  pub end_of_front : (xs ys : List (Added X)) → end_of (xs ++ ys) ≡ None → end_of xs ≡ None
   end_of_front [] ys e = refl
   end_of_front (x ∷ xs) ys e = let both = end_or_none x.end (end_of (xs ++ ys)) e in
       ap (λ (o : Option End). end_or o (end_of xs)) both.0 ∙ end_of_front xs ys both.1

@@ -32,6 +32,8 @@ where
     Visiting: Protocol<Shelf<X, J>, Visits<X>>,
 {
     outbox: Outbox<X, J>,
+    // What readers find.
+    shown: Note<X, J>,
     short: bool,
 }
 
@@ -47,7 +49,7 @@ where
 
     ghost view = { λ d. seen_of d.outbox d.short };
 
-    ghost invariant = { λ d. d.short ≡ false → unseen d.outbox ≡ [] };
+    ghost invariant = { λ d. (d.shown ≡ d.outbox.shown) × (d.short ≡ false → unseen d.outbox ≡ []) };
 }
 
 // So many readers of the shelf.
@@ -90,6 +92,7 @@ pub fn open_directory<X: Extent, J: Naming, R: Wait>(
     match make_readers(alloc, &writer, &none, readers) {
         Ok(all) => {
             let directory = Directory {
+                shown: none.same(),
                 outbox: Outbox::new(alloc, writer, pages, none),
                 short: false,
             };
@@ -121,7 +124,11 @@ impl<X: Extent, J: Naming> Directory<X, J> {
             }
         }
         match self.outbox.show(rt) {
-            Ok(()) => return Ok(self.outbox.note()),
+            Ok(()) => {
+                let note = self.outbox.note();
+                self.shown = note.same();
+                return Ok(note);
+            }
             Err(Memory) => {
                 self.short = true;
                 return Err(Memory);
@@ -150,15 +157,30 @@ impl<X: Extent, J: Naming> Directory<X, J> {
             Err(Memory) => return Err(Memory),
         }
         match self.outbox.show(rt) {
-            Ok(()) => return Ok(self.outbox.note()),
+            Ok(()) => {
+                let note = self.outbox.note();
+                self.shown = note.same();
+                return Ok(note);
+            }
             Err(Memory) => return Err(Memory),
         }
+    }
+
+    /// What readers find. It takes no memory.
+    pub fn shown(&self) -> Note<X, J>
+        ensures { result ≡ self.now.shown }
+    {
+        self.shown.same()
     }
 
     /// Waits for the readers that are inside. From then on none is let in, so a `refresh` would try for ever: it is closed once
     /// no reader refreshes any more. Fronts and entries may still be asked for.
     pub fn close<R: Wait>(self, rt: &R) {
-        let Directory { outbox, short: _ } = self;
+        let Directory {
+            outbox,
+            shown: _shown,
+            short: _,
+        } = self;
         outbox.close(rt);
     }
 }

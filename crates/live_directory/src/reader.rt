@@ -1,5 +1,5 @@
 //! A reader of a directory.
-ghost use Rattle.std.specs.Prelude.{◌≡◌, ◌≤◌, ◌++◌, [], suc, length, take, OnOk, OnErr, MatchResult, ℕ};
+ghost use Rattle.std.specs.Prelude.{◌≡◌, ◌≤◌, ◌++◌, [], suc, length, take, true, OnOk, OnErr, MatchResult, ℕ};
 ghost use mathlib.Core.List.{IsPrefix};
 ghost use Rattle.left_right.specs.Sides.{view};
 ghost use Rattle.live_entry.specs.Entries.{EntriesFollow};
@@ -187,6 +187,13 @@ impl<X: Extent, J: Naming> Reader<X, J> {
         ensures rises { AtLeast (published_front note.now) (published_front self.new.known) }
     {
         self.known = self.known.longer(note);
+    }
+
+    /// Whether the note has all that this reader knows, as that of what is published has once nothing more is.
+    pub fn is_within(&self, note: &Note<X, J>) -> bool
+        ensures { result ≡ true → IsPrefix self.now.known note.now }
+    {
+        self.known.begins(note)
     }
 
     // Tries once to enter, and copies the entries that are new.

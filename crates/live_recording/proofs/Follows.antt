@@ -3,6 +3,7 @@ use Rattle.std.proofs.Common.{◌≡◌, ℕ, ◌≤◌, List, [], ◌∷◌, �
 use Rattle.std.specs.Prelude.{false}
 use Rattle.std.proofs.lemmas.List.Elements.{All-append}
 use Rattle.std.proofs.lemmas.Option.{none-some}
+use Rattle.std.proofs.lemmas.Bool.{false≢true}
 use Rattle.mcap_wire.specs.Limits.{file_limit}
 use Rattle.rec_data.specs.declared.owned.Rec.{Rec}
 use Rattle.mcap_io.specs.Outside.{LiveState}
@@ -91,7 +92,7 @@ module _ {L X : Type 0} (state : L → LiveState) (tells : X → Option (List �
 
 module _ {X : Type 0} (first now : Board X) (given : List (Entry X)) (empty : first ≡ empty_board) (gives : GivesTo first now given) where
   pub known_since : KnowsLack now
-  known_since = gives.known (subst (λ (b : Board X). KnowsLack b) (sym empty) (record { short = refl; all = λ is. (refl, refl) }))
+  known_since = gives.known (subst (λ (b : Board X). KnowsLack b) (sym empty) (record { short = refl; all = λ is. (refl, refl); some = λ is. absurd (false≢true is) }))
 
   pub unsealed_since : end_of now.directory.shown ≡ None
   unsealed_since = gives.unsealed (subst (λ (b : Board X). end_of b.directory.shown ≡ None) (sym empty) refl)

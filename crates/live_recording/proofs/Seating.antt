@@ -75,7 +75,7 @@ module _ {X K : Type 0} (state : K → SinkState) (range : Range) where
 
 -- ---- finished
 
-module _ {X K V : Type 0} (tells : X → Option (List ℕ)) (state : K → SinkState) (failures : V → ℕ) (told : Option (List (Added X))) where
+module _ {X K V : Type 0} (tells : X → Option (List ℕ)) (state : K → SinkState) (failures : V → ℕ) (told : List (Added X)) where
   views_more : (views : List V) (view : Option V) → map failures (views ++ at_most_one view) ≡ map failures views ++ at_most_one (failures_in failures view)
   views_more views None = map-append failures views []
   views_more views (Some view) = map-append failures views (view ∷ [])

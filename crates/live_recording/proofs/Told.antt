@@ -1,8 +1,8 @@
 -- What a recording beside a directory came to, and what was told of it.
-use Rattle.std.proofs.Common.{◌≡◌, ℕ, ◌≤◌, List, [], ◌++◌, length, Option, Some, None, Result, Ok, Err, refl, sym, ap, subst, ◌∙◌, inl, inr, append-nil, arith}
-use Rattle.std.specs.Prelude.{Bool, true, false, IfSome, MatchResult}
-use Rattle.std.specs.Result.{result_ok}
-use Rattle.std.proofs.lemmas.Option.{none-some}
+use Rattle.std.proofs.Common.{◌≡◌, ℕ, ◌≤◌, List, [], ◌++◌, length, Option, Some, None, Result, Ok, Err, refl, sym, ap, subst, ◌∙◌, inl, inr, append-nil, append_assoc, arith}
+use Rattle.std.specs.Prelude.{Bool, true, false}
+use Rattle.std.proofs.lemmas.Option.{same_Some, none-some}
+use mathlib.Core.List.{IsPrefix}
 use Rattle.mcap_wire.specs.Layout.{content_limit}
 use Rattle.mcap_wire.specs.Limits.{file_limit}
 use Rattle.rec_data.specs.declared.owned.Rec.{Rec}
@@ -16,7 +16,7 @@ use Rattle.mcap_model.proofs.Places.{at_none}
 use Rattle.live_entry.specs.declared.entry.Entry.{Entry}
 use Rattle.live_directory.specs.declared.front.Added.{Added}
 use Rattle.live_directory.specs.Published.{entries_of, end_of, at_most_one}
-use Rattle.live_directory.specs.Writing.{DirectoryState, Seals, StaysUnsealed, empty_directory}
+use Rattle.live_directory.specs.Writing.{DirectoryState, empty_directory}
 use Rattle.chunk_writer.specs.declared.phase.Phase.{Phase}
 use Rattle.chunk_writer.specs.declared.phase.Phase.TheVariants as phases
 use Rattle.chunk_writer.specs.declared.scribe.Scribe.{Scribe}
@@ -30,34 +30,25 @@ use Rattle.recorder.specs.declared.report.Report.{Report}
 use Rattle.recorder.specs.declared.report.WriterReport.{WriterReport}
 use Rattle.recorder.specs.Recorded.{answer_of, sides, WriterRecorded}
 use Rattle.recorder.specs.Onto.{IsAll, IsReported, written_numbers}
-use Rattle.live_recording.specs.Publishing.{GivesTo, Publishing, PublishesOn, PublishesEnd, empty_board, entries_held, gives_on}
-use Rattle.live_recording.specs.WatchedSteps.{AreBlockEntries, RecordedBeside}
-use Rattle.live_recording.proofs.Follows.{held_since}
+use Rattle.live_recording.specs.Publishing.{Board, GivesTo, TriesSeal, SealsBoard, Publishing, PublishesOn, PublishesEnd, empty_board, entries_held, gives_on}
+use Rattle.live_recording.specs.WatchedSteps.{AreBlockEntries, ShowsBlocks, RecordedBeside}
+use Rattle.live_recording.proofs.Follows.{held_since, unsealed_since}
 use Rattle.live_recording.proofs.Given.{board}
 use Rattle.live_recording.proofs.FirstBlocks.{first_blocks_are}
 
-told_of : {A : Type 0} (told : Option A) (n : A) (P : A → Type 0) → told ≡ Some n → IfSome told P → P n
-told_of told n P is it = subst (λ (o : Option _). IfSome o P) is it
-
-is_false : (b : Bool) → (b ≡ true → ⊥) → b ≡ false
-is_false true other = absurd (other refl)
-is_false false other = refl
-
 -- ---- a note
 
--- of a directory without blocks the note of a seal has the end alone
-pub told_at_seal : {X E : Type 0} (before now : DirectoryState X) (end : End) (r : Result (List (Added X)) E) (told : Option (List (Added X))) → told ≡ result_ok r → before ≡ empty_directory
-    → MatchResult r (λ n. Seals before now end n) (λ e. StaysUnsealed before now) → IfSome told (λ n. (entries_of n ≡ []) × (end_of n ≡ Some end))
-told_at_seal before now end (Ok n) told is empty seals =
-    subst (λ (o : Option (List (Added _))). IfSome o (λ n. (entries_of n ≡ []) × (end_of n ≡ Some end))) (sym is) (
-      ap (λ (h : List (Added _)). entries_of h) seals.note_is ∙ seals.entries ∙ ap (λ (d : DirectoryState _). entries_held d) empty,
-      ap (λ (h : List (Added _)). end_of h) seals.note_is ∙ seals.sealed,
+-- of a directory without blocks the note of a try to seal it has no blocks, and that end at most
+pub told_at_seal : {X : Type 0} (before now : DirectoryState X) (end : End) (note : List (Added X)) → before ≡ empty_directory → TriesSeal before now end note → (entries_of note ≡ []) × ((other : End) → end_of note ≡ Some other → other ≡ end)
+told_at_seal before now end note empty (inl seals) = (
+  ap (λ (h : List (Added _)). entries_of h) seals.note_is ∙ seals.entries ∙ ap (λ (d : DirectoryState _). entries_held d) empty,
+  λ other is. same_Some other end (sym is ∙ ap (λ (h : List (Added _)). end_of h) seals.note_is ∙ seals.sealed),
+)
+told_at_seal before now end note empty (inr stays) =
+    let none : note ≡ [] = stays.0 ∙ ap (λ (d : DirectoryState _). d.shown) empty in (
+      ap (λ (h : List (Added _)). entries_of h) none,
+      λ other is. absurd (none-some other (ap (λ (h : List (Added _)). end_of h) (sym none) ∙ is)),
     )
-told_at_seal before now end (Err why) told is empty seals = subst (λ (o : Option (List (Added _))). IfSome o (λ n. (entries_of n ≡ []) × (end_of n ≡ Some end))) (sym is) tt
-
-pub end_told : {X : Type 0} (note : Option (List (Added X))) (entries : List (Entry X)) (end : End) → IfSome note (λ n. (entries_of n ≡ entries) × (end_of n ≡ Some end)) → IfSome note (λ n. (e : End) × (end_of n ≡ Some e))
-end_told None entries end told = tt
-end_told (Some n) entries end told = (end, told.1)
 
 -- ---- before the first record
 
@@ -122,23 +113,57 @@ module _ {L X : Type 0} (state : L → LiveState) (tells : X → Option (List �
           cause = subst (λ (n : ℕ). Cause {X = Unit {0}} n (state (store_of last.scribe)).faults (answer_of w.end)) still cause;
         }
 
-    -- a note of the seal tells the first blocks, since none were lost
-    told_blocks : length options.file.profile ≤ content_limit → (n : List (Added X)) → entries_of n ≡ entries_held last.board.directory → last.board.lost ≡ false → AreBlockEntries tells options.file live history w (entries_of n)
-    told_blocks short n entries whole =
+    -- all entries that were given are those of the first blocks
+    given_blocks : length options.file.profile ≤ content_limit → AreBlockEntries tells options.file live history w (grown.given ++ at_most_one ended.given)
+    given_blocks short =
         let holds = grown.within (front_holds state options.file live first.scribe short stands going) in
-        let held = held_since first.board last.board (grown.given ++ at_most_one ended.given) empty gives_all whole in
-        subst (λ (l : List (Entry X)). AreBlockEntries tells options.file live history w l) (sym (entries ∙ held))
-        (first_blocks_are state tells size options.file live first.scribe mid.scribe last.scribe history grown.given w stands going grown.took grown.counted holds ended.given ended.ended)
+        first_blocks_are state tells size options.file live first.scribe mid.scribe last.scribe history grown.given w stands going grown.took grown.counted holds ended.given ended.ended
 
-module _ {L X : Type 0} (state : L → LiveState) (tells : X → Option (List ℕ)) (options : RecordOptions) (sources now : List SourceState) (live : LiveState) (store : L) (report : Report) (note : Option (List (Added X))) where
-  -- the writer took a history, and the directory told its blocks at the seal
+    -- what readers find are first ones of these
+    shown_first : (note : List (Added X)) → note ≡ last.board.directory.shown → IsPrefix (entries_of note) (grown.given ++ at_most_one ended.given)
+    shown_first note is =
+        let it = gives_all in
+        let d = last.board.directory in (
+          d.pending ++ it.missing,
+          ap (λ (h : List (Added X)). entries_of h ++ (d.pending ++ it.missing)) is ∙ sym (append_assoc (entries_of d.shown) d.pending it.missing) ∙ it.held
+              ∙ ap (λ (b : Board X). entries_held b.directory ++ (grown.given ++ at_most_one ended.given)) empty,
+        )
+
+    never_ended : (note : List (Added X)) → note ≡ last.board.directory.shown → end_of note ≡ None
+    never_ended note is = ap (λ (h : List (Added X)). end_of h) is ∙ unsealed_since first.board last.board (grown.given ++ at_most_one ended.given) empty gives_all
+
+    shows_blocks : length options.file.profile ≤ content_limit → (after : DirectoryState X) (note : List (Added X)) → SealsBoard last.board after w.end note → ShowsBlocks tells options.file live history w note
+    shows_blocks short after note (inl (kept, inl seals)) =
+        let held = held_since first.board last.board (grown.given ++ at_most_one ended.given) empty gives_all kept in
+        let all : entries_of note ≡ grown.given ++ at_most_one ended.given = ap (λ (h : List (Added X)). entries_of h) seals.note_is ∙ seals.entries ∙ held in
+        record {
+          given = grown.given ++ at_most_one ended.given;
+          blocks_are = given_blocks short;
+          first = ([], append-nil (entries_of note) ∙ all);
+          sealed = λ end is. (same_Some end w.end (sym is ∙ ap (λ (h : List (Added X)). end_of h) seals.note_is ∙ seals.sealed), all);
+        }
+    shows_blocks short after note (inl (kept, inr stays)) = record {
+      given = grown.given ++ at_most_one ended.given;
+      blocks_are = given_blocks short;
+      first = shown_first note stays.0;
+      sealed = λ end is. absurd (none-some end (sym (never_ended note stays.0) ∙ is));
+    }
+    shows_blocks short after note (inr (lost, shown, same)) = record {
+      given = grown.given ++ at_most_one ended.given;
+      blocks_are = given_blocks short;
+      first = shown_first note shown;
+      sealed = λ end is. absurd (none-some end (sym (never_ended note shown) ∙ is));
+    }
+
+module _ {L X : Type 0} (state : L → LiveState) (tells : X → Option (List ℕ)) (options : RecordOptions) (sources now : List SourceState) (live : LiveState) (store : L) (report : Report) (note : List (Added X)) where
+  -- the writer took a history, and the directory told its blocks
   pub tape_beside : (size : X → ℕ) (first mid last : Publishing L X) (history : List Rec) (given : List (Entry X)) (closing : Option (Entry X)) → first.board ≡ empty_board
       → PublishesOn (seen_store state tells size) first mid history given → PublishesEnd (seen_store state tells size) mid last closing (written_numbers report.writer) (answer_of report.writer.end)
       → WritesHistory state options.file [] live [] first.scribe → phase_of first.scribe ≡ phases.Going → (state (store_of first.scribe)).faults ≡ live.faults → length options.file.profile ≤ content_limit
       → IsReported options.limit options.lossless sources now history report → IsAll history report.writer → store ≡ store_of last.scribe
-      → IfSome note (λ n. (entries_of n ≡ entries_held last.board.directory) × (end_of n ≡ Some report.writer.end)) → (last.board.lost ≡ true → note ≡ None)
+      → (after : DirectoryState X) → SealsBoard last.board after report.writer.end note
       → RecordedBeside tells options (sides sources live) (sides now (state store)) report note
-  tape_beside size first mid last history given closing empty grown ended stands going still short reported all stored told lost = record {
+  tape_beside size first mid last history given closing empty grown ended stands going still short reported all stored after seals = record {
     recorded = record {
       history = history;
       feeds = reported.feeds;
@@ -149,16 +174,13 @@ module _ {L X : Type 0} (state : L → LiveState) (tells : X → Option (List �
       writer = subst (λ (l : L). WriterRecorded options.file live (state l) history report.writer) (sym stored)
           (scribe_recorded state tells size first mid last history given closing report.writer empty grown ended options live stands going still all);
     };
-    end_is = λ n is. (told_of note n _ is told).1;
-    blocks_are = λ n is.
-        let whole = is_false last.board.lost (λ gone. none-some n (sym (lost gone) ∙ is)) in
-        told_blocks state tells size first mid last history given closing report.writer empty grown ended options live stands going short n (told_of note n _ is told).0 whole;
+    shows = shows_blocks state tells size first mid last history given closing report.writer empty grown ended options live stands going short after note seals;
   }
 
   -- nothing was begun, and the directory told no block
   pub nothing_beside : (stop : Stop) → length options.file.profile ≤ content_limit → IsReported options.limit options.lossless sources now [] report
       → report.writer ≡ record { records = 0; blocks = 0; bytes = 0; end = ends.Stopped stop } → StopsAt options.file [] [] live.held (state store).held stop (numbers 0 0)
-      → StopCause live.faults (state store).faults stop → IfSome note (λ n. (entries_of n ≡ []) × (end_of n ≡ Some (ends.Stopped stop)))
+      → StopCause live.faults (state store).faults stop → (entries_of note ≡ []) × ((end : End) → end_of note ≡ Some end → end ≡ ends.Stopped stop)
       → RecordedBeside tells options (sides sources live) (sides now (state store)) report note
   nothing_beside stop short reported written stops cause told =
       let none : WriterReport = record { records = 0; blocks = 0; bytes = 0; end = ends.Stopped stop } in
@@ -179,15 +201,17 @@ module _ {L X : Type 0} (state : L → LiveState) (tells : X → Option (List �
             cause = cause;
           });
         };
-        end_is = λ n is. (told_of note n _ is told).1 ∙ ap (λ (w : WriterReport). Some w.end) (sym written);
-        blocks_are = λ n is.
-            subst (λ (l : List (Entry X)). AreBlockEntries tells options.file live [] report.writer l) (sym (told_of note n _ is told).0)
-            (subst (λ (w : WriterReport). AreBlockEntries tells options.file live [] w []) (sym written) (record {
-              pieces = [];
-              first = record { more = []; first = refl; within = front_within options.file short };
-              each = tt;
-              tell = λ held is. ([], tt);
-              many = refl;
-              all = λ closed. refl;
-            }));
+        shows = record {
+          given = [];
+          blocks_are = subst (λ (w : WriterReport). AreBlockEntries tells options.file live [] w []) (sym written) (record {
+            pieces = [];
+            first = record { more = []; first = refl; within = front_within options.file short };
+            each = tt;
+            tell = λ held is. ([], tt);
+            many = refl;
+            all = λ closed. refl;
+          });
+          first = ([], append-nil (entries_of note) ∙ told.0);
+          sealed = λ end is. (told.1 end is ∙ ap (λ (w : WriterReport). w.end) (sym written), told.0);
+        };
       }

@@ -1,8 +1,9 @@
 -- What all watchers of a recording come to together.
 use Rattle.std.proofs.Common.{◌≡◌, ℕ, zero, suc, List, [], ◌∷◌, map, Option, Some, None, Ok, Err, refl, sym, ap, subst, inl, inr, ◌∙◌, arith}
-use Rattle.std.specs.Prelude.{Bool, true, false, Result, IsSome, is_some}
+use Rattle.std.specs.Prelude.{Bool, true, false, Result, is_some}
 use Rattle.std.specs.List.{AllZip, concat}
 use Rattle.mcap_io.specs.Outside.{SourceState, LiveState, SinkState}
+use Rattle.mcap_model.specs.declared.ends.End.{End}
 use Rattle.mcap_model.specs.declared.replay.Range.{Range}
 use Rattle.mcap_model.specs.Places.{Each}
 use Rattle.mcap_model.proofs.Places.{at_none}
@@ -12,7 +13,7 @@ use Rattle.feed_lane.specs.Steps.{ListsMessages}
 use Rattle.feed_lane.specs.Lanes.{InStep}
 use Rattle.live_directory.specs.declared.front.Added.{Added}
 use Rattle.live_directory.specs.Reading.{unread}
-use Rattle.live_directory.specs.Published.{at_most_one}
+use Rattle.live_directory.specs.Published.{end_of, at_most_one}
 use Rattle.mcap_model.specs.declared.options.RecordOptions.{RecordOptions}
 use Rattle.recorder.specs.declared.report.Report.{Report}
 use Rattle.recorder.specs.Recorded.{Sides, sides, Recorded}
@@ -21,8 +22,8 @@ use Rattle.live_watcher.specs.Watching.{WatcherState, new_watcher}
 use Rattle.live_watcher.specs.WatcherSteps.{WatchedSince}
 use Rattle.live_watcher.proofs.Steps.{new_watched}
 use Rattle.live_recording.specs.declared.seats.Unviewed.{Unviewed}
-use Rattle.live_recording.specs.Watched.{IsUnviewed, Watch, WatchTells, IsWatched, AsksView, AsksViews}
-use Rattle.live_recording.specs.WatchedSteps.{RecordedBeside, SeenWatching, RecordedWatched, LeftState, SeatRuns, SeatEnds, SeatMade, SeatsMade, SeatsEnd}
+use Rattle.live_recording.specs.Watched.{IsUnviewed, Watch, AsksView, AsksViews}
+use Rattle.live_recording.specs.WatchedSteps.{WatchTells, IsWatched, RecordedBeside, SeenWatching, RecordedWatched, LeftState, SeatRuns, SeatEnds, SeatMade, SeatsMade, SeatsEnd}
 
 -- ---- lists
 
@@ -48,7 +49,7 @@ listed_so listed report r is it = subst (λ (x : Report). Each (λ (f : FeedRepo
 
 -- ---- one watcher
 
-module _ {X K : Type 0} (tells : X → Option (List ℕ)) (state : K → SinkState) (range : Range) (told : Option (List (Added X))) where
+module _ {X K : Type 0} (tells : X → Option (List ℕ)) (state : K → SinkState) (range : Range) (told : List (Added X)) where
   abbrev Seat : Type 0
   Seat = Result (WatcherState X) (Unviewed K)
 
@@ -115,16 +116,17 @@ module _ {X K : Type 0} (tells : X → Option (List ℕ)) (state : K → SinkSta
 
   -- ---- the whole
 
-  told_sealed : (o : Option (List (Added X))) (sealed : Bool) → sealed ≡ is_some o → sealed ≡ true → IsSome o
-  told_sealed o sealed is yes_sealed = sym is ∙ yes_sealed
+  told_sealed : (o : Option End) (end : End) (sealed : Bool) → sealed ≡ is_some o → ((other : End) → o ≡ Some other → other ≡ end) → sealed ≡ true → o ≡ Some end
+  told_sealed None end sealed is same yes_sealed = absurd (cc (is, yes_sealed))
+  told_sealed (Some other) end sealed is same yes_sealed = ap (λ (e : End). Some e) (same other refl)
 
-  told_unsealed : (o : Option (List (Added X))) (sealed : Bool) → sealed ≡ is_some o → sealed ≡ false → o ≡ None
+  told_unsealed : (o : Option End) (sealed : Bool) → sealed ≡ is_some o → sealed ≡ false → o ≡ None
   told_unsealed None sealed is not_sealed = refl
-  told_unsealed (Some note) sealed is not_sealed = absurd (cc (is, not_sealed))
+  told_unsealed (Some end) sealed is not_sealed = absurd (cc (is, not_sealed))
 
   pub watched_so : (options : RecordOptions) (before now : Sides) (viewed : LiveState) (sinks : List K) (seats ran : List Seat) (report r : Report) (it : SeenWatching) → Some report ≡ Some r
       → it.handed ≡ map state sinks → (sinks ≡ [] → ⊥) → SeatsMade state range before.live sinks viewed seats → InStep (SeatRuns tells) seats ran → SeatsEnd tells state told ran it.sinks it.views it.reports
-      → RecordedBeside tells options (sides before.sources viewed) now report told → it.sealed ≡ is_some told → RecordedWatched tells options range before now r it
+      → RecordedBeside tells options (sides before.sources viewed) now report told → it.sealed ≡ is_some (end_of told) → RecordedWatched tells options range before now r it
   watched_so options before now viewed sinks seats ran report r it is handed some made runs ends recorded sealed =
       let all : AllTold before.live sinks viewed ends.left = all_told before.live viewed sinks seats ran ends.left made (zipped (SeatRuns tells) seats ran runs) ends.each in
       subst (λ (x : Report). RecordedWatched tells options range before now x it) (same_some is) (record {
@@ -138,22 +140,16 @@ module _ {X K : Type 0} (tells : X → Option (List ℕ)) (state : K → SinkSta
         viewed = viewed;
         asked = all.asked;
         note = told;
-        recorded = recorded;
+        recorded = recorded.recorded;
+        shows = λ some. recorded.shows;
         each = all.each;
-        sealed = λ is. inr (told_sealed told it.sealed sealed is);
-        unsealed = λ is. (λ none. some (none_mapped state sinks (sym handed ∙ none)), told_unsealed told it.sealed sealed is);
+        sealed = λ is. inr (told_sealed (end_of told) report.writer.end it.sealed sealed (λ end ends. (recorded.shows.sealed end ends).0) is);
+        unsealed = λ is. (λ none. some (none_mapped state sinks (sym handed ∙ none)), told_unsealed (end_of told) it.sealed sealed is);
       })
 
 -- ---- a recording without watchers
 
 module _ {X : Type 0} (tells : X → Option (List ℕ)) where
-  unsaid : (options : RecordOptions) (before now : Sides) (r : Report) → Recorded options before now r → RecordedBeside tells options before now r None
-  unsaid options before now r recorded = record {
-    recorded = recorded;
-    end_is = λ note is. absurd (cc is);
-    blocks_are = λ note is. absurd (cc is);
-  }
-
   pub alone_so : (options : RecordOptions) (range : Range) (sources : List SourceState) (live : LiveState) (now : Sides) (r : Report) (it : SeenWatching)
       → Recorded options (sides sources live) now r → it.handed ≡ [] → it.sinks ≡ it.handed → it.views ≡ [] → it.reports ≡ [] → it.sealed ≡ true
       → RecordedWatched tells options range (sides sources live) now r it
@@ -162,8 +158,9 @@ module _ {X : Type 0} (tells : X → Option (List ℕ)) where
     are = record { before_are = none; now_are = same ∙ none; views_are = views; reports_are = reports };
     viewed = live;
     asked = refl;
-    note = None;
-    recorded = unsaid options (sides sources live) now r recorded;
+    note = [];
+    recorded = recorded;
+    shows = λ some. absurd (some none);
     each = λ n w at. absurd (at_none n w at);
     sealed = λ is. inl none;
     unsealed = λ is. absurd (cc (is, sealed));

@@ -1,16 +1,18 @@
 -- What a tape that publishes its blocks did.
-use Rattle.std.specs.Prelude.{◌≡◌, ℕ, ◌+◌, ◌≤◌, List, [], ◌++◌, length, Bool, true, false, Option, Some, None, Result}
-use Rattle.std.proofs.Common.{refl, sym, ap, ◌∙◌, append-nil, append_assoc, length-append}
+use Rattle.std.specs.Prelude.{◌≡◌, ◌⊎◌, ℕ, ◌+◌, ◌≤◌, List, [], ◌∷◌, ◌++◌, length, Bool, true, false, Option, Some, None, Result}
+use Rattle.std.proofs.Common.{refl, sym, ap, ◌∙◌, inl, inr, append-nil, append_assoc, length-append}
 use Rattle.std.proofs.Math.Nat.{add-zero, add_assoc}
 use Rattle.std.proofs.lemmas.Bool.{false≢true}
 use Rattle.mcap_wire.specs.Limits.{chunk_size_limit}
 use Rattle.rec_data.specs.declared.owned.Rec.{Rec}
 use Rattle.mcap_io.specs.Outside.{LiveState}
 use Rattle.mcap_model.specs.declared.options.FileOptions.{FileOptions}
+use Rattle.mcap_model.specs.declared.ends.End.{End}
 use Rattle.mcap_model.specs.declared.ends.Stop.{Stop}
 use Rattle.live_entry.specs.declared.entry.Entry.{Entry}
+use Rattle.live_directory.specs.declared.front.Added.{Added}
 use Rattle.live_directory.specs.Published.{entries_of, end_of, at_most_one}
-use Rattle.live_directory.specs.Writing.{DirectoryState, empty_directory}
+use Rattle.live_directory.specs.Writing.{DirectoryState, Seals, StaysUnsealed, empty_directory}
 use Rattle.chunk_writer.specs.declared.phase.Phase.TheVariants as phases
 use Rattle.chunk_writer.specs.declared.scribe.Scribe.{Scribe}
 use Rattle.chunk_writer.specs.declared.tape.Written.{Written}
@@ -34,17 +36,19 @@ empty_board = record { directory = empty_directory; short = false; lost = false 
 abbrev pub entries_held : {X : Type 0} → DirectoryState X → List (Entry X)
 entries_held d = entries_of d.shown ++ d.pending
 
--- the tape knows whether memory lacked, and where it didn't readers find all entries that were given
+-- the tape knows whether memory lacked: where it did entries are pending for that, and else readers find all that were given
 pub record KnowsLack {X : Type 0} (b : Board X) : Type 0 where
   pub short : b.short ≡ b.directory.short
   pub all : b.short ≡ false → (b.lost ≡ false) × (b.directory.pending ≡ [])
+  pub some : b.short ≡ true → b.directory.pending ≡ [] → ⊥
 
 -- These entries were given, and stand behind the earlier ones, each once and in their order: all of them, unless some were
--- lost, and those are the last.
+-- lost, and those are the last. Entries are lost only behind others that are pending, since memory lacked for these.
 pub record GivesTo {X : Type 0} (before now : Board X) (given : List (Entry X)) : Type 0 where
   pub missing : List (Entry X)
   pub held : entries_held now.directory ++ missing ≡ entries_held before.directory ++ given
   pub whole : now.lost ≡ false → missing ≡ []
+  pub lost_so : now.lost ≡ true → (before.lost ≡ true) ⊎ ((missing ≡ [] → ⊥) × (now.directory.pending ≡ [] → ⊥))
   pub stays : before.lost ≡ true → (now.directory ≡ before.directory) × (now.lost ≡ true)
   pub unsealed : end_of before.directory.shown ≡ None → end_of now.directory.shown ≡ None
   pub known : KnowsLack before → KnowsLack now
@@ -54,16 +58,39 @@ gives_none b = record {
   missing = [];
   held = refl;
   whole = λ is. refl;
+  lost_so = λ is. inl is;
   stays = λ is. (refl, is);
   unsealed = λ is. is;
   known = λ is. is;
 }
 
+none_joined : {A : Type 0} (xs ys : List A) → xs ++ ys ≡ [] → xs ≡ []
+none_joined [] ys is = refl
+none_joined (x ∷ xs) ys is = absurd (cc is)
+
 module _ {X : Type 0} (one two three : Board X) (a b : List (Entry X)) (first : GivesTo one two a)
     (second : GivesTo two three b) where
+  -- where none were lost in the first call, they were in the second
+  lost_behind : (two.lost ≡ false) → (two.lost ≡ true)
+      ⊎ ((second.missing ≡ [] → ⊥) × (three.directory.pending ≡ [] → ⊥))
+      → (one.lost ≡ true) ⊎ ((second.missing ≡ [] → ⊥) × (three.directory.pending ≡ [] → ⊥))
+  lost_behind is (inl lost) = absurd (false≢true (sym is ∙ lost))
+  lost_behind is (inr so) = inr so
+
+  -- those that were lost in the first are missing, whatever else is
+  lost_before : three.directory ≡ two.directory → (one.lost ≡ true)
+      ⊎ ((first.missing ≡ [] → ⊥) × (two.directory.pending ≡ [] → ⊥))
+      → (one.lost ≡ true) ⊎ ((first.missing ++ b ≡ [] → ⊥) × (three.directory.pending ≡ [] → ⊥))
+  lost_before same (inl lost) = inl lost
+  lost_before same (inr so) = inr (
+    λ none. so.0 (none_joined first.missing b none),
+    λ none. so.1 (ap (λ (d : DirectoryState X). d.pending) (sym same) ∙ none),
+  )
+
   gives_both : (lost : Bool) → two.lost ≡ lost
       → (missing : List (Entry X)) × (entries_held three.directory ++ missing ≡ entries_held one.directory ++ (a ++ b))
       × (three.lost ≡ false → missing ≡ [])
+      × (three.lost ≡ true → (one.lost ≡ true) ⊎ ((missing ≡ [] → ⊥) × (three.directory.pending ≡ [] → ⊥)))
   gives_both false is =
       let all : entries_held two.directory
       ≡ entries_held one.directory ++ a = sym (append-nil (entries_held two.directory))
@@ -71,6 +98,7 @@ module _ {X : Type 0} (one two three : Board X) (a b : List (Entry X)) (first : 
         second.missing,
         second.held ∙ ap (λ (l : List (Entry X)). l ++ b) all ∙ append_assoc (entries_held one.directory) a b,
         second.whole,
+        λ lost. lost_behind is (second.lost_so lost),
       )
   gives_both true is =
       let (same, lost) = second.stays is in (
@@ -79,15 +107,17 @@ module _ {X : Type 0} (one two three : Board X) (a b : List (Entry X)) (first : 
             ∙ sym (append_assoc (entries_held two.directory) first.missing b)
             ∙ ap (λ (l : List (Entry X)). l ++ b) first.held ∙ append_assoc (entries_held one.directory) a b,
         λ whole. absurd (false≢true (sym whole ∙ lost)),
+        λ still. lost_before same (first.lost_so is),
       )
 
   pub gives_on : GivesTo one three (a ++ b)
   gives_on =
-      let (missing, held, whole) = gives_both two.lost refl in
+      let (missing, held, whole, lost_so) = gives_both two.lost refl in
       record {
         missing = missing;
         held = held;
         whole = whole;
+        lost_so = lost_so;
         stays = λ is.
             let (same, lost) = first.stays is in
             let (later, still) = second.stays lost in
@@ -95,6 +125,16 @@ module _ {X : Type 0} (one two three : Board X) (a b : List (Entry X)) (first : 
         unsealed = λ is. second.unsealed (first.unsealed is);
         known = λ is. second.known (first.known is);
       }
+
+-- What a try to seal a directory with that end did, and the note of it: it was sealed; or memory lacked, and the note is all that
+-- readers find.
+abbrev pub TriesSeal : {X : Type 0} → DirectoryState X → DirectoryState X → End → List (Added X) → Type 0
+TriesSeal before now end note = Seals before now end note ⊎ ((note ≡ before.shown) × StaysUnsealed before now)
+
+-- The same of a tape: only where entries were lost it wasn't tried.
+abbrev pub SealsBoard : {X : Type 0} → Board X → DirectoryState X → End → List (Added X) → Type 0
+SealsBoard before now end note = ((before.lost ≡ false) × TriesSeal before.directory now end note)
+    ⊎ ((before.lost ≡ true) × (note ≡ before.directory.shown) × (now ≡ before.directory))
 
 -- ---- a tape that publishes
 

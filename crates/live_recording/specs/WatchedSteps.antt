@@ -1,5 +1,6 @@
 -- The steps of a recording that is watched, and what holds of it all.
-use Rattle.std.specs.Prelude.{◌≡◌, ℕ, List, true, Option, Some, ◌⊎◌, ◌≤◌, [], ◌∷◌, length, map, Bool, false, None, Result, Ok, Err, IsSome}
+use Rattle.std.specs.Prelude.{◌≡◌, ℕ, List, true, Option, Some, ◌⊎◌, ◌≤◌, [], ◌∷◌, length, map, Bool, false, None, Result, Ok, Err}
+use mathlib.Core.List.{IsPrefix}
 use Rattle.mcap_model.specs.declared.replay.Range.{Range}
 use Rattle.mcap_model.specs.Places.{Each}
 use Rattle.mcap_model.specs.declared.options.RecordOptions.{RecordOptions}
@@ -9,6 +10,7 @@ use Rattle.live_recording.specs.Files.{IsWatchedFile}
 use Rattle.std.specs.List.{AllZip, concat}
 use Rattle.rec_data.specs.declared.owned.Rec.{Rec}
 use Rattle.mcap_io.specs.Outside.{LiveState, SinkState, RisesOnce}
+use Rattle.mcap_model.specs.declared.ends.End.{End}
 use Rattle.mcap_model.specs.declared.ends.End.TheVariants as ends
 use Rattle.mcap_model.specs.declared.options.FileOptions.{FileOptions}
 use Rattle.mcap_model.specs.Blocks.{Piece, pieces_of}
@@ -21,10 +23,11 @@ use Rattle.live_directory.specs.Reading.{unread}
 use Rattle.recorder.specs.declared.report.WriterReport.{WriterReport}
 use Rattle.recorder.specs.Entries.{IsEntryThere, AreFirst}
 use Rattle.live_watcher.specs.declared.report.WatchReport.{WatchReport}
-use Rattle.live_watcher.specs.Watching.{WatcherState, new_watcher, written_by}
+use Rattle.live_watcher.specs.Text.{SealState, sealed_by, unsealed}
+use Rattle.live_watcher.specs.Watching.{Written, WatcherState, new_watcher, written_by, Watches}
 use Rattle.live_watcher.specs.WatcherSteps.{WatchedSince}
 use Rattle.live_recording.specs.declared.seats.Unviewed.{Unviewed}
-use Rattle.live_recording.specs.Watched.{WatcherWrites, IsUnviewed, Watch, IsWatched, AsksViews}
+use Rattle.live_recording.specs.Watched.{IsUnviewed, Watch, AsksViews}
 
 -- ---- what was told
 
@@ -39,16 +42,44 @@ pub record AreBlockEntries {X : Type 0} (tells : X → Option (List ℕ)) (optio
   pub many : length entries ≡ w.blocks
   pub all : w.end ≡ ends.Closed → pieces ≡ pieces_of options.chunk options.span history
 
--- What a recording beside a directory came to; and what the directory told at its seal, if it was sealed: the blocks of the
--- history, and how its writer ended.
+-- What a directory showed in the end: first blocks of the history; and all, with how the writer ended, where it was sealed.
+pub record ShowsBlocks {X : Type 0} (tells : X → Option (List ℕ)) (options : FileOptions) (before : LiveState)
+    (history : List Rec) (w : WriterReport) (note : List (Added X)) : Type 0 where
+  pub given : List (Entry X)
+  pub blocks_are : AreBlockEntries tells options before history w given
+  pub first : IsPrefix (entries_of note) given
+  pub sealed : (end : End) → end_of note ≡ Some end → (end ≡ w.end) × (entries_of note ≡ given)
+
+-- What a recording beside a directory came to, and what the directory showed of it.
 pub record RecordedBeside {X : Type 0} (tells : X → Option (List ℕ)) (options : RecordOptions) (before now : Sides)
-    (r : Report) (told : Option (List (Added X))) : Type 0 where
+    (r : Report) (note : List (Added X)) : Type 0 where
   pub recorded : Recorded options before now r
-  pub end_is : (note : List (Added X)) → told ≡ Some note → end_of note ≡ Some r.writer.end
-  pub blocks_are : (note : List (Added X)) → told ≡ Some note
-      → AreBlockEntries tells options.file before.live recorded.history r.writer (entries_of note)
+  pub shows : ShowsBlocks tells options.file before.live recorded.history r.writer note
 
 -- ---- a watcher
+
+-- how a directory is seen to end that shows this: with the end of its seal, or unsealed
+abbrev pub seal_by : Option End → SealState
+seal_by None = unsealed
+seal_by (Some end) = sealed_by end
+
+abbrev pub seal_of : {X : Type 0} → List (Added X) → SealState
+seal_of note = seal_by (end_of note)
+
+-- Since it was new, a watcher has written this of the blocks that the directory showed in the end.
+abbrev pub WatcherWrites : {X : Type 0} → (X → Option (List ℕ)) → List (Added X) → WatcherState X → Written → Type 0
+WatcherWrites tells note first written =
+    Watches tells first.range (entries_of note) (seal_of note) first.written written
+
+-- it wrote all that it had to; or it got no view, and its sink is as it was
+abbrev pub WatchTells : {X : Type 0} → (X → Option (List ℕ)) → Range → List (Added X) → SinkState → SinkState
+    → Option ℕ → WatchReport → Type 0
+WatchTells tells range note before now (Some failures) report =
+    WatcherWrites tells note (new_watcher unread range before 0) (written_by now failures report)
+WatchTells tells range note before now None report = now ≡ before
+
+abbrev pub IsWatched : {X : Type 0} → (X → Option (List ℕ)) → Range → List (Added X) → Watch → Type 0
+IsWatched tells range note w = WatchTells tells range note w.before w.now w.view w.report
 
 -- These are the watchers of a recording: their sinks, the failures of the views that came back, and their reports, each in
 -- the same order.
@@ -71,18 +102,20 @@ pub record SeenWatching : Type 0 where
   pub sealed : Bool
 
 -- What a recording with watchers came to: the store was asked for their views first, and what the recording did is said from
--- there on; each watcher wrote of what was told at the seal. It is told as unsealed only where there are watchers and no seal.
+-- there on; each watcher wrote of what the directory showed in the end. It is told as unsealed only where there are watchers and
+-- no seal.
 pub record RecordedWatched {X : Type 0} (tells : X → Option (List ℕ)) (options : RecordOptions) (range : Range)
     (before now : Sides) (r : Report) (told : SeenWatching) : Type 0 where
   pub watches : List Watch
   pub are : AreWatches watches told.handed told.sinks told.views told.reports
   pub viewed : LiveState
   pub asked : AsksViews before.live watches viewed
-  pub note : Option (List (Added X))
-  pub recorded : RecordedBeside tells options (sides before.sources viewed) now r note
+  pub note : List (Added X)
+  pub recorded : Recorded options (sides before.sources viewed) now r
+  pub shows : (told.handed ≡ [] → ⊥) → ShowsBlocks tells options.file viewed recorded.history r.writer note
   pub each : Each (IsWatched tells range note) watches
-  pub sealed : told.sealed ≡ true → (told.handed ≡ []) ⊎ IsSome note
-  pub unsealed : told.sealed ≡ false → (told.handed ≡ [] → ⊥) × (note ≡ None)
+  pub sealed : told.sealed ≡ true → (told.handed ≡ []) ⊎ (end_of note ≡ Some r.writer.end)
+  pub unsealed : told.sealed ≡ false → (told.handed ≡ [] → ⊥) × (end_of note ≡ None)
 
 -- ---- inside
 
@@ -106,7 +139,7 @@ SeatRuns tells (Ok before) (Err none) = ⊥
 SeatRuns tells (Err none) now = now ≡ Err none
 
 -- a watcher has finished, and this is what is left of it; of a sink without one the sink
-abbrev pub SeatEnds : {X K : Type 0} → (X → Option (List ℕ)) → (K → SinkState) → Option (List (Added X))
+abbrev pub SeatEnds : {X K : Type 0} → (X → Option (List ℕ)) → (K → SinkState) → List (Added X)
     → Result (WatcherState X) (Unviewed K) → SinkState → Option ℕ → WatchReport → Type 0
 SeatEnds {X} tells state told (Ok last) now (Some failures) report = (first : WatcherState X)
     → WatchedSince tells first last → WatcherWrites tells told first (written_by now failures report)
@@ -133,7 +166,7 @@ SeatsMade state range before (sink ∷ sinks) now (seat ∷ seats) = (mid : Live
 
 -- all watchers have finished: this is left of them, in their order
 pub record SeatsEnd {X K : Type 0} (tells : X → Option (List ℕ)) (state : K → SinkState)
-    (told : Option (List (Added X))) (seats : List (Result (WatcherState X) (Unviewed K))) (sinks : List SinkState)
+    (told : List (Added X)) (seats : List (Result (WatcherState X) (Unviewed K))) (sinks : List SinkState)
     (views : List ℕ) (reports : List WatchReport) : Type 0 where
   pub left : List LeftState
   pub each : AllZip
@@ -145,10 +178,10 @@ pub record SeatsEnd {X K : Type 0} (tells : X → Option (List ℕ)) (state : K 
 
 -- ---- the files of watchers
 
--- Where a recording in chunks was sealed, and its store told what it held before, each watcher wrote of the file of the
--- history: the line of a front is that of the file up to that block, and the lines of the end are those of all its blocks.
+-- Where a recording in chunks had a store that told what it held before, each watcher wrote of the file of the history: the line of
+-- a front is that of the file up to that block, and the lines of the end are those of all its blocks.
 abbrev pub WatchFilesAreTold : {X : Type 0} → (X → Option (List ℕ)) → Type 0
 WatchFilesAreTold {X} tells = (options : RecordOptions) (range : Range) (before now : Sides) (r : Report)
     (told : SeenWatching) → (it : RecordedWatched tells options range before now r told) → AreReadable options.file
-    → (size : ℕ) → options.file.chunk ≡ Some size → (held : List ℕ) → before.live.held ≡ Some held → told.sealed ≡ true
-    → Each (IsWatchedFile options.file range it.recorded.recorded.history r.writer) it.watches
+    → (size : ℕ) → options.file.chunk ≡ Some size → (held : List ℕ) → before.live.held ≡ Some held
+    → Each (IsWatchedFile options.file range it.recorded.history r.writer told.sealed) it.watches

@@ -1,10 +1,8 @@
 //! The lanes and the writer of a recording, beside those who read its blocks.
-ghost use Rattle.std.specs.Prelude.{◌≡◌, ◌≤◌, [], length, map, vec_len, vec_capacity, Some, IfSome};
+ghost use Rattle.std.specs.Prelude.{◌≡◌, ◌≤◌, [], length, map, vec_len, vec_capacity};
 ghost use Rattle.std.specs.List.{AllZip};
 ghost use Rattle.mcap_wire.specs.Layout.{content_limit};
-ghost use Rattle.mcap_model.specs.declared.ends.End.{End as Last};
 ghost use Rattle.mcap_model.specs.Places.{Each};
-ghost use Rattle.live_directory.specs.Published.{end_of};
 ghost use Rattle.live_directory.specs.Writing.{empty_directory};
 ghost use Rattle.feed_lane.specs.Steps.{ListsMessages};
 ghost use Rattle.recorder.specs.Lanes.{AreReady};
@@ -12,7 +10,7 @@ ghost use Rattle.recorder.specs.Recorded.{sides};
 ghost use Rattle.live_recording.specs.WatchedSteps.{RecordedBeside};
 ghost use Rattle.live_recording.specs.Publishing.{IsChunked};
 
-use crate::publishing::{PublishingTape, Sealed};
+use crate::publishing::{PublishingTape, try_seal};
 use chunk_writer::Scribe;
 use live_directory::{Directory, Naming, Note};
 use live_entry::Entry;
@@ -25,13 +23,14 @@ use std::sync::atomic::AtomicBool;
 use std::sync::atomic::Ordering::SeqCst;
 use std::thread::Threads;
 
-/// A report, with the feeds and the store; and the note of the seal, if the directory was sealed.
+/// A report, with the feeds and the store; and the note of what the directory showed in the end, with the end of its seal, if it
+/// was sealed.
 #[derive(Drop)]
 pub(crate) struct Wrote<S, L, X: Extent, J: Naming> {
     pub report: Report,
     pub feeds: Vec<S>,
     pub live: L,
-    pub note: Option<Note<X, J>>,
+    pub note: Note<X, J>,
 }
 
 /// Records the feeds into the store and tells the directory of the blocks, seals it, and raises the flag.
@@ -70,7 +69,6 @@ pub(crate) fn write_beside<
         (sides (map S.state feeds.items) (L.state live)) (sides (map S.state result.feeds.items) (L.state result.live))
         result.report result.note }
     ensures listed { Each (λ f. ListsMessages f listed) result.report.feeds.items }
-    ensures sealed { IfSome result.note (λ told. (end : Last) × (end_of told ≡ Some end)) }
 {
     match Scribe::open(alloc, live, &options.file) {
         Ok(scribe) => {
@@ -86,9 +84,10 @@ pub(crate) fn write_beside<
             let Ran {
                 report,
                 feeds,
-                tape,
+                mut tape,
             } = ready.run_onto(rt, alloc, feeds, tape, listed);
-            let Sealed { live, note } = tape.seal(report.writer.end);
+            let note = tape.seal(report.writer.end);
+            let live = tape.into_store();
             tried.store(true, SeqCst);
             return Wrote {
                 report,
@@ -99,7 +98,7 @@ pub(crate) fn write_beside<
         }
         Err((live, why)) => {
             let Unwritten { report, feeds } = ready.run_unopened(rt, alloc, feeds, why, listed);
-            let note = directory.seal(rt, End::Stopped { stop: why }).ok();
+            let note = try_seal(rt, directory, End::Stopped { stop: why });
             tried.store(true, SeqCst);
             return Wrote {
                 report,

@@ -8,5 +8,5 @@ mod publishing;
 mod recording;
 mod seats;
 
-pub use publishing::{PublishingTape, Sealed, last_room};
+pub use publishing::{PublishingTape, last_room};
 pub use recording::{WatchedRecording, record_watched};

@@ -1,5 +1,5 @@
 //! A tape that publishes the blocks that it writes.
-ghost use Rattle.std.specs.Prelude.{◌≡◌, ◌≤◌, List, ◌++◌, length, true, false, None, Some, [], vec_capacity, IfOk, IfErr, IfSome};
+ghost use Rattle.std.specs.Prelude.{◌≡◌, ◌⊎◌, ◌≤◌, List, ◌++◌, length, true, false, None, [], vec_capacity, IfOk, IfErr};
 ghost use Rattle.mcap_wire.specs.Layout.{content_limit};
 ghost use Rattle.rec_data.specs.declared.owned.Rec.{Rec};
 ghost use Rattle.mcap_model.specs.Tops.{Top};
@@ -9,7 +9,7 @@ ghost use Rattle.live_directory.specs.Writing.{empty_directory};
 ghost use Rattle.chunk_writer.specs.declared.phase.Phase.TheVariants as phases;
 ghost use Rattle.chunk_writer.specs.Stops.{numbers, StopsAt, StopCause};
 ghost use Rattle.chunk_writer.specs.Scribes.{WritesHistory, store_of, phase_of};
-ghost use Rattle.live_recording.specs.Publishing.{KnowsLack, GivesTo, IsNewPublishing, entries_held, publishing, IsChunked};
+ghost use Rattle.live_recording.specs.Publishing.{KnowsLack, GivesTo, TriesSeal, SealsBoard, IsNewPublishing, publishing, IsChunked};
 
 use chunk_writer::{Finished, Phase, Scribe, Taken, Tape, Written};
 use live_directory::{Directory, Naming, Note};
@@ -33,6 +33,21 @@ pub fn last_room<X: Extent>(alloc: Global) -> Result<Vec<Entry<X>>, Memory>
     }
 }
 
+/// Seals a directory with that end. The note is that of the seal or, where memory lacked, of what readers find.
+pub(crate) fn try_seal<X: Extent, J: Naming, R: Wait>(
+    rt: &R,
+    directory: &mut Directory<X, J>,
+    end: End,
+) -> Note<X, J>
+    requires { end_of directory.old.shown ≡ None }
+    ensures { TriesSeal directory.old directory.new end result }
+{
+    match directory.seal(rt, end) {
+        Ok(note) => return note,
+        Err(Memory) => return directory.shown(),
+    }
+}
+
 /// A tape over a scribe of a file in chunks, which publishes each block's entry into a directory that is lent to it, once the
 /// store has taken the block; it hands none to its caller. Where memory lacks in publishing, what was to be published is
 /// pending there, and entries that are given later are lost. The directory is sealed by `seal` alone.
@@ -48,13 +63,6 @@ pub struct PublishingTape<'d, L: LiveStore, J: Naming, R: Wait> {
     pub short: bool,
     /// Whether entries were given behind that.
     pub lost: bool,
-}
-
-/// The store of a tape that was ended; and the note of the seal, if its directory was sealed.
-#[derive(Drop)]
-pub struct Sealed<L: LiveStore, J: Naming> {
-    pub live: L,
-    pub note: Option<Note<L::Extent, J>>,
 }
 
 impl<'d, L: LiveStore, J: Naming, R: Wait> PublishingTape<'d, L, J, R> {
@@ -100,34 +108,35 @@ impl<'d, L: LiveStore, J: Naming, R: Wait> PublishingTape<'d, L, J, R> {
     }
 
     /// Seals the directory with that end, unless entries were lost: then what is told there isn't all, and no end is told. The
-    /// store comes back, with the note of the seal.
-    pub fn seal(self, end: End) -> Sealed<L, J>
-        requires unsealed { end_of self.directory.now.shown ≡ None }
-        ensures store { result.live ≡ store_of self.entry.scribe }
-        ensures told { IfSome result.note (λ note. (entries_of note ≡ entries_held self.entry.directory.now)
-            × (end_of note ≡ Some end)) }
-        ensures lost { self.entry.lost ≡ true → result.note ≡ None }
+    /// note is all that readers find; it has the end where the directory was sealed.
+    pub fn seal(&mut self, end: End) -> Note<L::Extent, J>
+        requires unsealed { end_of self.old.directory.now.shown ≡ None }
+        ensures seals { SealsBoard (record
+            { directory = self.old.directory.now; short = self.old.short; lost = self.old.lost })
+            self.new.directory.now end result }
+        ensures scribe { self.new.scribe ≡ self.old.scribe }
+        ensures lent { self.new.directory.ghost_name ≡ self.old.directory.ghost_name }
+    {
+        if self.lost {
+            return self.directory.shown();
+        }
+        try_seal(self.rt, self.directory, end)
+    }
+
+    /// The store of a tape.
+    pub fn into_store(self) -> L
+        ensures { result ≡ store_of self.entry.scribe }
     {
         let PublishingTape {
             scribe,
-            directory,
-            rt,
+            directory: _directory,
+            rt: _rt,
             alloc: _,
-            room: _,
+            room: _room,
             short: _,
-            lost,
+            lost: _,
         } = self;
-        let live = scribe.into_store();
-        if lost {
-            return Sealed { live, note: None };
-        }
-        match directory.seal(rt, end) {
-            Ok(note) => return Sealed {
-                live,
-                note: Some(note),
-            },
-            Err(Memory) => return Sealed { live, note: None },
-        }
+        scribe.into_store()
     }
 
     // Publishes these entries, if there are any, behind those that were given before.
@@ -144,6 +153,9 @@ impl<'d, L: LiveStore, J: Naming, R: Wait> PublishingTape<'d, L, J, R> {
         ensures scribe { (self.new.scribe ≡ self.old.scribe) × (self.new.room ≡ self.old.room) }
         ensures lent { self.new.directory.ghost_name ≡ self.old.directory.ghost_name }
         ensures none { entries.items ≡ [] → self.new ≡ self.old }
+        // Entries are lost only in a later call than the one in which memory lacked.
+        ensures lost { self.new.lost ≡ true → (self.old.lost ≡ true)
+            ⊎ ((self.old.short ≡ true) × (entries.items ≡ [] → ⊥)) }
     {
         if entries.is_empty() {
             return;

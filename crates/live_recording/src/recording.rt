@@ -1,9 +1,8 @@
 //! Recording feeds into a store while watchers replay what is written.
-ghost use Rattle.std.specs.Prelude.{◌≡◌, ◌≤◌, [], length, map, vec_len, vec_capacity, None, Some, true, IfOk, IfSome};
+ghost use Rattle.std.specs.Prelude.{◌≡◌, ◌≤◌, [], length, map, vec_len, vec_capacity, None, Some, true, IfOk, is_some};
 ghost use Rattle.std.specs.List.{AllZip};
 ghost use Rattle.mcap_wire.specs.Layout.{content_limit};
 ghost use Rattle.mcap_wire.specs.RecordingLimits.{buffer_limit};
-ghost use Rattle.mcap_model.specs.declared.ends.End.{End as Last};
 ghost use Rattle.mcap_model.specs.Places.{Each};
 ghost use Rattle.chunk_writer.specs.Limits.{ChunkSizeFits};
 ghost use Rattle.feed_lane.specs.Steps.{ListsMessages};
@@ -122,6 +121,13 @@ fn alone<S, L: LiveStore, K>(
     }
 }
 
+// Whether the note has an end.
+fn is_sealed<X: Extent, J: Naming>(note: &Note<X, J>) -> bool
+    ensures { result ≡ is_some (end_of note.now) }
+{
+    note.front().end.is_some()
+}
+
 // Makes the watchers, runs them beside lanes and writer, and has them finish before the directory is closed.
 fn record_beside<
     't,
@@ -180,7 +186,7 @@ fn record_beside<
         ||
             ensures { InStep (SeatRuns (λ e. L.Extent.tells e)) seats.items result.items }
         { run_seats(rt, alloc, seats, &tried) },
-        || -> (Report, Vec<S>, L, Option<Note<L::Extent, J>>)
+        || -> (Report, Vec<S>, L, Note<L::Extent, J>)
             requires chunked { IsChunked options.now.file.chunk }
             requires profile { length options.now.file.profile ≤ content_limit }
             requires few { vec_len feeds ≤ 64 }
@@ -198,7 +204,6 @@ fn record_beside<
                 (sides (map S.state feeds.items) (L.state live)) (sides (map S.state result.1.items) (L.state result.2))
                 result.0 result.3 }
             ensures listed { Each (λ f. ListsMessages f listed) result.0.feeds.items }
-            ensures sealed { IfSome result.3 (λ told. (end : Last) × (end_of told ≡ Some end)) }
         {
             let Wrote {
                 report,
@@ -218,7 +223,7 @@ fn record_beside<
     } = finish_seats(rt, alloc, seats, &note, left);
     WatchedRecording {
         report: Some(report),
-        sealed: note.is_some(),
+        sealed: is_sealed(&note),
         watches: reports,
         feeds,
         live,

@@ -1,8 +1,7 @@
 //! The watchers of a recording, one for each sink that was handed in.
-ghost use Rattle.std.specs.Prelude.{◌≡◌, ◌<◌, ◌≤◌, ◌++◌, ◌∷◌, [], map, vec_len, vec_capacity, Ok, Some, IfOk, IfSome};
-ghost use Rattle.mcap_model.specs.declared.ends.End.{End as Last};
+ghost use Rattle.std.specs.Prelude.{◌≡◌, ◌<◌, ◌≤◌, ◌++◌, ◌∷◌, [], map, vec_len, vec_capacity, Ok, Some, IfOk};
 ghost use Rattle.feed_lane.specs.Lanes.{InStep};
-ghost use Rattle.live_directory.specs.Published.{end_of, at_most_one};
+ghost use Rattle.live_directory.specs.Published.{at_most_one};
 ghost use Rattle.live_directory.specs.Reading.{unread};
 ghost use Rattle.live_directory.specs.ReaderSteps.{AreUnread};
 ghost use Rattle.live_recording.specs.WatchedSteps.{failures_in, SeatRuns, SeatEnds, SeatMade, SeatsMade, SeatsEnd};
@@ -175,20 +174,19 @@ pub(crate) fn run_seats<
     seats
 }
 
-// Has a watcher finish, with the note of the seal, if there is one.
+// Has a watcher finish, with the note of what the directory showed in the end.
 fn finish_watcher<X: Extent, J: Naming, V: LiveView<X>, K: Sink, R: Wait>(
     rt: &R,
     alloc: Global,
     watcher: Watcher<X, J, V, K>,
-    note: &Option<Note<X, J>>,
+    note: &Note<X, J>,
 ) -> Watched<V, K>
-    requires sealed { IfSome note.now (λ told. (end : Last) × (end_of told ≡ Some end)) }
     ensures { SeatEnds X.tells K.state note.now (Ok watcher) (K.state result.sink) (Some (V.failures result.view))
         result.report }
 {
-    match note {
-        Some(told) => return watcher.finish(rt, alloc, told),
-        None => return watcher.finish_unsealed(),
+    match note.front().end {
+        Some(_) => return watcher.finish(rt, alloc, note),
+        None => return watcher.finish_unsealed(rt, note),
     }
 }
 
@@ -197,9 +195,8 @@ fn finish_seat<X: Extent, J: Naming, V: LiveView<X>, K: Sink, R: Wait>(
     rt: &R,
     alloc: Global,
     seat: Result<Watcher<X, J, V, K>, Unviewed<K>>,
-    note: &Option<Note<X, J>>,
+    note: &Note<X, J>,
 ) -> Left<V, K>
-    requires sealed { IfSome note.now (λ told. (end : Last) × (end_of told ≡ Some end)) }
     ensures { SeatEnds X.tells K.state note.now seat (K.state result.sink) (failures_in V.failures result.view)
         result.report }
 {
@@ -251,10 +248,9 @@ pub(crate) fn finish_seats<X: Extent, J: Naming, V: LiveView<X> + Drop, K: Sink 
     rt: &R,
     alloc: Global,
     seats: Vec<Result<Watcher<X, J, V, K>, Unviewed<K>>>,
-    note: &Option<Note<X, J>>,
+    note: &Note<X, J>,
     room: AllLeft<V, K>,
 ) -> AllLeft<V, K>
-    requires sealed { IfSome note.now (λ told. (end : Last) × (end_of told ≡ Some end)) }
     requires reports { (room.reports.items ≡ []) × (vec_len seats ≤ vec_capacity room.reports) }
     requires views { (room.views.items ≡ []) × (vec_len seats ≤ vec_capacity room.views) }
     requires sinks { (room.sinks.items ≡ []) × (vec_len seats ≤ vec_capacity room.sinks) }

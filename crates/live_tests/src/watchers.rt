@@ -69,7 +69,10 @@ fn watch_blocks<J: Naming, R: Wait>(
             Ok(note) => return Some(watcher.finish(rt, alloc, &note)),
             Err(_) => return None,
         },
-        None => return Some(watcher.finish_unsealed()),
+        None => {
+            let note = directory.shown();
+            return Some(watcher.finish_unsealed(rt, &note));
+        }
     }
 }
 

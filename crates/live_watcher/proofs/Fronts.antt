@@ -1,5 +1,5 @@
 -- The lines of fronts.
-use Rattle.std.proofs.Common.{◌≡◌, ℕ, ◌-◌, ◌*◌, ◌<◌, ◌≤◌, List, [], ◌∷◌, ◌++◌, length, take, Some, refl, sym, ap, subst, ◌∙◌, append_assoc, append-nil, arith}
+use Rattle.std.proofs.Common.{◌≡◌, ℕ, ◌-◌, ◌*◌, ◌<◌, ◌≤◌, List, [], ◌∷◌, ◌++◌, length, take, Some, inr, refl, sym, ap, subst, ◌∙◌, append_assoc, append-nil, arith}
 use Rattle.std.specs.Prelude.{slice_get, List, Option}
 use Rattle.std.specs.List.{AllZip, concat}
 use Rattle.std.proofs.lemmas.List.{take-append-le}
@@ -10,7 +10,7 @@ use Rattle.mcap_model.proofs.Repairs.{zip_join}
 use Rattle.live_entry.specs.declared.entry.Entry.{Entry}
 use Rattle.live_directory.proofs.Beginnings.{prefix_length}
 use Rattle.live_watcher.specs.Text.{Doubles, IsReplayText, FrontsTextOf}
-use Rattle.live_watcher.specs.WatcherSteps.{IsFrontLineOf}
+use Rattle.live_watcher.specs.WatcherSteps.{IsFrontLineOf, last_or, IsTold}
 
 -- ---- at least twice as many
 
@@ -79,3 +79,23 @@ module _ {X : Type 0} where
 
   pub no_fronts : (tells : X → Option (List ℕ)) (range : Range) (entries : List (Entry X)) → FrontsTextOf tells range entries [] []
   no_fronts tells range entries = record { rise = tt; lines = []; each = tt; text_is = refl }
+
+-- ---- what was told
+
+pub last_or_more : (n : ℕ) (fronts : List ℕ) (m : ℕ) → last_or n (fronts ++ m ∷ []) ≡ m
+last_or_more n [] m = refl
+last_or_more n (x ∷ xs) m = last_or_more x xs m
+
+last_or_at : (n : ℕ) (xs : List ℕ) → slice_get (n ∷ xs) (length xs) ≡ Some (last_or n xs)
+last_or_at n [] = refl
+last_or_at n (x ∷ xs) = last_or_at x xs
+
+pub last_or_is : (n : ℕ) (fronts : List ℕ) (last : ℕ) → 0 < length fronts → slice_get fronts (length fronts - 1) ≡ Some last → last_or n fronts ≡ last
+last_or_is n [] last some at = absurd (omega (arith, some))
+last_or_is n (x ∷ xs) last some at =
+    let place : length (x ∷ xs) - 1 ≡ length xs = omega arith in
+    same_Some (last_or x xs) last (sym (last_or_at x xs) ∙ subst (λ (k : ℕ). slice_get (x ∷ xs) k ≡ Some last) place at)
+
+-- behind a front with some blocks nothing is left of these
+pub told_by : (fronts : List ℕ) (blocks : ℕ) → 1 ≤ blocks → IsTold (fronts ++ blocks ∷ []) blocks
+told_by fronts blocks some = let last = last_or_more 0 fronts blocks in inr (omega (arith, some, last))

@@ -1,8 +1,8 @@
 -- What a watcher has written after a call, by what it had written before.
-use Rattle.std.proofs.Common.{◌≡◌, ℕ, List, [], ◌∷◌, ◌++◌, length, take, drop, Option, Some, None, Ok, Err, refl, sym, ap, subst, ◌∙◌, inl, inr, append-nil, arith}
+use Rattle.std.proofs.Common.{◌≡◌, ◌⊎◌, ℕ, List, [], ◌∷◌, ◌++◌, length, take, drop, Option, Some, None, Ok, Err, refl, sym, ap, subst, ◌∙◌, inl, inr, append-nil, arith}
 use Rattle.std.specs.List.{AllZip}
 use Rattle.std.proofs.lemmas.List.{take-append-drop}
-use Rattle.std.proofs.lemmas.Option.{same_Some}
+use Rattle.std.proofs.lemmas.Option.{same_Some, none-some}
 use mathlib.Core.List.{IsPrefix}
 use Rattle.mcap_io.specs.Outside.{SinkState, RisesOnce}
 use Rattle.mcap_model.specs.declared.ends.End.{End}
@@ -17,12 +17,12 @@ use Rattle.live_directory.specs.Histories.{published_front, AtLeast}
 use Rattle.live_directory.specs.Reading.{ReaderState}
 use Rattle.live_directory.specs.ReaderSteps.{Learns, Refreshes}
 use Rattle.live_directory.proofs.Beginnings.{prefix_trans, prefix_whole}
-use Rattle.live_directory.proofs.Histories.{entries_of-append}
+use Rattle.live_directory.proofs.Histories.{entries_of-append, end_of_front}
 use Rattle.live_watcher.specs.declared.report.WatchEnd.{WatchEnd}
 use Rattle.live_watcher.specs.declared.report.WatchEnd.TheVariants as watch_ends
 use Rattle.live_watcher.specs.Text.{SealState, undecided, sealed_by, unsealed, FrontsTextOf, WatchTextOf, replays_of, BeginsLine, none_more, of_front, of_end, WatchPartOf, unsealed_line}
-use Rattle.live_watcher.specs.WatcherSteps.{IsFrontLineOf, IsEndTextOf, WatchedSince, MayFollow}
-use Rattle.live_watcher.specs.Watching.{Written, WatcherState, IsQuiet, IsUntold, TakesSuchText, WritesTo, Watches, HoldsAllSealed, EndsUnsealed}
+use Rattle.live_watcher.specs.WatcherSteps.{IsFrontLineOf, IsEndTextOf, WatchedSince, MayFollow, EndsUnsealed}
+use Rattle.live_watcher.specs.Watching.{Written, WatcherState, IsQuiet, IsUntold, TakesSuchText, WritesTo, Watches, HoldsAllSealed}
 use Rattle.live_watcher.specs.Putting.{SinkAndView, sink_and_view, IsPartOf, PutsAll, PutsPiece, PutsBytes}
 use Rattle.live_watcher.proofs.Fronts.{fronts_lift, line_lift, fronts_more, no_fronts}
 use Rattle.live_watcher.proofs.Taking.{takes_more, takes_as, takes_none, takes_bytes, takes_part}
@@ -40,17 +40,11 @@ module _ {X : Type 0} (tells : X → Option (List ℕ)) (range : Range) where
   quiet_on : (first old new : Written) → IsQuiet first old → new.sink.faults ≡ old.sink.faults → new.failures ≡ old.failures → IsQuiet first new
   quiet_on first old new q sink view = record { sink = sink ∙ q.sink; view = view ∙ q.view }
 
-  -- only the fronts so far
-  no_more : (entries : List (Entry X)) (ending : SealState) (fronts : List ℕ) (first old : Option (List ℕ)) → TakesSuchText (FrontsTextOf tells range entries fronts) first old → TakesSuchText (WatchPartOf tells range entries fronts ending) first old
-  no_more entries ending fronts first old took =
-      takes_as (FrontsTextOf tells range entries fronts) (WatchPartOf tells range entries fronts ending) first old
-      (λ t f. subst (WatchPartOf tells range entries fronts ending) (append-nil t) (part_begins tells range entries fronts ending t [] f (none_more refl))) took
-
-  left_as : (entries : List (Entry X)) (ending : SealState) (first old new : Written) → TakesSuchText (FrontsTextOf tells range entries old.fronts) first.sink.took old.sink.took → new.sink ≡ old.sink → new.fronts ≡ old.fronts
-      → TakesSuchText (WatchPartOf tells range entries new.fronts ending) first.sink.took new.sink.took
-  left_as entries ending first old new took same fronts_are =
-      subst (λ (ns : List ℕ). TakesSuchText (WatchPartOf tells range entries ns ending) first.sink.took new.sink.took) (sym fronts_are)
-      (subst (λ (s : SinkState). TakesSuchText (WatchPartOf tells range entries old.fronts ending) first.sink.took s.took) (sym same) (no_more entries ending old.fronts first.sink.took old.sink.took took))
+  left_as : (entries : List (Entry X)) (first old new : Written) → TakesSuchText (FrontsTextOf tells range entries old.fronts) first.sink.took old.sink.took → new.sink ≡ old.sink → new.fronts ≡ old.fronts
+      → TakesSuchText (FrontsTextOf tells range entries new.fronts) first.sink.took new.sink.took
+  left_as entries first old new took same fronts_are =
+      subst (λ (ns : List ℕ). TakesSuchText (FrontsTextOf tells range entries ns) first.sink.took new.sink.took) (sym fronts_are)
+      (subst (λ (s : SinkState). TakesSuchText (FrontsTextOf tells range entries old.fronts) first.sink.took s.took) (sym same) took)
 
   begun_as : (entries : List (Entry X)) (ending : SealState) (fronts : List ℕ) (P : List ℕ → Type 0) (told : List ℕ) → ((told part piece : List ℕ) → FrontsTextOf tells range entries fronts told → P piece → IsPrefix part piece → BegunOf tells range entries fronts ending part)
       → FrontsTextOf tells range entries fronts told → (t : List ℕ) → IsPartOf P t → BegunOf tells range entries fronts ending t
@@ -66,21 +60,21 @@ module _ {X : Type 0} (tells : X → Option (List ℕ)) (range : Range) where
       let all : TakesSuchText (WatchPartOf tells range entries old.fronts ending) first.sink.took new.sink.took =
       takes_more (FrontsTextOf tells range entries old.fronts) (IsPartOf P) (WatchPartOf tells range entries old.fronts ending) first.sink.took old.sink.took new.sink.took
       (λ s t f p. part_begins tells range entries old.fronts ending s t f (begun_as entries ending old.fronts P s begins f t p)) took failed.1 in
-      subst (λ (w : WatchEnd). WritesTo tells range entries ending first new (Some w)) (sym fails.why_is) (
-        inl (subst (λ (n : ℕ). RisesOnce n new.sink.faults) quiet.sink fails.rises, refl, fails.view ∙ quiet.view),
+      subst (λ (w : WatchEnd). WritesTo tells range entries ending first new (Some w)) (sym fails.why_is) (inl (
+        (subst (λ (n : ℕ). RisesOnce n new.sink.faults) quiet.sink fails.rises, refl, fails.view ∙ quiet.view),
         subst (λ (ns : List ℕ). TakesSuchText (WatchPartOf tells range entries ns ending) first.sink.took new.sink.took) (sym fronts_are) all,
-      )
+      ))
   stopped entries ending first old new P (watch_ends.Fault faults) begins quiet took (inr lacks) fronts_are =
-      let same : new.sink ≡ old.sink = lacks.0 in (
-        inr (subst (λ (n : ℕ). RisesOnce n new.failures) quiet.view lacks.1.0, lacks.1.1, ap (λ (s : SinkState). s.faults) same ∙ quiet.sink),
-        left_as entries ending first old new took same fronts_are,
+      let same : new.sink ≡ old.sink = lacks.0 in inr (
+        (subst (λ (n : ℕ). RisesOnce n new.failures) quiet.view lacks.1.0, lacks.1.1, ap (λ (s : SinkState). s.faults) same ∙ quiet.sink),
+        left_as entries first old new took same fronts_are,
       )
   stopped entries ending first old new P (watch_ends.Flaw rule offset) begins quiet took (inr lacks) fronts_are =
       let same : new.sink ≡ old.sink = lacks.0 in
-      (quiet_on first old new quiet (ap (λ (s : SinkState). s.faults) same) lacks.1.0, lacks.1.1, left_as entries ending first old new took same fronts_are)
+      (quiet_on first old new quiet (ap (λ (s : SinkState). s.faults) same) lacks.1.0, lacks.1.1, left_as entries first old new took same fronts_are)
   stopped entries ending first old new P watch_ends.Memory begins quiet took (inr lacks) fronts_are =
       let same : new.sink ≡ old.sink = lacks.0 in
-      (quiet_on first old new quiet (ap (λ (s : SinkState). s.faults) same) lacks.1, left_as entries ending first old new took same fronts_are)
+      (quiet_on first old new quiet (ap (λ (s : SinkState). s.faults) same) lacks.1, left_as entries first old new took same fronts_are)
   stopped entries ending first old new P watch_ends.Whole begins quiet took (inr lacks) fronts_are = absurd lacks.1
   stopped entries ending first old new P watch_ends.Unsealed begins quiet took (inr lacks) fronts_are = absurd lacks.1
 
@@ -132,7 +126,7 @@ module _ {X : Type 0} (tells : X → Option (List ℕ)) where
         watches =
             subst (λ (wr : Written). Watches tells first.range new.reader.entries undecided first.written wr) (sym written_is)
             (subst (λ (es : List (Entry X)). WritesTo tells first.range es undecided first.written (record old.written { end = Some watch_ends.Memory }) (Some watch_ends.Memory)) (sym entries_are)
-            (quiet_on tells first.range first.written old.written (record old.written { end = Some watch_ends.Memory }) g.0 refl refl, no_more tells first.range old.reader.entries undecided old.written.fronts first.written.sink.took old.written.sink.took g.1));
+            (quiet_on tells first.range first.written old.written (record old.written { end = Some watch_ends.Memory }) g.0 refl refl, g.1));
       }
 
   -- the line of a front was written
@@ -262,7 +256,7 @@ module _ {X : Type 0} (tells : X → Option (List ℕ)) where
 
   -- ---- at the end
 
-  untold_lift : (few more : List (Entry X)) → IsPrefix few more → IsUntold tells few → IsUntold tells more
+  pub untold_lift : (few more : List (Entry X)) → IsPrefix few more → IsUntold tells few → IsUntold tells more
   untold_lift few more p untold stored told =
       let parts = zip_parts (IsStored tells) few p.0 stored (subst (λ (es : List (Entry X)). AllZip (IsStored tells) es stored) (sym p.1) told) in
       untold parts.0 parts.3
@@ -272,28 +266,52 @@ module _ {X : Type 0} (tells : X → Option (List ℕ)) where
   begun_lift range few more fronts ending part p (of_front n line rises is prefix) = of_front n line rises (line_lift tells range few more n line p is) prefix
   begun_lift range few more fronts ending part p (of_end line is prefix) = absurd is
 
-  part_lift : (range : Range) (few more : List (Entry X)) (fronts : List ℕ) (ending : SealState) (text : List ℕ) → IsPrefix few more → WatchPartOf tells range few fronts undecided text → WatchPartOf tells range more fronts ending text
-  part_lift range few more fronts ending text p w = record {
-    told = w.told;
-    part = w.part;
-    fronts_are = fronts_lift tells range few more fronts w.told p w.fronts_are;
-    begun = begun_lift range few more fronts ending w.part p w.begun;
-    text_is = w.text_is;
-  }
+  begun_still : (range : Range) (few more : List (Entry X)) (fronts part : List ℕ) → IsPrefix few more → BegunOf tells range few fronts unsealed part → BegunOf tells range more fronts unsealed part
+  begun_still range few more fronts part p (none_more none) = none_more none
+  begun_still range few more fronts part p (of_front n line rises is prefix) = of_front n line rises (line_lift tells range few more n line p is) prefix
+  begun_still range few more fronts part p (of_end line is prefix) = of_end line is prefix
 
-  parts_lift : (range : Range) (few more : List (Entry X)) (fronts : List ℕ) (ending : SealState) (old new : Option (List ℕ)) → IsPrefix few more → TakesSuchText (WatchPartOf tells range few fronts undecided) old new → TakesSuchText (WatchPartOf tells range more fronts ending) old new
-  parts_lift range few more fronts ending old new p took =
-      takes_as (WatchPartOf tells range few fronts undecided) (WatchPartOf tells range more fronts ending) old new (λ t is. part_lift range few more fronts ending t p is) took
+  fronts_taken : (range : Range) (few more : List (Entry X)) (fronts : List ℕ) (old new : Option (List ℕ)) → IsPrefix few more → TakesSuchText (FrontsTextOf tells range few fronts) old new → TakesSuchText (FrontsTextOf tells range more fronts) old new
+  fronts_taken range few more fronts old new p took =
+      takes_as (FrontsTextOf tells range few fronts) (FrontsTextOf tells range more fronts) old new (λ t f. fronts_lift tells range few more fronts t p f) took
+
+  part_taken : (range : Range) (few more : List (Entry X)) (fronts : List ℕ) (was ending : SealState) (old new : Option (List ℕ)) → IsPrefix few more → ((part : List ℕ) → BegunOf tells range few fronts was part → BegunOf tells range more fronts ending part)
+      → TakesSuchText (WatchPartOf tells range few fronts was) old new → TakesSuchText (WatchPartOf tells range more fronts ending) old new
+  part_taken range few more fronts was ending old new p begun took =
+      takes_as (WatchPartOf tells range few fronts was) (WatchPartOf tells range more fronts ending) old new (λ t w. record {
+        told = w.told;
+        part = w.part;
+        fronts_are = fronts_lift tells range few more fronts w.told p w.fronts_are;
+        begun = begun w.part w.begun;
+        text_is = w.text_is;
+      }) took
 
   -- as long as nothing is decided, what was written is of any longer list too
   writes_lift : (range : Range) (few more : List (Entry X)) (ending : SealState) (first now : Written) (e : Option WatchEnd) → IsPrefix few more → WritesTo tells range few undecided first now e → WritesTo tells range more ending first now e
-  writes_lift range few more ending first now None p w =
-      (w.0, takes_as (FrontsTextOf tells range few now.fronts) (FrontsTextOf tells range more now.fronts) first.sink.took now.sink.took (λ t f. fronts_lift tells range few more now.fronts t p f) w.1)
+  writes_lift range few more ending first now None p w = (w.0, fronts_taken range few more now.fronts first.sink.took now.sink.took p w.1)
   writes_lift range few more ending first now (Some watch_ends.Whole) p w = absurd (cc (w.1.1))
   writes_lift range few more ending first now (Some watch_ends.Unsealed) p w = absurd (cc (w.1))
-  writes_lift range few more ending first now (Some (watch_ends.Fault faults)) p w = (w.0, parts_lift range few more now.fronts ending first.sink.took now.sink.took p w.1)
-  writes_lift range few more ending first now (Some (watch_ends.Flaw rule offset)) p w = (w.0, untold_lift few more p w.1, parts_lift range few more now.fronts ending first.sink.took now.sink.took p w.2)
-  writes_lift range few more ending first now (Some watch_ends.Memory) p w = (w.0, parts_lift range few more now.fronts ending first.sink.took now.sink.took p w.1)
+  writes_lift range few more ending first now (Some (watch_ends.Fault faults)) p (inl w) =
+      inl (w.0, part_taken range few more now.fronts undecided ending first.sink.took now.sink.took p (λ part is. begun_lift range few more now.fronts ending part p is) w.1)
+  writes_lift range few more ending first now (Some (watch_ends.Fault faults)) p (inr w) = inr (w.0, fronts_taken range few more now.fronts first.sink.took now.sink.took p w.1)
+  writes_lift range few more ending first now (Some (watch_ends.Flaw rule offset)) p w = (w.0, untold_lift few more p w.1, fronts_taken range few more now.fronts first.sink.took now.sink.took p w.2)
+  writes_lift range few more ending first now (Some watch_ends.Memory) p w = (w.0, fronts_taken range few more now.fronts first.sink.took now.sink.took p w.1)
+
+  -- and so it is where there is no seal
+  pub unsealed_lift : (range : Range) (few more : List (Entry X)) (first now : Written) (e : Option WatchEnd) → IsPrefix few more → WritesTo tells range few unsealed first now e → WritesTo tells range more unsealed first now e
+  unsealed_lift range few more first now None p w = (w.0, fronts_taken range few more now.fronts first.sink.took now.sink.took p w.1)
+  unsealed_lift range few more first now (Some watch_ends.Whole) p w = absurd (cc (w.1.1))
+  unsealed_lift range few more first now (Some watch_ends.Unsealed) p w = (
+    w.0,
+    w.1,
+    takes_as (WatchTextOf tells range few now.fronts unsealed) (WatchTextOf tells range more now.fronts unsealed) first.sink.took now.sink.took
+        (λ t is. record { told = is.told; last = is.last; fronts_are = fronts_lift tells range few more now.fronts is.told p is.fronts_are; last_is = is.last_is; text_is = is.text_is }) w.2,
+  )
+  unsealed_lift range few more first now (Some (watch_ends.Fault faults)) p (inl w) =
+      inl (w.0, part_taken range few more now.fronts unsealed unsealed first.sink.took now.sink.took p (λ part is. begun_still range few more now.fronts part p is) w.1)
+  unsealed_lift range few more first now (Some (watch_ends.Fault faults)) p (inr w) = inr (w.0, fronts_taken range few more now.fronts first.sink.took now.sink.took p w.1)
+  unsealed_lift range few more first now (Some (watch_ends.Flaw rule offset)) p w = (w.0, untold_lift few more p w.1, fronts_taken range few more now.fronts first.sink.took now.sink.took p w.2)
+  unsealed_lift range few more first now (Some watch_ends.Memory) p w = (w.0, fronts_taken range few more now.fronts first.sink.took now.sink.took p w.1)
 
   decides : (range : Range) (reader : ReaderState X) (all : List (Entry X)) (ending : SealState) (end : End) (first now : Written) (e : Option WatchEnd) → HoldsAllSealed reader ending → IsPrefix reader.entries all → entries_of reader.known ≡ all → end_of reader.known ≡ Some end
       → WritesTo tells range reader.entries ending first now e → WritesTo tells range all (sealed_by end) first now e
@@ -367,6 +385,22 @@ module _ {X : Type 0} (tells : X → Option (List ℕ)) where
         known = inl refl;
         watches = subst (λ (e : Option WatchEnd). WritesTo tells first.range old.reader.entries unsealed first.written new e) (sym ended) stops;
       }
+
+  by_ending : (range : Range) (reader : ReaderState X) (note : List (Added X)) (ending : SealState) (first now : Written) (e : Option WatchEnd) → (ending ≡ unsealed) ⊎ HoldsAllSealed reader ending → IsPrefix reader.entries (entries_of note) → IsPrefix reader.known note → end_of note ≡ None
+      → WritesTo tells range reader.entries ending first now e → WritesTo tells range (entries_of note) unsealed first now e
+  by_ending range reader note undecided first now e known p within none w = writes_lift range reader.entries (entries_of note) unsealed first now e p w
+  by_ending range reader note (sealed_by end) first now e (inl is) p within none w = absurd (cc is)
+  by_ending range reader note (sealed_by end) first now e (inr holds) p within none w =
+      absurd (none-some end (sym (end_of_front reader.known within.0 (ap end_of within.1 ∙ none)) ∙ holds.1))
+  by_ending range reader note unsealed first now e known p within none w = unsealed_lift range reader.entries (entries_of note) first now e p w
+
+  -- It was written of the blocks that the directory shows, since the reader knows no more.
+  pub unsealed_of : (first : WatcherState X) (reader : ReaderState X) (new : Written) (note : List (Added X)) (n : ℕ) → EndsUnsealed tells first reader new → reader.entries ≡ entries_of (take n reader.known) → IsPrefix reader.known note → end_of note ≡ None
+      → Watches tells first.range (entries_of note) unsealed first.written new
+  unsealed_of first reader new note n it held within none =
+      let part : IsPrefix (take n reader.known) note = prefix_trans (take n reader.known) reader.known note (drop n reader.known, take-append-drop n reader.known) within in
+      let first_ones : IsPrefix reader.entries (entries_of note) = subst (λ (es : List (Entry X)). IsPrefix es (entries_of note)) (sym held) (entries_prefix (take n reader.known) note part) in
+      by_ending first.range reader note it.ending first.written new new.end it.known first_ones within none it.watches
 
 -- ---- pieces made of bytes
 

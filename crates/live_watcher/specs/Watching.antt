@@ -43,10 +43,15 @@ pub record IsQuiet (before now : Written) : Type 0 where
   pub sink : now.sink.faults ≡ before.sink.faults
   pub view : now.failures ≡ before.failures
 
--- the sink failed once, or the view did, and not the other; that is its count then
-abbrev pub HasFailed : Written → Written → ℕ → Type 0
-HasFailed before now faults = (RisesOnce before.sink.faults now.sink.faults × (faults ≡ now.sink.faults) × (now.failures ≡ before.failures))
-    ⊎ (RisesOnce before.failures now.failures × (faults ≡ now.failures) × (now.sink.faults ≡ before.sink.faults))
+-- the sink failed once, and the view didn't; that is its count then
+abbrev pub HasFailedSink : Written → Written → ℕ → Type 0
+HasFailedSink before now faults = RisesOnce before.sink.faults now.sink.faults × (faults ≡ now.sink.faults)
+    × (now.failures ≡ before.failures)
+
+-- the view failed once, and the sink didn't
+abbrev pub HasFailedView : Written → Written → ℕ → Type 0
+HasFailedView before now faults = RisesOnce before.failures now.failures × (faults ≡ now.failures)
+    × (now.sink.faults ≡ before.sink.faults)
 
 -- the extents of these entries don't all tell bytes
 abbrev pub IsUntold : {X : Type 0} → (X → Option (List ℕ)) → List (Entry X) → Type 0
@@ -59,7 +64,8 @@ abbrev pub TakesSuchText : (List ℕ → Type 0) → Option (List ℕ) → Optio
 TakesSuchText P old new =
     (before : List ℕ) → old ≡ Some before → (text : List ℕ) × P text × (new ≡ Some (before ++ text))
 
--- Since then, when there were no fronts and no end, this was written of these blocks.
+-- Since then, when there were no fronts and no end, this was written of these blocks. Only where the sink failed may a first
+-- part of a line stand at the end.
 abbrev pub WritesTo : {X : Type 0} → (X → Option (List ℕ)) → Range → List (Entry X) → SealState → Written → Written
     → Option WatchEnd → Type 0
 WritesTo tells range entries ending before now None =
@@ -69,13 +75,16 @@ WritesTo tells range entries ending before now (Some watch_ends.Whole) = IsQuiet
     × TakesSuchText (WatchTextOf tells range entries now.fronts ending) before.sink.took now.sink.took
 WritesTo tells range entries ending before now (Some watch_ends.Unsealed) = IsQuiet before now × (ending ≡ unsealed)
     × TakesSuchText (WatchTextOf tells range entries now.fronts ending) before.sink.took now.sink.took
-WritesTo tells range entries ending before now (Some (watch_ends.Fault faults)) = HasFailed before now faults
-    × TakesSuchText (WatchPartOf tells range entries now.fronts ending) before.sink.took now.sink.took
+WritesTo tells range entries ending before now (Some (watch_ends.Fault faults)) =
+    (HasFailedSink before now faults
+    × TakesSuchText (WatchPartOf tells range entries now.fronts ending) before.sink.took now.sink.took)
+    ⊎ (HasFailedView before now faults
+    × TakesSuchText (FrontsTextOf tells range entries now.fronts) before.sink.took now.sink.took)
 WritesTo tells range entries ending before now (Some (watch_ends.Flaw rule offset)) = IsQuiet before now
     × IsUntold tells entries
-    × TakesSuchText (WatchPartOf tells range entries now.fronts ending) before.sink.took now.sink.took
+    × TakesSuchText (FrontsTextOf tells range entries now.fronts) before.sink.took now.sink.took
 WritesTo tells range entries ending before now (Some watch_ends.Memory) = IsQuiet before now
-    × TakesSuchText (WatchPartOf tells range entries now.fronts ending) before.sink.took now.sink.took
+    × TakesSuchText (FrontsTextOf tells range entries now.fronts) before.sink.took now.sink.took
 
 abbrev pub Watches : {X : Type 0} → (X → Option (List ℕ)) → Range → List (Entry X) → SealState → Written → Written
     → Type 0
@@ -86,10 +95,3 @@ abbrev pub HoldsAllSealed : {X : Type 0} → ReaderState X → SealState → Typ
 HoldsAllSealed reader undecided = Unit {0}
 HoldsAllSealed reader (sealed_by end) = (reader.entries ≡ entries_of reader.known) × (end_of reader.known ≡ Some end)
 HoldsAllSealed reader unsealed = ⊥
-
--- Since it was new, a watcher whose directory wasn't sealed has written of the blocks that its reader holds.
-pub record EndsUnsealed {X : Type 0} (tells : X → Option (List ℕ)) (first : WatcherState X) (reader : ReaderState X)
-    (now : Written) : Type 0 where
-  pub ending : SealState
-  pub known : (ending ≡ unsealed) ⊎ HoldsAllSealed reader ending
-  pub watches : Watches tells first.range reader.entries ending first.written now

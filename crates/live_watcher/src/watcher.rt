@@ -1,5 +1,5 @@
 //! One watcher of a recording.
-ghost use Rattle.std.specs.Prelude.{◌≡◌, ◌⊎◌, ◌∷◌, ◌++◌, [], length, true, false, None, Some};
+ghost use Rattle.std.specs.Prelude.{◌≡◌, ◌⊎◌, ◌≤◌, ◌∷◌, ◌++◌, [], length, true, false, None, Some};
 ghost use mathlib.Core.List.{IsPrefix};
 ghost use Rattle.mcap_io.specs.Outside.{RisesOnce};
 ghost use Rattle.mcap_model.specs.declared.ends.End.{End as Last};
@@ -7,9 +7,9 @@ ghost use Rattle.live_directory.specs.Published.{entries_of, end_of};
 ghost use Rattle.live_directory.specs.Histories.{published_front, AtLeast};
 ghost use Rattle.live_watcher.specs.declared.report.WatchEnd.{WatchEnd};
 ghost use Rattle.live_watcher.specs.declared.report.WatchEnd.TheVariants as watch_ends;
-ghost use Rattle.live_watcher.specs.Text.{sealed_by, Doubles};
-ghost use Rattle.live_watcher.specs.Watching.{WatcherState, new_watcher, written_by, HoldsAllSealed, Watches, EndsUnsealed};
-ghost use Rattle.live_watcher.specs.WatcherSteps.{MayFollow, WatchedSince};
+ghost use Rattle.live_watcher.specs.Text.{sealed_by, unsealed, Doubles};
+ghost use Rattle.live_watcher.specs.Watching.{WatcherState, new_watcher, written_by, HoldsAllSealed, Watches};
+ghost use Rattle.live_watcher.specs.WatcherSteps.{MayFollow, IsTold, HasTold, WatchedSince, EndsUnsealed};
 
 use crate::pieces::{put_end, put_front, put_unsealed};
 use crate::report::{WatchEnd, WatchReport};
@@ -64,7 +64,9 @@ pub struct Watched<V, K> {
 // Whether a front of so many blocks is to be replayed behind these: the first with a block, and then each that has at least
 // twice as many as the last one.
 fn is_due(fronts: &[u64], blocks: u64) -> bool
-    ensures { result ≡ true → MayFollow fronts.now blocks }
+    ensures follows { result ≡ true → MayFollow fronts.now blocks }
+    ensures some { result ≡ true → 1 ≤ blocks }
+    ensures told { result ≡ false → IsTold fronts.now blocks }
 {
     let count = fronts.len();
     if count == 0 {
@@ -96,6 +98,7 @@ impl<X: Extent, J: Naming, V: LiveView<X>, K: Sink> Watcher<X, J, V, K> {
         ensures since { (first : WatcherState X) → WatchedSince X.tells first self.old
             → WatchedSince X.tells first self.new }
         ensures reader { self.new.reader ≡ self.old.reader }
+        ensures told { self.new.written.end ≡ None → self.new.written.fronts ≡ self.old.written.fronts ++ blocks ∷ [] }
     {
         if self.fronts.reserve(1).is_err() {
             self.end = Some(WatchEnd::Memory);
@@ -145,6 +148,7 @@ impl<X: Extent, J: Naming, V: LiveView<X>, K: Sink> Watcher<X, J, V, K> {
         ensures knows { IsPrefix self.old.reader.known self.new.reader.known }
         ensures rises { AtLeast (published_front self.old.reader.known) (published_front self.new.reader.known) }
         ensures ended { (end : Last) → end_of self.old.reader.known ≡ Some end → self.new.written.end ≡ None → ⊥ }
+        ensures told { HasTold self.new }
     {
         // What the reader holds are first entries of what it knows.
         let _held = self.reader.entries();
@@ -170,6 +174,7 @@ impl<X: Extent, J: Naming, V: LiveView<X>, K: Sink> Watcher<X, J, V, K> {
         ensures since { (first : WatcherState X) → WatchedSince X.tells first self.old
             → WatchedSince X.tells first self.new }
         ensures stays { (why : WatchEnd) → self.old.written.end ≡ Some why → self.new.written ≡ self.old.written }
+        ensures told { HasTold self.new }
     {
         if self.end.is_some() {
             return false;
@@ -189,6 +194,7 @@ impl<X: Extent, J: Naming, V: LiveView<X>, K: Sink> Watcher<X, J, V, K> {
         ensures since { (first : WatcherState X) → WatchedSince X.tells first self.old
             → WatchedSince X.tells first self.new }
         ensures stays { (why : WatchEnd) → self.old.written.end ≡ Some why → self.new.written ≡ self.old.written }
+        ensures told { HasTold self.new }
     {
         let parker = Parker::new();
         'looks: for _ in rt.forever() {
@@ -273,10 +279,24 @@ impl<X: Extent, J: Naming, V: LiveView<X>, K: Sink> Watcher<X, J, V, K> {
         watcher.into_watched(end)
     }
 
+    // Waits until the note has all that the reader knows. It does at once: what is found was shown, and a note of all that is
+    // shown has it, but that isn't said of a history of which each thread knows a beginning.
+    fn await_note<R: Wait>(&self, rt: &R, note: &Note<X, J>)
+        ensures { IsPrefix self.now.reader.known note.now }
+    {
+        for _ in rt.forever() {
+            if self.reader.is_within(note) {
+                return;
+            }
+        }
+        unreachable!()
+    }
+
     // Writes that there is no end, unless the watcher has ended, and says why it has.
     fn conclude_unsealed(&mut self) -> WatchEnd
         ensures since { (first : WatcherState X) → WatchedSince X.tells first self.old
             → EndsUnsealed X.tells first self.old.reader self.new.written }
+        ensures reader { self.new.reader ≡ self.old.reader }
         ensures stays { (why : WatchEnd) → self.old.written.end ≡ Some why → self.new.written ≡ self.old.written }
         ensures ends { self.old.written.end ≡ None
             → (result ≡ watch_ends.Unsealed) ⊎ RisesOnce self.old.written.sink.faults self.new.written.sink.faults }
@@ -299,11 +319,12 @@ impl<X: Extent, J: Naming, V: LiveView<X>, K: Sink> Watcher<X, J, V, K> {
     }
 
     /// Writes that there is no end, unless the watcher has ended, once the threads of the recording were joined, where its
-    /// directory wasn't sealed.
-    pub fn finish_unsealed(self) -> Watched<V, K>
+    /// directory wasn't sealed: the note is that of what readers find there.
+    pub fn finish_unsealed<R: Wait>(self, rt: &R, note: &Note<X, J>) -> Watched<V, K>
+        requires unsealed { end_of note.now ≡ None }
         ensures watches { (first : WatcherState X) → WatchedSince X.tells first self
-            → EndsUnsealed X.tells first self.reader (written_by (K.state result.sink) (V.failures result.view)
-            result.report) }
+            → Watches X.tells first.range (entries_of note.now) unsealed first.written
+            (written_by (K.state result.sink) (V.failures result.view) result.report) }
         ensures stays { (why : WatchEnd) → self.written.end ≡ Some why
             → written_by (K.state result.sink) (V.failures result.view) result.report ≡ self.written }
         ensures ends { self.written.end ≡ None
@@ -311,7 +332,9 @@ impl<X: Extent, J: Naming, V: LiveView<X>, K: Sink> Watcher<X, J, V, K> {
             ⊎ RisesOnce self.written.sink.faults (K.state result.sink).faults }
     {
         let mut watcher = self;
+        watcher.await_note(rt, note);
         let end = watcher.conclude_unsealed();
+        let _held = watcher.reader.entries();
         watcher.into_watched(end)
     }
 }

@@ -80,7 +80,7 @@ returns-clause-recorded g c = λ r is.
     let wrote = ran.result.1 in
     watched_so {X = g.row.L-Extent.Denot} (λ e. g.L.Extent.Extent.tells e) g.K.Sink.state c.args.range wrote.3 c.args.options.now
     (sides (map source c.args.feeds.items) (live c.args.live)) (sides (map source wrote.1.items) (live wrote.2)) (live made.new.live) c.args.watchers.items made.result.items ran.result.0.items wrote.0 r _ is refl
-    c.requires.some made.ensures.made ran.ensures.first c.finish_seats-reports.ensures ran.ensures.second.1.0 c.is_some.ensures
+    c.requires.some made.ensures.made ran.ensures.first c.finish_seats-reports.ensures ran.ensures.second.1.0 c.is_sealed.ensures
 
 pub returns-clause-listed : goal.returns-clause-listed
-returns-clause-listed g c = λ r is. let ran = c.join-seats in listed_so c.args.listed ran.result.1.0 r is ran.ensures.second.1.1.0
+returns-clause-listed g c = λ r is. let ran = c.join-seats in listed_so c.args.listed ran.result.1.0 r is ran.ensures.second.1.1
