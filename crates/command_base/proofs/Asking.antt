@@ -4,7 +4,7 @@ use Rattle.std.specs.List.{list_any}
 use Rattle.std.proofs.lemmas.List.Folds.{list_any-append}
 use Rattle.command_base.specs.declared.statuses.Status.{Status}
 use Rattle.command_base.specs.declared.statuses.Status.TheVariants as statuses
-use Rattle.command_base.specs.Texts.{Trouble, fault, output_fault, grammar, compressed, limit, output_limit, not_indexed, flaw, no_memory, is_status, asked_status, status_is_asked, status_of}
+use Rattle.command_base.specs.Texts.{Trouble, fault, output_fault, grammar, compressed, limit, output_limit, not_indexed, flaw, bad_line, no_memory, is_status, asked_status, status_is_asked, status_of}
 use Rattle.command_base.specs.Ran.{when, first_halts, first_failed, told_of}
 
 -- ---- what some troubles ask for
@@ -133,4 +133,5 @@ none_due (limit name n ∷ ts) is = absurd (asked_limit (status_is_asked ts stat
 none_due (output_limit name ∷ ts) is = absurd (asked_limit (status_is_asked ts statuses.Memory) (status_is_asked ts statuses.Fault) (status_is_asked ts statuses.Refused) is)
 none_due (not_indexed name why ∷ ts) is = absurd (asked_refusal (status_is_asked ts statuses.Memory) (status_is_asked ts statuses.Fault) (status_is_asked ts statuses.Limit) is)
 none_due (flaw name rule n ∷ ts) is = absurd (asked_refusal (status_is_asked ts statuses.Memory) (status_is_asked ts statuses.Fault) (status_is_asked ts statuses.Limit) is)
+none_due (bad_line name n ∷ ts) is = absurd (asked_refusal (status_is_asked ts statuses.Memory) (status_is_asked ts statuses.Fault) (status_is_asked ts statuses.Limit) is)
 none_due (no_memory ∷ ts) is = absurd (asked_memory (status_is_asked ts statuses.Fault) (status_is_asked ts statuses.Limit) (status_is_asked ts statuses.Refused) is)

@@ -19,7 +19,7 @@ use Rattle.command_base.specs.declared.one_file.Faults.{Faults}
 use Rattle.command_base.specs.declared.statuses.Status.{Status}
 use Rattle.command_base.specs.declared.statuses.Status.TheVariants as statuses
 use Rattle.command_base.specs.Printing.{TellsAll, Takes}
-use Rattle.command_base.specs.Texts.{Trouble, fault, output_fault, grammar, compressed, limit, output_limit, not_indexed, flaw, no_memory, asked_status, status_of}
+use Rattle.command_base.specs.Texts.{Trouble, fault, output_fault, grammar, compressed, limit, output_limit, not_indexed, flaw, bad_line, no_memory, asked_status, status_of}
 use Rattle.command_base.specs.Ran.{Scene, counts_in, AnyRose, IsCaused, Blames, kept, refused, failed_so, source_faults, live_faults, named_when, failed_names, Complains}
 use Rattle.command_base.specs.OneFile.{Ending, was_read, halted, failing, lacked, text_of, is_lack, ending_status, single_file, NameRead, AskedRose, ReadsOne}
 use Rattle.command_base.specs.OneFileSteps.{one_troubles, IsHalt, HaltsWell, PrintsEnding, ShowsFaults}
@@ -29,29 +29,29 @@ use Rattle.command_base.proofs.Blamed.{each_one, some_one}
 
 -- ---- tests
 
-is_true : (b : Bool) → (b ≡ false → ⊥) → b ≡ true
+pub is_true : (b : Bool) → (b ≡ false → ⊥) → b ≡ true
 is_true true none = refl
 is_true false none = absurd (none refl)
 
-same_tests : (a b : Bool) → (a ≡ true → b ≡ true) → (b ≡ true → a ≡ true) → a ≡ b
+pub same_tests : (a b : Bool) → (a ≡ true → b ≡ true) → (b ≡ true → a ≡ true) → a ≡ b
 same_tests true b there back = sym (there refl)
 same_tests false b there back = sym (false_from_ne_true b (λ is. both_ways false refl (back is)))
 
-either : (a b : Bool) → (a ≡ true) ⊎ (b ≡ true) → (a || b) ≡ true
+pub either : (a b : Bool) → (a ≡ true) ⊎ (b ≡ true) → (a || b) ≡ true
 either true b some = refl
 either false b (inl is) = absurd cc
 either false b (inr is) = is
 
-which : (a b : Bool) → (a || b) ≡ true → (a ≡ true) ⊎ (b ≡ true)
+pub which : (a b : Bool) → (a || b) ≡ true → (a ≡ true) ⊎ (b ≡ true)
 which true b some = inl refl
 which false b some = inr some
 
-neither : (a b : Bool) → a ≡ false → b ≡ false → (a || b) ≡ false
+pub neither : (a b : Bool) → a ≡ false → b ≡ false → (a || b) ≡ false
 neither true b first second = absurd cc
 neither false b first second = second
 
 -- what holds of each two answers
-each_two : (P : Bool → Bool → Type 0) → P true true → P true false → P false true → P false false → (a b : Bool) → P a b
+pub each_two : (P : Bool → Bool → Type 0) → P true true → P true false → P false true → P false false → (a b : Bool) → P a b
 each_two P tt_is tf_is ft_is ff_is true true = tt_is
 each_two P tt_is tf_is ft_is ff_is true false = tf_is
 each_two P tt_is tf_is ft_is ff_is false true = ft_is
@@ -60,17 +60,17 @@ each_two P tt_is tf_is ft_is ff_is false false = ff_is
 -- ---- the status
 
 -- what the ending asks for besides a want of memory and a fault
-abbrev own : Ending → Status
+abbrev pub own : Ending → Status
 own (was_read text) = statuses.Done
 own (halted trouble) = asked_status trouble
 own failing = statuses.Done
 own lacked = statuses.Done
 
 -- the status where memory lacked, or something failed, and that is asked for besides
-abbrev status_where : Bool → Bool → Status → Status
+abbrev pub status_where : Bool → Bool → Status → Status
 status_where lacks some other = cond lacks statuses.Memory (cond some statuses.Fault other)
 
-abbrev status_for : Ending → Bool → Bool → Status
+abbrev pub status_for : Ending → Bool → Bool → Status
 status_for ending broken printing = status_where (is_lack ending) (broken || printing) (own ending)
 
 abbrev IsStatus : List ℕ → Ending → Bool → Bool → Type 0
@@ -87,6 +87,7 @@ halted_is file (limit name n) is a b = each_two (IsStatus file (halted (limit na
 halted_is file (output_limit name) is a b = each_two (IsStatus file (halted (output_limit name))) refl refl refl refl a b
 halted_is file (not_indexed name why) is a b = each_two (IsStatus file (halted (not_indexed name why))) refl refl refl refl a b
 halted_is file (flaw name rule n) is a b = each_two (IsStatus file (halted (flaw name rule n))) refl refl refl refl a b
+halted_is file (bad_line name n) is a b = each_two (IsStatus file (halted (bad_line name n))) refl refl refl refl a b
 halted_is file no_memory (inl is) a b = absurd cc
 halted_is file no_memory (inr is) a b = absurd cc
 
@@ -112,29 +113,29 @@ done_apart : (t : Status) → statuses.Done ≡ t → (t ≡ statuses.Fault) ⊎
 done_apart t same (inl other) = absurd cc
 done_apart t same (inr other) = absurd cc
 
-own_other : (ending : Ending) (t : Status) → HaltsWell ending → own ending ≡ t → (t ≡ statuses.Fault) ⊎ (t ≡ statuses.Memory) → ⊥
+pub own_other : (ending : Ending) (t : Status) → HaltsWell ending → own ending ≡ t → (t ≡ statuses.Fault) ⊎ (t ≡ statuses.Memory) → ⊥
 own_other (was_read text) t well same other = done_apart t same other
 own_other (halted trouble) t well same other = apart_from (asked_status trouble) t (well trouble refl) same other
 own_other failing t well same other = done_apart t same other
 own_other lacked t well same other = done_apart t same other
 
-fault_where : (lacks some : Bool) (t : Status) → (t ≡ statuses.Fault → ⊥) → status_where lacks some t ≡ statuses.Fault → some ≡ true
+pub fault_where : (lacks some : Bool) (t : Status) → (t ≡ statuses.Fault → ⊥) → status_where lacks some t ≡ statuses.Fault → some ≡ true
 fault_where true some t other e = absurd cc
 fault_where false true t other e = refl
 fault_where false false t other e = absurd (other e)
 
-memory_where : (lacks some : Bool) (t : Status) → (t ≡ statuses.Memory → ⊥) → status_where lacks some t ≡ statuses.Memory → lacks ≡ true
+pub memory_where : (lacks some : Bool) (t : Status) → (t ≡ statuses.Memory → ⊥) → status_where lacks some t ≡ statuses.Memory → lacks ≡ true
 memory_where true some t other e = refl
 memory_where false true t other e = absurd cc
 memory_where false false t other e = absurd (other e)
 
-lack_is : (ending : Ending) → is_lack ending ≡ true → ending ≡ lacked
+pub lack_is : (ending : Ending) → is_lack ending ≡ true → ending ≡ lacked
 lack_is (was_read text) is = absurd cc
 lack_is (halted trouble) is = absurd cc
 lack_is failing is = absurd cc
 lack_is lacked is = refl
 
-fault_or : (lacks some : Bool) (t answer : Status) → some ≡ true → answer ≡ status_where lacks some t → (answer ≡ statuses.Fault) ⊎ (answer ≡ statuses.Memory)
+pub fault_or : (lacks some : Bool) (t answer : Status) → some ≡ true → answer ≡ status_where lacks some t → (answer ≡ statuses.Fault) ⊎ (answer ≡ statuses.Memory)
 fault_or true some t answer risen is = inr is
 fault_or false true t answer risen is = inl is
 fault_or false false t answer risen is = absurd cc
@@ -186,7 +187,7 @@ pub record AreParts (kind : ObjectKind) (file : List ℕ) (old new : Scene) (ent
   pub told : Complains (one_troubles file ending came.faults.file came.faults.printing) old.err new.err came.answer
 
 -- a write that failed shows in the count
-broke_rose : (before now : SinkState) (ending : Ending) (broke : Bool) → PrintsEnding before now ending broke → broke ≡ true → Rose before.faults now.faults
+pub broke_rose : (before now : SinkState) (ending : Ending) (broke : Bool) → PrintsEnding before now ending broke → broke ≡ true → Rose before.faults now.faults
 broke_rose before now (was_read text) broke (inl all) is = absurd (both_ways broke all.0 is)
 broke_rose before now (was_read text) broke (inr part) is = omega (arith, part.1.rises.once)
 broke_rose before now (halted trouble) broke prints is = absurd (both_ways broke prints.0 is)
@@ -202,7 +203,7 @@ halts_undone trouble (inl is) e = absurd cc
 halts_undone trouble (inr is) e = absurd cc
 
 -- where all was done the file was read, and nothing failed
-all_read : (ending : Ending) (broken printing : Bool) → HaltsWell ending → status_for ending broken printing ≡ statuses.Done → (broken ≡ false → ending ≡ failing → ⊥) → (text : List ℕ) × (ending ≡ was_read text) × (broken ≡ false) × (printing ≡ false)
+pub all_read : (ending : Ending) (broken printing : Bool) → HaltsWell ending → status_for ending broken printing ≡ statuses.Done → (broken ≡ false → ending ≡ failing → ⊥) → (text : List ℕ) × (ending ≡ was_read text) × (broken ≡ false) × (printing ≡ false)
 all_read ending true printing well e calm = absurd (not_done (is_lack ending) (own ending) e)
 all_read ending false true well e calm = absurd (not_done (is_lack ending) (own ending) e)
 all_read (was_read text) false false well e calm = (text, refl, refl, refl)
@@ -210,13 +211,13 @@ all_read (halted trouble) false false well e calm = absurd (halts_undone trouble
 all_read failing false false well e calm = absurd (calm refl refl)
 all_read lacked false false well e calm = absurd cc
 
-all_taken : (before now : SinkState) (ending : Ending) (broke : Bool) (text : List ℕ) → PrintsEnding before now ending broke → ending ≡ was_read text → broke ≡ false → TellsAll before now text
+pub all_taken : (before now : SinkState) (ending : Ending) (broke : Bool) (text : List ℕ) → PrintsEnding before now ending broke → ending ≡ was_read text → broke ≡ false → TellsAll before now text
 all_taken before now ending broke text prints is well =
     let P : Ending → Type 0 = λ e. PrintsEnding before now e broke in
     elim (subst P is prints) [ inl all ↦ all.1 | inr part ↦ absurd (both_ways broke well part.0) ]
 
 -- where nothing failed the ending decides
-calm_status : (ending : Ending) → (ending ≡ failing → ⊥) → cond (is_lack ending) statuses.Memory (own ending) ≡ ending_status ending
+pub calm_status : (ending : Ending) → (ending ≡ failing → ⊥) → cond (is_lack ending) statuses.Memory (own ending) ≡ ending_status ending
 calm_status (was_read text) other = refl
 calm_status (halted trouble) other = refl
 calm_status failing other = absurd (other refl)

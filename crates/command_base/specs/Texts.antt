@@ -19,12 +19,14 @@ pub data Trouble : Type 0 where
   grammar : List ℕ → ℕ → Trouble
   compressed : List ℕ → List ℕ → ℕ → Trouble
   limit : List ℕ → ℕ → Trouble
-  -- what was to be written under that name passes a limit
+  -- what was to be written under that name passes a limit, or there are too many lines in it
   output_limit : List ℕ → Trouble
   -- it lacks what a reading by its indexes wants
   not_indexed : List ℕ → NotIndexed → Trouble
   -- that rule fails at that offset
   flaw : List ℕ → Rule → ℕ → Trouble
+  -- the line of that number, from 1, isn't one of a script
+  bad_line : List ℕ → ℕ → Trouble
   no_memory : Trouble
 
 -- the words for what a file lacks
@@ -52,6 +54,7 @@ trouble_line (limit name n) = about name (codes ": limit" ++ at_offset n)
 trouble_line (output_limit name) = about name (codes ": limit\n")
 trouble_line (not_indexed name why) = about name (codes ": not indexed: " ++ (unindexed_text why ++ codes "\n"))
 trouble_line (flaw name rule n) = about name (codes ": flaw V" ++ (decimal (rule_number rule) ++ at_offset n))
+trouble_line (bad_line name n) = about name (codes ": line " ++ (decimal n ++ codes "\n"))
 trouble_line no_memory = codes "mcaprec: no memory\n"
 
 abbrev pub said : List Trouble → List ℕ
@@ -81,6 +84,7 @@ asked_status (limit name n) = statuses.Limit
 asked_status (output_limit name) = statuses.Limit
 asked_status (not_indexed name why) = statuses.Refused
 asked_status (flaw name rule n) = statuses.Refused
+asked_status (bad_line name n) = statuses.Refused
 asked_status no_memory = statuses.Memory
 
 -- one of the troubles asks for the status

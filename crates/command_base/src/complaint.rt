@@ -1,7 +1,7 @@
 //! What the program says on standard error, and the status that it ends with.
 ghost use Rattle.std.specs.Prelude.{◌≡◌, ◌++◌, codes};
 ghost use Rattle.std.specs.List.{flat_map, list_any};
-ghost use Rattle.command_base.specs.Texts.{compressed, flaw, unindexed_text, about, at_offset, trouble_line, is_status, asked_status, status_is_asked, status_of};
+ghost use Rattle.command_base.specs.Texts.{bad_line, compressed, flaw, unindexed_text, about, at_offset, trouble_line, is_status, asked_status, status_is_asked, status_of};
 ghost use Rattle.command_base.specs.ComplaintTroubles.{trouble_of, complained};
 ghost use Rattle.command_base.specs.Putting.{PutsText};
 
@@ -41,7 +41,7 @@ pub enum Complaint<'a> {
         name: &'a str,
         offset: u64,
     },
-    /// What was to be written to the file passes a limit on writing.
+    /// What was to be written to the file passes a limit on writing, or the file has too many lines.
     OutputLimit {
         name: &'a str,
     },
@@ -55,6 +55,11 @@ pub enum Complaint<'a> {
         name: &'a str,
         rule: Rule,
         offset: u64,
+    },
+    /// The line of that number, from 1, isn't one of a script.
+    BadLine {
+        name: &'a str,
+        line: u64,
     },
     /// Memory lacked.
     NoMemory,
@@ -137,6 +142,17 @@ fn put_flaw<E: Sink>(waiting: &mut Waiting, err: &mut E, name: &str, rule: Rule,
     put_offset(waiting, err, offset);
 }
 
+// Puts the line of a line of a script that isn't one.
+#[tactic(auto, unfolding(crate::specs::Texts::trouble_line))]
+fn put_bad_line<E: Sink>(waiting: &mut Waiting, err: &mut E, name: &str, line: u64)
+    ensures { PutsText (E.state err.old) waiting.old (E.state err.new) waiting.new
+        (trouble_line (bad_line name.now line)) }
+{
+    put_about(waiting, err, name, ": line ");
+    waiting.put_number(err, line);
+    waiting.put_text(err, "\n");
+}
+
 /// Puts the line of a complaint. Names are quoted as JSON strings.
 #[tactic(auto, unfolding(crate::specs::Texts::trouble_line))]
 pub(crate) fn put_line<E: Sink>(waiting: &mut Waiting, err: &mut E, complaint: &Complaint<'_>)
@@ -156,6 +172,7 @@ pub(crate) fn put_line<E: Sink>(waiting: &mut Waiting, err: &mut E, complaint: &
         Complaint::OutputLimit { name } => put_file(waiting, err, name, ": limit"),
         Complaint::NotIndexed { name, why } => put_file(waiting, err, name, words_for(*why)),
         Complaint::Flaw { name, rule, offset } => put_flaw(waiting, err, name, *rule, *offset),
+        Complaint::BadLine { name, line } => put_bad_line(waiting, err, name, *line),
         Complaint::NoMemory => waiting.put_text(err, NO_MEMORY),
     }
 }
@@ -170,6 +187,7 @@ fn own_status(complaint: &Complaint<'_>) -> Status
         Complaint::Limit { .. } | Complaint::OutputLimit { .. } => Status::Limit,
         Complaint::Grammar { .. } | Complaint::Compressed { .. } => Status::Refused,
         Complaint::NotIndexed { .. } | Complaint::Flaw { .. } => Status::Refused,
+        Complaint::BadLine { .. } => Status::Refused,
     }
 }
 

@@ -17,7 +17,7 @@ use Rattle.command_base.specs.declared.statuses.Status.{Status}
 use Rattle.command_base.specs.declared.statuses.Status.TheVariants as statuses
 use Rattle.command_base.specs.Texts.{halt_status}
 use Rattle.command_base.specs.Ran.{Scene}
-use Rattle.command_base.specs.OneFile.{failing, refusal_ending, ending_status}
+use Rattle.command_base.specs.OneFile.{failing, ending_status}
 use Rattle.command_base.specs.Readings.{IsSourceRead, ReadsFile}
 use Rattle.command_base.proofs.ReadNames.{source_shows}
 use Rattle.command_read.specs.Cat.{Selection, IsUnprinted, ComesTo, cat_ending, Cats}

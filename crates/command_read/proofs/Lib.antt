@@ -8,3 +8,11 @@ pub mod Tellings
 pub mod Checks
 pub mod Cats
 pub mod Followings
+mod TwoFiles
+mod TwoNames
+mod Plays
+mod TwoDue
+mod ScriptBytes
+mod Unplayed
+mod Printings
+mod PlayDecides

@@ -8,9 +8,13 @@ pub mod Told
 pub mod Info
 pub mod FileCommand
 pub mod Indexed
+pub mod TwoFiles
+pub mod Play
 -- What the functions of this crate and its proofs say besides.
 pub mod IdTables
 pub mod ToldSteps
 pub mod Writing
 pub mod Laws
 pub mod Failing
+pub mod TwoFilesSteps
+pub mod PlaySteps

@@ -1,5 +1,5 @@
 //! The commands that read one file and print of it: `info`, with the line of JSON that it prints, `check`, and `cat` by a
-//! scan or by the indexes.
+//! scan or by the indexes; and `play`, which reads a file and a script.
 #![tactic(auto)]
 
 mod cat;
@@ -14,7 +14,10 @@ mod info;
 pub mod laws;
 mod members;
 mod names;
+mod playing;
 mod schemas;
+mod scripting;
+mod two_files;
 mod verdict;
 
 pub use cat::print_file;
@@ -23,3 +26,4 @@ pub use describing::describe_file;
 pub use file_command::run_file_command;
 pub use indexed::print_indexed;
 pub use info::info_text;
+pub use playing::play_file;

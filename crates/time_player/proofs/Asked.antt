@@ -10,7 +10,7 @@ use Rattle.mcap_model.specs.Tops.{Top}
 use Rattle.mcap_model.specs.Fields.{ChannelFields}
 use Rattle.mcap_model.specs.Scan.{HasTopic}
 use Rattle.mcap_model.proofs.Flat.{topic_once}
-use Rattle.mcap_model.proofs.NamedTopics.{are_channels, named_topic, named, unnamed}
+use Rattle.mcap_model.proofs.NamedTopics.{are_channels, named_topic, named}
 use Rattle.time_player.specs.Asking.{Knows}
 
 -- the channel of a topic was declared
@@ -20,11 +20,6 @@ undeclared records tables channel topic knows has none =
     let channels = are.channels in
     let first = channels.covers has.place channel has.top has.shown has.at has.is in
     none first.0 first.1 first.3 first.4
-
--- what was declared of it is a Channel
-pub unread : (records : List Top) (tables : Tables) (channel : ℕ) (content : List ℕ) → Knows records tables → (k : ℕ) × (d : Declared) × At tables.channels k d × (d.id ≡ channel) × (d.content ≡ content)
-    → ((other : ℕ) (g : ChannelFields) → ShowsChannel content other g → ⊥) → ⊥
-unread records tables channel content knows found none = unnamed tables.channels channel content found (are_channels records tables knows.tables_are) none
 
 -- and it has that topic
 pub read_topic : (records : List Top) (tables : Tables) (channel : ℕ) (topic content : List ℕ) (other : ℕ) (g : ChannelFields) → Knows records tables → HasTopic records channel topic

@@ -8,5 +8,7 @@ pub mod Ordering
 pub mod Parts
 pub mod Played
 mod Printed
+pub mod Puttings
 mod Quoted
+pub mod Stretched
 mod Writing

@@ -1,5 +1,5 @@
 -- The topics of channels as JSON strings, and the lines with them.
-use Rattle.std.proofs.Common.{◌≡◌, ◌⊎◌, ℕ, ◌+◌, ◌==◌, zero, suc, Bool, true, false, cond, List, [], ◌∷◌, ◌++◌, length, take, decimal, refl, sym, ap, subst, inl, inr, ◌∙◌, append_assoc}
+use Rattle.std.proofs.Common.{◌≡◌, ◌⊎◌, ℕ, ◌+◌, ◌==◌, zero, suc, Bool, true, false, cond, List, [], ◌∷◌, ◌++◌, length, take, map, decimal, refl, sym, ap, subst, inl, inr, ◌∙◌, append_assoc}
 use Rattle.std.proofs.lemmas.List.{append-nil}
 use Rattle.std.specs.List.{flat_map}
 use Rattle.std.proofs.lemmas.Grind.{flat_map-append}
@@ -20,6 +20,7 @@ use Rattle.std.proofs.lemmas.Option.{same_Some}
 use Rattle.mcap_model.proofs.NamedTopics.{unmapped}
 use Rattle.mcap_model.proofs.OneMore.{taken_more}
 use Rattle.mcap_model.proofs.Replays.{first_topic, first_found}
+use Rattle.time_player.specs.Stretches.{TimedLine, timed_line, timed_lines, held_lines}
 use Rattle.time_player.specs.Lines.{line_of, lines_of, spelling, EachDeclaredOnce, Quotes, Spells}
 
 -- ---- places in longer lists
@@ -152,17 +153,29 @@ lines_same f g (x ∷ xs) same =
     ap (λ (l : List ℕ). l ++ flat_map f xs) (same x (0, refl))
     ∙ ap (λ (l : List ℕ). g x ++ l) (lines_same f g xs (λ y has. same y (suc has.0, has.1)))
 
+-- the line of a message with what is read off the table
+line_read : (replayed : Replayed) (table : List Declared) (messages : List Seen) → Shows replayed messages → Quotes replayed.topics.items table → (m : Seen) → Has messages m → line_of (shown_as m) (spelling table m.channel) ≡ cat_line m
+line_read replayed table messages shows quotes m has =
+    let there = shows.topics.all m has in
+    let entry = quotes.all there.0 (topic_as m) there.1 in
+    let text : entry.1.content ≡ quoted m.topic = spelled_topic messages replayed.topics.items table m entry.1.content shows.topics quotes has (inl (entry.0, entry.1, entry.2, entry.3, refl)) in
+    let is : spelling table m.channel ≡ entry.1.content = sym (ap (spelling table) entry.3) ∙ spelling_found table entry.0 entry.1 quotes.apart entry.2 in
+    ap (line_of (shown_as m)) (is ∙ text) ∙ line_is m
+
 -- the lines of the messages that are shown
 pub lines_are : (replayed : Replayed) (table : List Declared) (messages : List Seen) → Shows replayed messages → Quotes replayed.topics.items table → lines_of table replayed.shown.items ≡ cat_text messages
 lines_are replayed table messages shows quotes =
     ap (lines_of table) shows.shown
     ∙ flat_map-map (λ (s : Shown). line_of s (spelling table s.channel)) shown_as messages
-    ∙ lines_same (λ (m : Seen). line_of (shown_as m) (spelling table m.channel)) cat_line messages one
-  where
-    one : (m : Seen) → Has messages m → line_of (shown_as m) (spelling table m.channel) ≡ cat_line m
-    one m has =
-        let there = shows.topics.all m has in
-        let entry = quotes.all there.0 (topic_as m) there.1 in
-        let text : entry.1.content ≡ quoted m.topic = spelled_topic messages replayed.topics.items table m entry.1.content shows.topics quotes has (inl (entry.0, entry.1, entry.2, entry.3, refl)) in
-        let is : spelling table m.channel ≡ entry.1.content = sym (ap (spelling table) entry.3) ∙ spelling_found table entry.0 entry.1 quotes.apart entry.2 in
-        ap (line_of (shown_as m)) (is ∙ text) ∙ line_is m
+    ∙ lines_same (λ (m : Seen). line_of (shown_as m) (spelling table m.channel)) cat_line messages (line_read replayed table messages shows quotes)
+
+timed_same : (table : List Declared) (messages : List Seen) → ((m : Seen) → Has messages m → line_of (shown_as m) (spelling table m.channel) ≡ cat_line m) → held_lines table (map shown_as messages) ≡ timed_lines messages
+timed_same table [] same = refl
+timed_same table (m ∷ ms) same =
+    ap (λ (l : List ℕ). record { time = m.message.log_time; text = l } ∷ held_lines table (map shown_as ms)) (same m (0, refl))
+    ∙ ap (λ (l : List TimedLine). timed_line m ∷ l) (timed_same table ms (λ s has. same s (suc has.0, has.1)))
+
+-- and with their log times
+pub timed_are : (replayed : Replayed) (table : List Declared) (messages : List Seen) → Shows replayed messages → Quotes replayed.topics.items table → held_lines table replayed.shown.items ≡ timed_lines messages
+timed_are replayed table messages shows quotes =
+    ap (held_lines table) shows.shown ∙ timed_same table messages (line_read replayed table messages shows quotes)

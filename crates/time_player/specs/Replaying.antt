@@ -16,6 +16,7 @@ use Rattle.mcap_scan.specs.RefusedReadings.{HaltsSo, MemoryStands, RefusalStands
 use Rattle.time_player.specs.declared.kept.Kept.{Kept}
 use Rattle.time_player.specs.Asking.{is_asked}
 use Rattle.time_player.specs.Keeping.{kept_in}
+use Rattle.time_player.specs.Stretches.{TimedLine, timed_lines}
 
 -- these are the messages of records that are good, and the tables of those records
 pub record IsGoodScan (tops : List Top) (tables : Tables) (messages : List Seen) : Type 0 where
@@ -78,3 +79,22 @@ pub record PlaysAllLines (range : Range) (topic : Option (List ℕ)) (before now
 abbrev pub PlaysLines : Range → Option (List ℕ) → SourceState → SourceState → Result (List ℕ) ReadingRefused → Type 0
 PlaysLines range topic before now (Ok text) = PlaysAllLines range topic before now text
 PlaysLines range topic before now (Err why) = (tops : List Top) × RefusalStands why before now tops
+
+-- And where their lines are made ready, with their log times.
+abbrev pub AreTimed : Range → Option (List ℕ) → List Seen → List TimedLine → Type 0
+AreTimed range topic messages lines =
+    (shown : List Seen) × Replay range topic messages shown × (lines ≡ timed_lines shown)
+
+pub record PlaysAllTimed (range : Range) (topic : Option (List ℕ)) (before now : SourceState) (lines : List TimedLine)
+    : Type 0 where
+  pub tops : List Top
+  pub end : ℕ
+  pub messages : List Seen
+  pub halts : HaltsSo before now tops (at_end end)
+  pub scan : Scan tops messages
+  pub lines_are : AreTimed range topic messages lines
+
+abbrev pub PlaysTimed : Range → Option (List ℕ) → SourceState → SourceState → Result (List TimedLine) ReadingRefused
+    → Type 0
+PlaysTimed range topic before now (Ok lines) = PlaysAllTimed range topic before now lines
+PlaysTimed range topic before now (Err why) = (tops : List Top) × RefusalStands why before now tops

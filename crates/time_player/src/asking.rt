@@ -7,7 +7,6 @@ ghost use Rattle.time_player.specs.Asking.{is_topic, Knows};
 
 use mcap_model::Tables;
 use mcap_wire::Text;
-use rec_data::Channel;
 
 /// Whether the channel of that id has the topic that is asked for, if one is.
 pub(crate) fn is_on_topic(tables: &Tables, channel: u16, topic: Option<&Text>) -> bool
@@ -18,12 +17,8 @@ pub(crate) fn is_on_topic(tables: &Tables, channel: u16, topic: Option<&Text>) -
         Some(asked) => asked,
         None => return true,
     };
-    let content = match tables.channels.find(channel) {
-        Some(content) => content,
+    match tables.channels.view(channel) {
+        Some(found) => return asked.is(found.topic),
         None => return false,
-    };
-    match Channel::parse(content) {
-        Ok(found) => return asked.is(found.topic),
-        Err(_) => return false,
     }
 }

@@ -16,6 +16,7 @@ mod printer;
 mod replay;
 mod replaying;
 mod store_part;
+mod timed_lines;
 mod topics;
 
 pub use kept::Kept;
@@ -24,5 +25,6 @@ pub use line::add_line;
 pub use lines::cat_text;
 pub use printer::Printer;
 pub use replay::KeptReplay;
-pub use replaying::{replay_lines, replay_scan};
+pub use replaying::{replay_lines, replay_scan, replay_timed};
+pub use timed_lines::{Stretch, TimedLines};
 pub use topics::topics_of_kept;

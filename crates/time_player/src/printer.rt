@@ -21,7 +21,7 @@ use std::marker::Model;
 use std::mem;
 
 /// From how many bytes on a piece is written.
-const PIECE: usize = 65_536;
+pub(crate) const PIECE: usize = 65_536;
 
 /// The lines of messages that are to be printed, with all the memory that this takes. Contracts see their text.
 #[derive(Drop)]
@@ -45,8 +45,8 @@ impl Model for Printer {
     ghost invariant = { λ p. HasLineRoom (messages_in p.messages) p.quoted (vec_capacity p.piece) };
 }
 
-// The room that the longest line takes, if it can be had at all.
-fn longest_line(messages: &Messages, quoted: &Table) -> Option<usize>
+/// The room that the longest line takes, if it can be had at all.
+pub(crate) fn longest_line(messages: &Messages, quoted: &Table) -> Option<usize>
     requires { EachDeclaredOnce quoted.now }
     ensures { IfSome result (λ n. Each (λ s. line_room s (spelling quoted.now s.channel) ≤ n)
         (messages_in messages.now)) }
@@ -62,8 +62,8 @@ fn longest_line(messages: &Messages, quoted: &Table) -> Option<usize>
     return Some(longest);
 }
 
-// An empty piece, with that much room behind it.
-fn make_piece(alloc: Global, longest: usize) -> Result<Vec<u8>, Memory>
+/// An empty piece, with room for that much after it.
+pub(crate) fn make_piece(alloc: Global, longest: usize) -> Result<Vec<u8>, Memory>
     ensures { IfOk result (λ piece. 65536 + longest ≤ vec_capacity piece) }
 {
     let room = match longest.checked_add(PIECE) {

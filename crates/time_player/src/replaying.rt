@@ -9,12 +9,13 @@ ghost use Rattle.mcap_model.specs.declared.refusals.ReadingRefused.{ReadingRefus
 ghost use Rattle.mcap_scan.specs.declared.reader.Stage.TheVariants as stages;
 ghost use Rattle.time_player.specs.Asking.{is_asked};
 ghost use Rattle.time_player.specs.Keeping.{kept_in};
-ghost use Rattle.time_player.specs.Replaying.{IsGoodScan, IsPlayed, AreLines, ReadsKept, Plays, PlaysLines};
+ghost use Rattle.time_player.specs.Replaying.{IsGoodScan, IsPlayed, AreLines, AreTimed, ReadsKept, Plays, PlaysLines, PlaysTimed};
 
 use crate::keeping::keep_record;
 use crate::kept::Kept;
 use crate::printer::Printer;
 use crate::replay::KeptReplay;
+use crate::timed_lines::TimedLines;
 use crate::topics::topics_of_kept;
 use mcap_io::Source;
 use mcap_model::{Range, ReadingRefused, Replayed, Tables, put_in_order, topics_of};
@@ -40,11 +41,11 @@ fn finish(alloc: Global, tables: &Tables, kept: &Kept) -> Result<Replayed, Memor
     return Ok(Replayed { topics, shown });
 }
 
-// Puts the messages that were kept in order, and makes ready to print them.
-fn finish_lines(alloc: Global, tables: &Tables, kept: Kept) -> Result<Printer, Memory>
+// Puts the messages that were kept in order, with the topics of their channels.
+fn finish_kept(alloc: Global, tables: &Tables, kept: Kept) -> Result<KeptReplay, Memory>
     ensures { (range : Times) (topic : Option (List ℕ)) (tops : List Top) (messages : List Seen)
         → IsGoodScan tops tables.now messages → kept_in kept ≡ map shown_as (filter (is_asked range topic) messages)
-        → IfOk result (λ text. AreLines range topic messages text) }
+        → IfOk result (λ played. IsPlayed range topic messages played) }
 {
     let mut kept = kept;
     let topics = match topics_of_kept(alloc, tables, &kept) {
@@ -52,8 +53,37 @@ fn finish_lines(alloc: Global, tables: &Tables, kept: Kept) -> Result<Printer, M
         Err(memory) => return Err(memory),
     };
     kept.put_in_order();
-    match Printer::of_kept(alloc, KeptReplay::new(topics, kept)) {
+    return Ok(KeptReplay::new(topics, kept));
+}
+
+// Puts the messages that were kept in order, and makes ready to print them.
+fn finish_lines(alloc: Global, tables: &Tables, kept: Kept) -> Result<Printer, Memory>
+    ensures { (range : Times) (topic : Option (List ℕ)) (tops : List Top) (messages : List Seen)
+        → IsGoodScan tops tables.now messages → kept_in kept ≡ map shown_as (filter (is_asked range topic) messages)
+        → IfOk result (λ text. AreLines range topic messages text) }
+{
+    let replayed = match finish_kept(alloc, tables, kept) {
+        Ok(replayed) => replayed,
+        Err(memory) => return Err(memory),
+    };
+    match Printer::of_kept(alloc, replayed) {
         Ok(text) => return Ok(text),
+        Err(memory) => return Err(memory),
+    }
+}
+
+// Puts the messages that were kept in order, and makes ready to print stretches of them.
+fn finish_timed(alloc: Global, tables: &Tables, kept: Kept) -> Result<TimedLines, Memory>
+    ensures { (range : Times) (topic : Option (List ℕ)) (tops : List Top) (messages : List Seen)
+        → IsGoodScan tops tables.now messages → kept_in kept ≡ map shown_as (filter (is_asked range topic) messages)
+        → IfOk result (λ lines. AreTimed range topic messages lines) }
+{
+    let replayed = match finish_kept(alloc, tables, kept) {
+        Ok(replayed) => replayed,
+        Err(memory) => return Err(memory),
+    };
+    match TimedLines::of_kept(alloc, replayed) {
+        Ok(lines) => return Ok(lines),
         Err(memory) => return Err(memory),
     }
 }
@@ -132,6 +162,26 @@ pub fn replay_lines<S: Source>(
     match read_kept(alloc, source, range, topic) {
         Ok((tables, kept)) => match finish_lines(alloc, &tables, kept) {
             Ok(text) => return Ok(text),
+            Err(_) => return Err(ReadingRefused::Memory),
+        },
+        Err(why) => return Err(why),
+    }
+}
+
+/// The lines of the messages that `replay_scan` gives, with their log times, and all the memory that printing stretches of
+/// them takes.
+pub fn replay_timed<S: Source>(
+    alloc: Global,
+    source: &mut S,
+    range: Range,
+    topic: Option<&Text>,
+) -> Result<TimedLines, ReadingRefused>
+    ensures plays { PlaysTimed range (asked_topic topic.entry) (S.state source.old) (S.state source.new) result }
+    ensures stays { S.stays source.old source.new }
+{
+    match read_kept(alloc, source, range, topic) {
+        Ok((tables, kept)) => match finish_timed(alloc, &tables, kept) {
+            Ok(lines) => return Ok(lines),
             Err(_) => return Err(ReadingRefused::Memory),
         },
         Err(why) => return Err(why),

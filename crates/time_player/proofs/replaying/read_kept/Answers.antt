@@ -10,6 +10,12 @@ records-init g c = (
   g.S.Source.stays_so c.args.source.now,
 )
 
+pub keep_record-requires : goal.keep_record-requires
+keep_record-requires g c =
+    let was = c.records.invariant.0 in
+    let step = c.in-Record.ensures.steps (g.S.Source.state c.args.source.now) was.tops was.given was.stands in
+    step.v6
+
 pub records-preserved : goal.records-preserved
 records-preserved g c =
     let before = g.S.Source.state c.args.source.now in

@@ -1,0 +1,9 @@
+mod Values
+mod HaveValues
+mod Steps
+pub mod Consequences
+mod Cutting
+mod LineWords
+mod ScriptLines
+mod Scripts
+mod GoingOn
