@@ -13,13 +13,14 @@ use Rattle.clap.specs.Words.{Row, first_of}
 use Rattle.mcap_model.specs.declared.replay.Range.{Range}
 use Rattle.command_words.specs.Synopses.{IsOneOf, Synopsis}
 use Rattle.command_words.specs.Items.{Word, Item, flag, joined, apart, plain, IsFlag, IsFree, IsItem, IsOption, given, place_of, texts, words_of}
-use Rattle.command_words.specs.Commands.{AreAmounts, Flags, GivesNumber, GivesSpan, HasWatchers, IsCat, IsFileOptions, IsGenerate, IsMerge, IsNumber, IsOfFile, IsRange, IsRecord, IsRecover, ReadsWords, file_synopsis, synopsis_of}
+use Rattle.command_words.specs.Commands.{AreAmounts, Flags, GivesNumber, GivesSpan, HasWatchers, IsCat, IsFileOptions, IsFilter, IsGenerate, IsMerge, IsNumber, IsOfFile, IsPlay, IsRange, IsRecord, IsRecover, ReadsWords, Rewrites, file_synopsis, synopsis_of}
+use Rattle.command_words.specs.declared.command.FileFilter.{FileFilter}
 use Rattle.command_words.specs.declared.command.FileMerge.{FileMerge}
-use Rattle.command_words.specs.declared.command.FileRecovery.{FileRecovery}
 use Rattle.command_words.specs.declared.command.Generation.{Generation}
+use Rattle.command_words.specs.declared.command.Playing.{Playing}
 use Rattle.command_words.specs.declared.command.Printing.{Printing}
 use Rattle.command_words.specs.declared.command.Recording.{Recording}
-use Rattle.command_words.specs.Matches.{AreFeedNames, AreUnwatched, AtPlaces, AtPlacesIn, FitsSynopsis, TakesPositionals, HasRoomIn, IsLoose, IsReading, all_found}
+use Rattle.command_words.specs.Matches.{AreFeedNames, AreUnwatched, AtPlaces, AtPlacesIn, FitsSynopsis, FindsRewriting, TakesPositionals, HasRoomIn, IsLoose, IsReading, Selects, all_found}
 use Rattle.command_words.specs.declared.verbs.Verb.TheVariants as verb
 use Rattle.command_words.proofs.CutLemmas.{loose_cut, one_cut}
 use Rattle.command_words.proofs.OneCommand.{one_watching}
@@ -201,6 +202,12 @@ merged = record { first = refl; rest = refl }
 abbrev generated : IsOfMore (synopsis_of verb.Generate) (codes "seed") (codes "rest")
 generated = record { first = refl; rest = refl }
 
+abbrev filtered : IsOfMore (synopsis_of verb.Filter) (codes "in") (codes "out")
+filtered = record { first = refl; rest = refl }
+
+abbrev played : IsOfMore (synopsis_of verb.Play) (codes "file") (codes "script")
+played = record { first = refl; rest = refl }
+
 abbrev printed : IsOfOne (synopsis_of verb.Cat) (codes "file")
 printed = record { first = refl; alone = refl }
 
@@ -332,33 +339,51 @@ module _ (words : List Word) (rows : List Row) (reading : IsReading (synopsis_of
   merge_fed name found = subst (λ (n : Word). AreFeedNames n (all_found (codes "in") rows)) (same_Some merge.out name (sym merge_names.0 ∙ found))
       (subst (AreFeedNames merge.out) (sym merge_names.1) (is.some, is.few, λ i d less. (is.inputs_named i d less, is.differ i d less)))
 
-pub recover_is : (words : List Word) (rows : List Row) (reading : IsReading (synopsis_of verb.Recover) words rows) (input out : Word) (size : Option ℕ) → first_of (codes "in") rows ≡ Some input → all_found (codes "out") rows ≡ out ∷ [] → input ≢ [] → out ≢ [] → input ≢ out
-    → GivesNumber 1 67108864 (option_to_list (first_of (codes "chunk") rows)) size → IsRecover words (record { input = input; out = out; chunk = unwrap_or size 786432 })
-recover_is words rows reading input out size is is2 in_named out_named differ sized = record {
-  items = reading.items;
-  reads = subst (ReadsWords (synopsis_of verb.Recover) words reading.items) (more_places (synopsis_of verb.Recover) words rows reading (codes "in") (codes "out") recovered input (out ∷ []) is is2)
-      (exact_reading (synopsis_of verb.Recover) words rows reading (each_of (IsClean rows) (codes "chunk" ∷ []) (number_clean 1 67108864 (first_of (codes "chunk") rows) size sized, tt)));
-  in_named = in_named;
-  out_named = out_named;
-  differ = differ;
-  size = size;
-  sized = subst (λ (l : List Word). GivesNumber 1 67108864 l size) (sym (reading.shows.options (codes "chunk") (inl refl))) sized;
-  chunk_is = refl;
-}
+-- a command that writes a file of one
+module _ (v : Synopsis) (words : List Word) (rows : List Row) (reading : IsReading v words rows) (more : IsOfMore v (codes "in") (codes "out")) (chunked : IsOption v (codes "chunk")) (input out : Word) (chunk : ℕ) where
+  pub chunk_clean : FindsRewriting rows input out chunk → IsClean rows (codes "chunk")
+  chunk_clean finds = number_clean 1 67108864 (first_of (codes "chunk") rows) finds.size finds.sized
 
--- the words of a recovery have these names and this size
-module _ (words : List Word) (rows : List Row) (reading : IsReading (synopsis_of verb.Recover) words rows) (recovery : FileRecovery) (is : IsRecover words recovery) where
-  pub recover_names : (first_of (codes "in") rows ≡ Some recovery.input) × (all_found (codes "out") rows ≡ recovery.out ∷ [])
-  recover_names = more_are (synopsis_of verb.Recover) words rows reading (codes "in") (codes "out") recovered recovery.input (recovery.out ∷ []) (sym (same_reading (synopsis_of verb.Recover) words rows reading is.items (recovery.input ∷ recovery.out ∷ []) is.reads).1)
+  -- what was found of it is what the words say
+  abbrev pub rewrites_by : ((name : Word) → IsOption v name → IsClean rows name) → FindsRewriting rows input out chunk → Rewrites v words input out chunk
+  rewrites_by clean finds = record {
+    items = reading.items;
+    reads = subst (ReadsWords v words reading.items) (more_places v words rows reading (codes "in") (codes "out") more input (out ∷ []) finds.input_is finds.out_is) (exact_reading v words rows reading clean);
+    in_named = finds.in_named;
+    out_named = finds.out_named;
+    differ = finds.differ;
+    size = finds.size;
+    sized = subst (λ (l : List Word). GivesNumber 1 67108864 l finds.size) (sym (reading.shows.options (codes "chunk") chunked)) finds.sized;
+    chunk_is = finds.chunk_is;
+  }
 
-  pub recover_size : GivesNumber 1 67108864 (option_to_list (first_of (codes "chunk") rows)) is.size
-  recover_size =
-      let same = ap (given (codes "chunk")) (same_reading (synopsis_of verb.Recover) words rows reading is.items (recovery.input ∷ recovery.out ∷ []) is.reads).0 ∙ reading.shows.options (codes "chunk") (inl refl) in
-      subst (λ (l : List Word). GivesNumber 1 67108864 l is.size) same is.sized
+  rewriting_items : (is : Rewrites v words input out chunk) → (is.items ≡ reading.items) × (input ∷ out ∷ [] ≡ places_in reading)
+  rewriting_items is = same_reading v words rows reading is.items (input ∷ out ∷ []) is.reads
 
-  -- the output is the one that is found beside this input
-  pub recover_out : (name : Word) → first_of (codes "in") rows ≡ Some name → name ≢ recovery.out
-  recover_out name found = subst (λ (n : Word). n ≢ recovery.out) (same_Some recovery.input name (sym recover_names.0 ∙ found)) is.differ
+  -- and the other way
+  pub finds_by : Rewrites v words input out chunk → FindsRewriting rows input out chunk
+  finds_by is =
+      let names = more_are v words rows reading (codes "in") (codes "out") more input (out ∷ []) (sym (rewriting_items is).1) in
+      let same = ap (given (codes "chunk")) (rewriting_items is).0 ∙ reading.shows.options (codes "chunk") chunked in
+      record {
+        input_is = names.0;
+        out_is = names.1;
+        in_named = is.in_named;
+        out_named = is.out_named;
+        differ = is.differ;
+        size = is.size;
+        sized = subst (λ (l : List Word). GivesNumber 1 67108864 l is.size) same is.sized;
+        chunk_is = is.chunk_is;
+      }
+
+-- a recovery does
+module _ (words : List Word) (rows : List Row) (input out : Word) (chunk : ℕ) where
+  pub recover_is : (reading : IsReading (synopsis_of verb.Recover) words rows) → FindsRewriting rows input out chunk → IsRecover words (record { input = input; out = out; chunk = chunk })
+  recover_is reading finds = rewrites_by (synopsis_of verb.Recover) words rows reading recovered (inl refl) input out chunk
+      (each_of (IsClean rows) (codes "chunk" ∷ []) (chunk_clean (synopsis_of verb.Recover) words rows reading recovered (inl refl) input out chunk finds, tt)) finds
+
+  pub recover_found : (reading : IsReading (synopsis_of verb.Recover) words rows) → Rewrites (synopsis_of verb.Recover) words input out chunk → FindsRewriting rows input out chunk
+  recover_found reading is = finds_by (synopsis_of verb.Recover) words rows reading recovered (inl refl) input out chunk is
 
 -- what was found of a recording
 module _ (words : List Word) (rows : List Row) (reading : IsReading (synopsis_of verb.Record) words rows) (recording : Recording) (size : Option ℕ) where
@@ -403,6 +428,22 @@ of_file_is v words rows reading file only is named = record {
   named = named;
 }
 
+-- an option that the words have isn't `-`
+pub dash_bad : (v : Synopsis) (words : List Word) (rows : List Row) (reading : IsReading v words rows) (items : List Item) (places : List Word) (name : Word) → IsOption v name → first_of name rows ≡ Some (codes "-") → ReadsWords v words items places → ⊥
+dash_bad v words rows reading items places name is dash reads =
+    let same = (same_reading v words rows reading items places reads).0 in
+    never_dash v name items is reads.cut.each (ap (given name) same ∙ reading.shows.options name is ∙ ap option_to_list dash)
+
+-- the times that were found aren't `-`
+module _ (v : Synopsis) (words : List Word) (rows : List Row) (reading : IsReading v words rows) (selects : Selects v) (range : Range) (ranged : IsRange reading.items range) where
+  start_clean : IsClean rows (codes "start")
+  start_clean = number_clean 0 18446744073709551615 (first_of (codes "start") rows) ranged.start
+      (subst (λ (l : List Word). GivesNumber 0 18446744073709551615 l ranged.start) (reading.shows.options (codes "start") selects.0) ranged.started)
+
+  end_clean : IsClean rows (codes "end")
+  end_clean = number_clean 0 18446744073709551615 (first_of (codes "end") rows) range.end
+      (subst (λ (l : List Word). GivesNumber 0 18446744073709551615 l range.end) (reading.shows.options (codes "end") selects.1) ranged.ended)
+
 pub cat_is : (words : List Word) (rows : List Row) (reading : IsReading (synopsis_of verb.Cat) words rows) (file : Word) (indexed : Bool) (range : Range) (topic : Option Word) → first_of (codes "file") rows ≡ Some file → file ≢ [] → Flags (given (codes "indexed") reading.items) indexed
     → IsRange reading.items range → topic ≡ first_of (codes "topic") rows → IsClean rows (codes "topic") → IsCat words (record { file = file; indexed = indexed; range = range; topic = topic })
 cat_is words rows reading file indexed range topic is named flagged ranged topical clean = record {
@@ -414,22 +455,77 @@ cat_is words rows reading file indexed range topic is named flagged ranged topic
   topical = reading.shows.options (codes "topic") (inr (inr (inl refl))) ∙ ap option_to_list (sym topical);
 }
   where
-    start_clean : IsClean rows (codes "start")
-    start_clean = number_clean 0 18446744073709551615 (first_of (codes "start") rows) ranged.start
-        (subst (λ (l : List Word). GivesNumber 0 18446744073709551615 l ranged.start) (reading.shows.options (codes "start") (inl refl)) ranged.started)
-
-    end_clean : IsClean rows (codes "end")
-    end_clean = number_clean 0 18446744073709551615 (first_of (codes "end") rows) range.end
-        (subst (λ (l : List Word). GivesNumber 0 18446744073709551615 l range.end) (reading.shows.options (codes "end") (inr (inl refl))) ranged.ended)
-
     all_clean : (name : Word) → IsOption (synopsis_of verb.Cat) name → IsClean rows name
-    all_clean = each_of (IsClean rows) (synopsis_of verb.Cat).options (start_clean, (end_clean, (clean, tt)))
+    all_clean = each_of (IsClean rows) (synopsis_of verb.Cat).options (
+      start_clean (synopsis_of verb.Cat) words rows reading (inl refl, inr (inl refl), inr (inr (inl refl))) range ranged,
+      (end_clean (synopsis_of verb.Cat) words rows reading (inl refl, inr (inl refl), inr (inr (inl refl))) range ranged, (clean, tt)),
+    )
 
--- an option that the words have isn't `-`
-pub dash_bad : (v : Synopsis) (words : List Word) (rows : List Row) (reading : IsReading v words rows) (items : List Item) (places : List Word) (name : Word) → IsOption v name → first_of name rows ≡ Some (codes "-") → ReadsWords v words items places → ⊥
-dash_bad v words rows reading items places name is dash reads =
-    let same = (same_reading v words rows reading items places reads).0 in
-    never_dash v name items is reads.cut.each (ap (given name) same ∙ reading.shows.options name is ∙ ap option_to_list dash)
+-- what selects the messages of a filtering and of a playing
+pub filter_selects : Selects (synopsis_of verb.Filter)
+filter_selects = (inl refl, inr (inl refl), inr (inr (inl refl)))
+
+pub play_selects : Selects (synopsis_of verb.Play)
+play_selects = (inl refl, inr (inl refl), inr (inr (inl refl)))
+
+pub cat_selects : Selects (synopsis_of verb.Cat)
+cat_selects = (inl refl, inr (inl refl), inr (inr (inl refl)))
+
+module _ (words : List Word) (rows : List Row) (reading : IsReading (synopsis_of verb.Filter) words rows) (filtering : FileFilter) where
+  chunk_fourth : IsOption (synopsis_of verb.Filter) (codes "chunk")
+  chunk_fourth = inr (inr (inr (inl refl)))
+
+  pub filter_is : FindsRewriting rows filtering.input filtering.out filtering.chunk → IsRange reading.items filtering.range → filtering.topic ≡ first_of (codes "topic") rows → IsClean rows (codes "topic") → IsFilter words filtering
+  filter_is finds ranged topical clean = record {
+    rewrites = rewrites_by (synopsis_of verb.Filter) words rows reading filtered chunk_fourth filtering.input filtering.out filtering.chunk all_clean finds;
+    ranged = ranged;
+    topical = reading.shows.options (codes "topic") (inr (inr (inl refl))) ∙ ap option_to_list (sym topical);
+  }
+    where
+      all_clean : (name : Word) → IsOption (synopsis_of verb.Filter) name → IsClean rows name
+      all_clean = each_of (IsClean rows) (synopsis_of verb.Filter).options (
+        start_clean (synopsis_of verb.Filter) words rows reading filter_selects filtering.range ranged,
+        (
+          end_clean (synopsis_of verb.Filter) words rows reading filter_selects filtering.range ranged,
+          (clean, (chunk_clean (synopsis_of verb.Filter) words rows reading filtered chunk_fourth filtering.input filtering.out filtering.chunk finds, tt)),
+        ),
+      )
+
+  pub filter_found : IsFilter words filtering → FindsRewriting rows filtering.input filtering.out filtering.chunk
+  filter_found is = finds_by (synopsis_of verb.Filter) words rows reading filtered chunk_fourth filtering.input filtering.out filtering.chunk is.rewrites
+
+  pub filter_range : IsFilter words filtering → IsRange reading.items filtering.range
+  filter_range is = subst (λ (l : List Item). IsRange l filtering.range)
+      (same_reading (synopsis_of verb.Filter) words rows reading is.rewrites.items (filtering.input ∷ filtering.out ∷ []) is.rewrites.reads).0 is.ranged
+
+  pub filter_clean : IsFilter words filtering → IsClean rows (codes "topic")
+  filter_clean is dash = dash_bad (synopsis_of verb.Filter) words rows reading is.rewrites.items (filtering.input ∷ filtering.out ∷ []) (codes "topic") (inr (inr (inl refl))) dash is.rewrites.reads
+
+module _ (words : List Word) (rows : List Row) (reading : IsReading (synopsis_of verb.Play) words rows) (playing : Playing) where
+  pub play_is : first_of (codes "file") rows ≡ Some playing.file → all_found (codes "script") rows ≡ playing.script ∷ [] → playing.file ≢ [] → playing.script ≢ [] → IsRange reading.items playing.range → playing.topic ≡ first_of (codes "topic") rows → IsClean rows (codes "topic") → IsPlay words playing
+  play_is is is2 named named2 ranged topical clean = record {
+    items = reading.items;
+    reads = subst (ReadsWords (synopsis_of verb.Play) words reading.items) (more_places (synopsis_of verb.Play) words rows reading (codes "file") (codes "script") played playing.file (playing.script ∷ []) is is2) (exact_reading (synopsis_of verb.Play) words rows reading all_clean);
+    file_named = named;
+    script_named = named2;
+    ranged = ranged;
+    topical = reading.shows.options (codes "topic") (inr (inr (inl refl))) ∙ ap option_to_list (sym topical);
+  }
+    where
+      all_clean : (name : Word) → IsOption (synopsis_of verb.Play) name → IsClean rows name
+      all_clean = each_of (IsClean rows) (synopsis_of verb.Play).options (
+        start_clean (synopsis_of verb.Play) words rows reading play_selects playing.range ranged,
+        (end_clean (synopsis_of verb.Play) words rows reading play_selects playing.range ranged, (clean, tt)),
+      )
+
+  pub play_names : IsPlay words playing → (first_of (codes "file") rows ≡ Some playing.file) × (all_found (codes "script") rows ≡ playing.script ∷ [])
+  play_names is = more_are (synopsis_of verb.Play) words rows reading (codes "file") (codes "script") played playing.file (playing.script ∷ []) (sym (same_reading (synopsis_of verb.Play) words rows reading is.items (playing.file ∷ playing.script ∷ []) is.reads).1)
+
+  pub play_range : IsPlay words playing → IsRange reading.items playing.range
+  play_range is = subst (λ (l : List Item). IsRange l playing.range) (same_reading (synopsis_of verb.Play) words rows reading is.items (playing.file ∷ playing.script ∷ []) is.reads).0 is.ranged
+
+  pub play_clean : IsPlay words playing → IsClean rows (codes "topic")
+  play_clean is dash = dash_bad (synopsis_of verb.Play) words rows reading is.items (playing.file ∷ playing.script ∷ []) (codes "topic") (inr (inr (inl refl))) dash is.reads
 
 -- ---- words that no command has
 
@@ -482,6 +578,21 @@ fit_cat words printing is = fit_with (synopsis_of verb.Cat) words is.items (prin
   (once_number 0 18446744073709551615 (given (codes "end") is.items) printing.range.end is.ranged.ended, ((printing.topic, is.topical), tt)),
 )
     ((printing.indexed, is.flagged), tt) (omega arith)
+
+pub fit_filter : (words : List Word) (filtering : FileFilter) → IsFilter words filtering → Fitting (synopsis_of verb.Filter) words
+fit_filter words filtering is = fit_with (synopsis_of verb.Filter) words is.rewrites.items (filtering.input ∷ filtering.out ∷ []) is.rewrites.reads (
+  once_number 0 18446744073709551615 (given (codes "start") is.rewrites.items) is.ranged.start is.ranged.started,
+  (
+    once_number 0 18446744073709551615 (given (codes "end") is.rewrites.items) filtering.range.end is.ranged.ended,
+    ((filtering.topic, is.topical), (once_number 1 67108864 (given (codes "chunk") is.rewrites.items) is.rewrites.size is.rewrites.sized, tt)),
+  ),
+) tt tt
+
+pub fit_play : (words : List Word) (playing : Playing) → IsPlay words playing → Fitting (synopsis_of verb.Play) words
+fit_play words playing is = fit_with (synopsis_of verb.Play) words is.items (playing.file ∷ playing.script ∷ []) is.reads (
+  once_number 0 18446744073709551615 (given (codes "start") is.items) is.ranged.start is.ranged.started,
+  (once_number 0 18446744073709551615 (given (codes "end") is.items) playing.range.end is.ranged.ended, ((playing.topic, is.topical), tt)),
+) tt tt
 
 pub fit_file : (v : Synopsis) (words : List Word) (file : Word) → HasOnlyFile v → IsOfFile v words file → Fitting v words
 fit_file v words file only is = record {

@@ -9,10 +9,12 @@ use Rattle.mcap_model.specs.declared.options.RecordOptions.{RecordOptions}
 use Rattle.mcap_model.specs.declared.replay.Range.{Range}
 use Rattle.command_words.specs.Synopses.{Synopsis}
 use Rattle.command_words.specs.Items.{Word, Item, given}
-use Rattle.command_words.specs.Commands.{Flags, GivesNumber, GivesSpan, HasChunks, HasProfile, HasWatchers, IsCat, IsFileOptions, IsGenerate, IsMerge, IsNumber, IsOfFile, IsRange, IsRecord, IsRecover, IsSpan, SizesChunks, synopsis_of, watchers_with, whole_time}
+use Rattle.command_words.specs.Commands.{Flags, GivesNumber, GivesSpan, HasChunks, HasProfile, HasWatchers, IsCat, IsFileOptions, IsFilter, IsGenerate, IsMerge, IsNumber, IsOfFile, IsPlay, IsRange, IsRecord, IsRecover, IsSpan, Rewrites, SizesChunks, synopsis_of, watchers_with, whole_time}
+use Rattle.command_words.specs.declared.command.FileFilter.{FileFilter}
 use Rattle.command_words.specs.declared.command.FileMerge.{FileMerge}
 use Rattle.command_words.specs.declared.command.FileRecovery.{FileRecovery}
 use Rattle.command_words.specs.declared.command.Generation.{Generation}
+use Rattle.command_words.specs.declared.command.Playing.{Playing}
 use Rattle.command_words.specs.declared.command.Printing.{Printing}
 use Rattle.command_words.specs.declared.command.Recording.{Recording}
 use Rattle.command_words.specs.declared.verbs.Verb.TheVariants as verb
@@ -158,11 +160,47 @@ recovery_with input out chunk = record { input = input; out = out; chunk = chunk
 recovery_same : (input input' out out' : Word) (m n : ℕ) → input' ∷ out' ∷ [] ≡ input ∷ out ∷ [] → n ≡ m → recovery_with input' out' n ≡ recovery_with input out m
 recovery_same input input' out out' m n places chunk = cc
 
+-- of two rewritings with the same words the items, the places and the size are the same
+module _ (v : Synopsis) (words : List Word) (input out input' out' : Word) (chunk chunk' : ℕ) (is : Rewrites v words input out chunk) (other : Rewrites v words input' out' chunk') where
+  rewriting_read : (other.items ≡ is.items) × (input' ∷ out' ∷ [] ≡ input ∷ out ∷ [])
+  rewriting_read = one_reading v words is.items other.items (input ∷ out ∷ []) (input' ∷ out' ∷ []) is.reads other.reads
+
+  rewriting_chunk : chunk' ≡ chunk
+  rewriting_chunk =
+      let size = one_number 1 67108864 (given (codes "chunk") is.items) is.size other.size is.sized (subst (λ (l : List Item). GivesNumber 1 67108864 (given (codes "chunk") l) other.size) rewriting_read.0 other.sized) in
+      other.chunk_is ∙ ap (λ (v : Option ℕ). unwrap_or v 786432) size ∙ sym is.chunk_is
+
 pub one_recover : (words : List Word) (a b : FileRecovery) → IsRecover words a → IsRecover words b → b ≡ a
-one_recover words a b is other =
-    let same = one_reading (synopsis_of verb.Recover) words is.items other.items (a.input ∷ a.out ∷ []) (b.input ∷ b.out ∷ []) is.reads other.reads in
-    let size = one_number 1 67108864 (given (codes "chunk") is.items) is.size other.size is.sized (subst (λ (l : List Item). GivesNumber 1 67108864 (given (codes "chunk") l) other.size) same.0 other.sized) in
-    recovery_same a.input b.input a.out b.out a.chunk b.chunk same.1 (other.chunk_is ∙ ap (λ (v : Option ℕ). unwrap_or v 786432) size ∙ sym is.chunk_is)
+one_recover words a b is other = recovery_same a.input b.input a.out b.out a.chunk b.chunk
+    (rewriting_read (synopsis_of verb.Recover) words a.input a.out b.input b.out a.chunk b.chunk is other).1
+    (rewriting_chunk (synopsis_of verb.Recover) words a.input a.out b.input b.out a.chunk b.chunk is other)
+
+abbrev filtering_with : Word → Word → Range → Option Word → ℕ → FileFilter
+filtering_with input out range topic chunk = record { input = input; out = out; range = range; topic = topic; chunk = chunk }
+
+filtering_same : (input input' out out' : Word) (r s : Range) (t u : Option Word) (m n : ℕ) → input' ∷ out' ∷ [] ≡ input ∷ out ∷ [] → s ≡ r → u ≡ t → n ≡ m → filtering_with input' out' s u n ≡ filtering_with input out r t m
+filtering_same input input' out out' r s t u m n places range topic chunk = cc
+
+pub one_filter : (words : List Word) (a b : FileFilter) → IsFilter words a → IsFilter words b → b ≡ a
+one_filter words a b is other =
+    let same = rewriting_read (synopsis_of verb.Filter) words a.input a.out b.input b.out a.chunk b.chunk is.rewrites other.rewrites in
+    let ranges = one_range is.rewrites.items a.range b.range is.ranged (subst (λ (l : List Item). IsRange l b.range) same.0 other.ranged) in
+    let topics = one_value a.topic b.topic (sym is.topical ∙ subst (λ (l : List Item). given (codes "topic") l ≡ option_to_list b.topic) same.0 other.topical) in
+    let chunk = rewriting_chunk (synopsis_of verb.Filter) words a.input a.out b.input b.out a.chunk b.chunk is.rewrites other.rewrites in
+    filtering_same a.input b.input a.out b.out a.range b.range a.topic b.topic a.chunk b.chunk same.1 ranges topics chunk
+
+abbrev playing_with : Word → Word → Range → Option Word → Playing
+playing_with file script range topic = record { file = file; script = script; range = range; topic = topic }
+
+playing_same : (file file' script script' : Word) (r s : Range) (t u : Option Word) → file' ∷ script' ∷ [] ≡ file ∷ script ∷ [] → s ≡ r → u ≡ t → playing_with file' script' s u ≡ playing_with file script r t
+playing_same file file' script script' r s t u places range topic = cc
+
+pub one_play : (words : List Word) (a b : Playing) → IsPlay words a → IsPlay words b → b ≡ a
+one_play words a b is other =
+    let same = one_reading (synopsis_of verb.Play) words is.items other.items (a.file ∷ a.script ∷ []) (b.file ∷ b.script ∷ []) is.reads other.reads in
+    let ranges = one_range is.items a.range b.range is.ranged (subst (λ (l : List Item). IsRange l b.range) same.0 other.ranged) in
+    let topics = one_value a.topic b.topic (sym is.topical ∙ subst (λ (l : List Item). given (codes "topic") l ≡ option_to_list b.topic) same.0 other.topical) in
+    playing_same a.file b.file a.script b.script a.range b.range a.topic b.topic same.1 ranges topics
 
 abbrev merge_with : Word → List Word → ℕ → FileMerge
 merge_with out inputs chunk = record { out = out; inputs = inputs; chunk = chunk }

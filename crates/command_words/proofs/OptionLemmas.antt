@@ -9,7 +9,8 @@ use Rattle.clap.specs.Words.{Row, first_of, one_of}
 use Rattle.mcap_model.specs.declared.replay.Range.{Range}
 use Rattle.command_words.specs.Items.{Word, Item, given}
 use Rattle.command_words.specs.Commands.{Flags, GivesNumber, GivesSpan, HasChunks, HasProfile, HasWatchers, IsRange, IsSpan, MayWatch, SizesChunks, synopsis_of, watchers_with, whole_time}
-use Rattle.command_words.specs.Matches.{ParsesInto}
+use Rattle.command_words.specs.Matches.{ParsesInto, Selects}
+use Rattle.command_words.specs.Synopses.{Synopsis}
 use Rattle.command_words.specs.declared.verbs.Verb.TheVariants as verb
 use Rattle.command_words.proofs.OneCommand.{no_colon, one_flag, one_given_span, one_number, one_value}
 
@@ -96,18 +97,18 @@ no_given_span word (Some w) (Some s) is bad (other, gives, span) =
     let second : w ≡ other = cc in
     bad s (subst (λ (v : Word). IsSpan v s) (sym (first ∙ second)) span)
 
-module _ (rows : List Row) (items : List Item) (places : List Word) (shows : ParsesInto (synopsis_of verb.Cat) items places rows) where
+module _ (v : Synopsis) (selects : Selects v) (rows : List Row) (items : List Item) (places : List Word) (shows : ParsesInto v items places rows) where
   pub range_is : (start : Option ℕ) (range : Range) → GivesNumber 0 18446744073709551615 (option_to_list (first_of (codes "start") rows)) start → range.start ≡ unwrap_or start 0
       → GivesNumber 0 18446744073709551615 (option_to_list (first_of (codes "end") rows)) range.end → IsRange items range
   range_is start range started from ended = record {
     start = start;
-    started = subst (λ (l : List Word). GivesNumber 0 18446744073709551615 l start) (sym (shows.options (codes "start") (inl refl))) started;
+    started = subst (λ (l : List Word). GivesNumber 0 18446744073709551615 l start) (sym (shows.options (codes "start") selects.0)) started;
     from = from;
-    ended = subst (λ (l : List Word). GivesNumber 0 18446744073709551615 l range.end) (sym (shows.options (codes "end") (inr (inl refl)))) ended;
+    ended = subst (λ (l : List Word). GivesNumber 0 18446744073709551615 l range.end) (sym (shows.options (codes "end") selects.1)) ended;
   }
 
   pub range_given : (range : Range) (is : IsRange items range) → GivesNumber 0 18446744073709551615 (option_to_list (first_of (codes "start") rows)) is.start × GivesNumber 0 18446744073709551615 (option_to_list (first_of (codes "end") rows)) range.end
   range_given range is = (
-    subst (λ (l : List Word). GivesNumber 0 18446744073709551615 l is.start) (shows.options (codes "start") (inl refl)) is.started,
-    subst (λ (l : List Word). GivesNumber 0 18446744073709551615 l range.end) (shows.options (codes "end") (inr (inl refl))) is.ended,
+    subst (λ (l : List Word). GivesNumber 0 18446744073709551615 l is.start) (shows.options (codes "start") selects.0) is.started,
+    subst (λ (l : List Word). GivesNumber 0 18446744073709551615 l range.end) (shows.options (codes "end") selects.1) is.ended,
   )

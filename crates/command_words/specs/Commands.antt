@@ -12,13 +12,15 @@ use Rattle.command_words.specs.Defaults.{Word, usual_chunk_size, usual_limit, wa
 use Rattle.command_words.specs.Items.{Item, WordsAreItems, given, place_of}
 use Rattle.command_words.specs.declared.command.Command.{Command}
 use Rattle.command_words.specs.declared.command.FileCommand.{FileCommand}
+use Rattle.command_words.specs.declared.command.FileFilter.{FileFilter}
 use Rattle.command_words.specs.declared.command.FileMerge.{FileMerge}
 use Rattle.command_words.specs.declared.command.FileRecovery.{FileRecovery}
 use Rattle.command_words.specs.declared.command.Generation.{Generation}
+use Rattle.command_words.specs.declared.command.Playing.{Playing}
 use Rattle.command_words.specs.declared.command.Printing.{Printing}
 use Rattle.command_words.specs.declared.command.Recording.{Recording}
 use Rattle.command_words.specs.declared.command.FileCommand.TheVariants.{Info, Check}
-use Rattle.command_words.specs.declared.command.Command.TheVariants.{Record, OfFile, Cat, Recover, Merge, Generate}
+use Rattle.command_words.specs.declared.command.Command.TheVariants.{Record, OfFile, Cat, Recover, Merge, Generate, Filter, Play}
 use Rattle.command_words.specs.declared.verbs.Verb.{Verb}
 use Rattle.command_words.specs.declared.verbs.Verb.TheVariants as verb
 
@@ -84,10 +86,27 @@ synopsis_of verb.Generate = record {
   rest = Some (codes "rest");
   sound = refl;
 }
+synopsis_of verb.Filter = record {
+  name = codes "filter";
+  flags = [];
+  options = codes "start" ∷ codes "end" ∷ codes "topic" ∷ codes "chunk" ∷ [];
+  first = codes "in";
+  rest = Some (codes "out");
+  sound = refl;
+}
+synopsis_of verb.Play = record {
+  name = codes "play";
+  flags = [];
+  options = codes "start" ∷ codes "end" ∷ codes "topic" ∷ [];
+  first = codes "file";
+  rest = Some (codes "script");
+  sound = refl;
+}
 
 -- all commands
 abbrev pub verbs : List Verb
-verbs = verb.Record ∷ (map verb.OfFile file_commands ++ (verb.Cat ∷ verb.Recover ∷ verb.Merge ∷ verb.Generate ∷ []))
+verbs = verb.Record ∷ (map verb.OfFile file_commands
+    ++ (verb.Cat ∷ verb.Recover ∷ verb.Merge ∷ verb.Generate ∷ verb.Filter ∷ verb.Play ∷ []))
 
 abbrev pub name_of : Verb → Word
 name_of verb = (synopsis_of verb).name
@@ -102,6 +121,8 @@ usage_of verb.Cat = codes "cat [--indexed] [--start N] [--end N] [--topic T] FIL
 usage_of verb.Recover = codes "recover [--chunk N] IN OUT"
 usage_of verb.Merge = codes "merge [--chunk N] OUT IN..."
 usage_of verb.Generate = codes "gen SEED FEEDS MESSAGES OUT"
+usage_of verb.Filter = codes "filter [--start N] [--end N] [--topic T] [--chunk N] IN OUT"
+usage_of verb.Play = codes "play [--start N] [--end N] [--topic T] FILE SCRIPT"
 
 abbrev pub usage_line : Verb → Word
 usage_line verb = codes "  " ++ (usage_of verb ++ codes "\n")
@@ -268,16 +289,34 @@ pub record IsCat (words : List Word) (printing : Printing) : Type 0 where
   pub ranged : IsRange items printing.range
   pub topical : given (codes "topic") items ≡ option_to_list printing.topic
 
--- recover, --chunk, IN and OUT
-pub record IsRecover (words : List Word) (recovery : FileRecovery) : Type 0 where
+-- --chunk, IN and OUT of a command that writes a file of one
+pub record Rewrites (synopsis : Synopsis) (words : List Word) (input out : Word) (chunk : ℕ) : Type 0 where
   pub items : List Item
-  pub reads : ReadsWords (synopsis_of verb.Recover) words items (recovery.input ∷ recovery.out ∷ [])
-  pub in_named : recovery.input ≢ []
-  pub out_named : recovery.out ≢ []
-  pub differ : recovery.input ≢ recovery.out
+  pub reads : ReadsWords synopsis words items (input ∷ out ∷ [])
+  pub in_named : input ≢ []
+  pub out_named : out ≢ []
+  pub differ : input ≢ out
   pub size : Option ℕ
   pub sized : GivesNumber 1 chunk_size_limit (given (codes "chunk") items) size
-  pub chunk_is : recovery.chunk ≡ unwrap_or size usual_chunk_size
+  pub chunk_is : chunk ≡ unwrap_or size usual_chunk_size
+
+abbrev pub IsRecover : List Word → FileRecovery → Type 0
+IsRecover words recovery = Rewrites (synopsis_of verb.Recover) words recovery.input recovery.out recovery.chunk
+
+-- filter, its options, IN and OUT
+pub record IsFilter (words : List Word) (filtering : FileFilter) : Type 0 where
+  pub rewrites : Rewrites (synopsis_of verb.Filter) words filtering.input filtering.out filtering.chunk
+  pub ranged : IsRange rewrites.items filtering.range
+  pub topical : given (codes "topic") rewrites.items ≡ option_to_list filtering.topic
+
+-- play, its options, FILE and SCRIPT, which may be one file
+pub record IsPlay (words : List Word) (playing : Playing) : Type 0 where
+  pub items : List Item
+  pub reads : ReadsWords (synopsis_of verb.Play) words items (playing.file ∷ playing.script ∷ [])
+  pub file_named : playing.file ≢ []
+  pub script_named : playing.script ≢ []
+  pub ranged : IsRange items playing.range
+  pub topical : given (codes "topic") items ≡ option_to_list playing.topic
 
 -- merge, --chunk, OUT and each IN
 pub record IsMerge (words : List Word) (merge : FileMerge) : Type 0 where
@@ -318,6 +357,8 @@ WordsMean words (Cat printing) = IsCat words printing
 WordsMean words (Recover recovery) = IsRecover words recovery
 WordsMean words (Merge merge) = IsMerge words merge
 WordsMean words (Generate generation) = IsGenerate words generation
+WordsMean words (Filter filtering) = IsFilter words filtering
+WordsMean words (Play playing) = IsPlay words playing
 
 abbrev pub verb_of : Command → Verb
 verb_of (Record recording) = verb.Record
@@ -326,6 +367,8 @@ verb_of (Cat printing) = verb.Cat
 verb_of (Recover recovery) = verb.Recover
 verb_of (Merge merge) = verb.Merge
 verb_of (Generate generation) = verb.Generate
+verb_of (Filter filtering) = verb.Filter
+verb_of (Play playing) = verb.Play
 
 -- the words are those of the command
 pub record Derives (words : List Word) (command : Command) : Type 0 where

@@ -8,7 +8,9 @@ use Rattle.clap.specs.Words.{Row, all_of, first_of, found_of, one_of, rows_of}
 use Rattle.clap.specs.declared.parser.matches.ArgMatches.{ArgMatches}
 use Rattle.command_words.specs.Synopses.{Synopsis}
 use Rattle.command_words.specs.Items.{Word, Item, flag, joined, apart, plain, EndsItems, IsFlag, IsFree, IsOption, given, place_of, words_of}
-use Rattle.command_words.specs.Commands.{Flags, IsUnwatched, ReadsWords, feed_limit, name_of, synopsis_of}
+use Rattle.mcap_wire.specs.Limits.{chunk_size_limit}
+use Rattle.command_words.specs.Defaults.{usual_chunk_size}
+use Rattle.command_words.specs.Commands.{Flags, GivesNumber, IsUnwatched, ReadsWords, feed_limit, name_of, synopsis_of}
 use Rattle.command_words.specs.declared.verbs.Verb.{Verb}
 
 -- so many positionals stand there: with another than the first any number, and else one at most
@@ -97,6 +99,22 @@ value_in found name = first_of name (rows_found found)
 
 abbrev pub values_in : ArgMatches → Word → List Word
 values_in found name = all_found name (rows_found found)
+
+-- it takes --start, --end and --topic
+abbrev pub Selects : Synopsis → Type 0
+Selects synopsis =
+    IsOption synopsis (codes "start") × IsOption synopsis (codes "end") × IsOption synopsis (codes "topic")
+
+-- what was found of --chunk, IN and OUT
+pub record FindsRewriting (rows : List Row) (input out : Word) (chunk : ℕ) : Type 0 where
+  pub input_is : first_of (codes "in") rows ≡ Some input
+  pub out_is : all_found (codes "out") rows ≡ out ∷ []
+  pub in_named : input ≢ []
+  pub out_named : out ≢ []
+  pub differ : input ≢ out
+  pub size : Option ℕ
+  pub sized : GivesNumber 1 chunk_size_limit (option_to_list (first_of (codes "chunk") rows)) size
+  pub chunk_is : chunk ≡ unwrap_or size usual_chunk_size
 
 -- they may be the names of the feeds behind OUT
 abbrev pub AreFeedNames : Word → List Word → Type 0

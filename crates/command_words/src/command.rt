@@ -85,6 +85,8 @@ pub fn usage() -> &'static str
   recover [--chunk N] IN OUT
   merge [--chunk N] OUT IN...
   gen SEED FEEDS MESSAGES OUT
+  filter [--start N] [--end N] [--topic T] [--chunk N] IN OUT
+  play [--start N] [--end N] [--topic T] FILE SCRIPT
 "
 }
 
@@ -141,6 +143,27 @@ pub struct Generation {
     pub out: Text,
 }
 
+/// A new file `out` of the messages of the file `input` in the range of log times, those of one topic where it is named, in
+/// chunks of `chunk` bytes of records.
+#[derive(Drop)]
+pub struct FileFilter {
+    pub input: Text,
+    pub out: Text,
+    pub range: Range,
+    pub topic: Option<Text>,
+    pub chunk: u64,
+}
+
+/// A playing of the messages of `file` in the range of log times, those of one topic where it is named, at the moments of
+/// the file `script`.
+#[derive(Drop)]
+pub struct Playing {
+    pub file: Text,
+    pub script: Text,
+    pub range: Range,
+    pub topic: Option<Text>,
+}
+
 /// What the program is to do, with what the words give.
 #[derive(Drop)]
 pub enum Command {
@@ -156,6 +179,10 @@ pub enum Command {
     Merge(FileMerge),
     /// Record made feeds, and read that back.
     Generate(Generation),
+    /// Write some messages of a file.
+    Filter(FileFilter),
+    /// Print messages at moments.
+    Play(Playing),
 }
 
 /// Why words give no command.

@@ -117,6 +117,29 @@ fn generate<'a>(alloc: Global) -> Result<Command<'a>, AllocError>
     with_rest(command, alloc, "rest")
 }
 
+// `filter`.
+fn filter<'a>(alloc: Global) -> Result<Command<'a>, AllocError>
+    ensures { IfOk result (IsMade (verb_app verb.Filter)) }
+{
+    let command = with_option(Ok(Command::new(alloc, "filter")), alloc, "start");
+    let command = with_option(command, alloc, "end");
+    let command = with_option(command, alloc, "topic");
+    let command = with_option(command, alloc, "chunk");
+    let command = with_place(command, alloc, "in");
+    with_rest(command, alloc, "out")
+}
+
+// `play`.
+fn play<'a>(alloc: Global) -> Result<Command<'a>, AllocError>
+    ensures { IfOk result (IsMade (verb_app verb.Play)) }
+{
+    let command = with_option(Ok(Command::new(alloc, "play")), alloc, "start");
+    let command = with_option(command, alloc, "end");
+    let command = with_option(command, alloc, "topic");
+    let command = with_place(command, alloc, "file");
+    with_rest(command, alloc, "script")
+}
+
 // The program without its commands, and without help or a version.
 fn bare_program<'a>(alloc: Global) -> Command<'a>
     ensures { IsMade bare_top result }
@@ -180,5 +203,7 @@ pub fn program_command<'a>(alloc: Global) -> Result<Command<'a>, AllocError>
     let command = with_verb(command, cat(alloc));
     let command = with_verb(command, recover(alloc));
     let command = with_verb(command, merge(alloc));
-    with_verb(command, generate(alloc))
+    let command = with_verb(command, generate(alloc));
+    let command = with_verb(command, filter(alloc));
+    with_verb(command, play(alloc))
 }

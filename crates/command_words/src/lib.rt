@@ -7,12 +7,14 @@ mod found;
 mod options;
 mod parse;
 mod read;
+mod rewriting;
+mod selecting;
 mod verbs;
 mod watches;
 
 pub use command::{
-    Command, FileCommand, FileMerge, FileRecovery, Generation, Inspection, Names, Printing,
-    Recording, WordsRefused, usage,
+    Command, FileCommand, FileFilter, FileMerge, FileRecovery, Generation, Inspection, Names,
+    Playing, Printing, Recording, WordsRefused, usage,
 };
 pub use options::USUAL_CHUNK;
 pub use parse::{USUAL_LIMIT, parse_words};

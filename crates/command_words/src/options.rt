@@ -3,7 +3,8 @@ ghost use Rattle.std.specs.Prelude.{◌≡◌, ◌≤◌, ◌↔◌, ℕ, [], Bo
 ghost use Rattle.std.specs.Option.{option_to_list};
 ghost use Rattle.command_words.specs.Commands.{GivesSpan, HasChunks, HasProfile, HasWatchers, IsFileOptions, IsRange, IsSpan, MayWatch, SizesChunks, synopsis_of, watchers_with};
 ghost use Rattle.command_words.specs.Items.{Word, Item};
-ghost use Rattle.command_words.specs.Matches.{ParsesInto, rows_found, value_in};
+ghost use Rattle.command_words.specs.Matches.{ParsesInto, Selects, rows_found, value_in};
+ghost use Rattle.command_words.specs.Synopses.{Synopsis};
 ghost use Rattle.command_words.specs.declared.verbs.Verb.TheVariants as verb;
 ghost use Rattle.mcap_model.specs.declared.options.FileOptions.{FileOptions as Options};
 ghost use Rattle.mcap_model.specs.declared.replay.Range.{Range as Times};
@@ -127,12 +128,12 @@ pub fn file_options(alloc: Global, found: &ArgMatches) -> Result<FileOptions, Wo
     })
 }
 
-/// --start and --end.
+/// --start and --end of a command that takes them.
 pub fn range_of(found: &ArgMatches) -> Result<Range, BadValue>
-    ensures range { (items : List Item) (places : List Word)
-        → ParsesInto (synopsis_of verb.Cat) items places (rows_found found.now) → IfOk result (IsRange items) }
-    ensures bad { (items : List Item) (places : List Word)
-        → ParsesInto (synopsis_of verb.Cat) items places (rows_found found.now)
+    ensures range { (v : Synopsis) (items : List Item) (places : List Word) → Selects v
+        → ParsesInto v items places (rows_found found.now) → IfOk result (IsRange items) }
+    ensures bad { (v : Synopsis) (items : List Item) (places : List Word) → Selects v
+        → ParsesInto v items places (rows_found found.now)
         → OnErr result ((range : Times) → IsRange items range → ⊥) }
 {
     match number_of(found, "start", 0, u64::MAX) {

@@ -1,27 +1,31 @@
 //! All the words of a command line.
-ghost use Rattle.std.specs.Prelude.{◌≡◌, ◌≢◌, ◌≤◌, ◌↔◌, ℕ, List, [], ◌∷◌, Some, Bool, Option, IsTrue, MatchOption, codes, IfOk, IfErr, OnErr, option_map};
+ghost use Rattle.std.specs.Prelude.{◌≡◌, ◌≢◌, ◌≤◌, ◌↔◌, ℕ, List, [], Some, IsTrue, codes, IfOk, IfErr, OnErr};
 ghost use Rattle.std.specs.List.{All};
 ghost use Rattle.clap.specs.Words.{subcommand_rows_of};
 ghost use Rattle.command_words.specs.Items.{Word, texts};
-ghost use Rattle.command_words.specs.Commands.{AreAmounts, AreBad, WordsMean, Derives, IsCat, IsGenerate, IsMerge, IsOnly, IsRecord, IsRecover, synopsis_of, verb_of};
+ghost use Rattle.command_words.specs.Commands.{AreAmounts, AreBad, WordsMean, Derives, IsCat, IsFilter, IsGenerate, IsMerge, IsOnly, IsPlay, IsRecord, IsRecover, synopsis_of, verb_of};
 ghost use Rattle.command_words.specs.Matches.{AreFeedNames, EntersSubcommand, AreUnwatched, IsReading, rows_found, value_in, values_in};
 ghost use Rattle.command_words.specs.declared.command.Command.{Command as Wanted};
 ghost use Rattle.command_words.specs.declared.command.Recording.{Recording as Recorded};
 ghost use Rattle.command_words.specs.declared.command.Printing.{Printing as Printed};
 ghost use Rattle.command_words.specs.declared.command.FileRecovery.{FileRecovery as Recovered};
+ghost use Rattle.command_words.specs.declared.command.FileFilter.{FileFilter as Filtered};
 ghost use Rattle.command_words.specs.declared.command.FileMerge.{FileMerge as Merged};
+ghost use Rattle.command_words.specs.declared.command.Playing.{Playing as Played};
 ghost use Rattle.command_words.specs.declared.command.Generation.{Generation as Generated};
 
 use crate::command::{
-    Command, FileMerge, FileRecovery, Generation, Inspection, Names, Printing, Recording,
-    WordsRefused,
+    Command, FileFilter, FileMerge, FileRecovery, Generation, Inspection, Names, Playing, Printing,
+    Recording, WordsRefused,
 };
 use crate::found::{
     BadValue, has_flag, is_dash, name_of_file, number_at, number_of, parse_number, value_of,
     values_of,
 };
-use crate::options::{LARGEST_CHUNK, USUAL_CHUNK, copy_of, file_options, range_of, watching_of};
+use crate::options::{LARGEST_CHUNK, USUAL_CHUNK, copy_of, file_options, watching_of};
 use crate::read::{are_whole, plain_words, read_words};
+use crate::rewriting::{Rewriting, may_be_feed, only_name, rewriting_of};
+use crate::selecting::{Selected, selection_of};
 use crate::verbs::{Verb, named_verb};
 use crate::watches::feeds_are_unwatched;
 use clap::ArgMatches;
@@ -47,27 +51,6 @@ const MOST_MESSAGES: u64 = 1_000_000;
 struct Amounts {
     feeds: u64,
     messages: u32,
-}
-
-// A copy of a word that may be there.
-fn maybe_copy(alloc: Global, word: Option<&str>) -> Result<Option<Text>, WordsRefused>
-    ensures copy { IfOk result (λ copy. copy ≡ option_map (λ text. text.now) word.entry) }
-    ensures want { OnErr result (result ≡ Err WordsRefused.Memory) }
-{
-    match word {
-        Some(word) => match copy_of(alloc, word) {
-            Ok(copy) => return Ok(Some(copy)),
-            Err(refused) => return Err(refused),
-        },
-        None => return Ok(None),
-    }
-}
-
-// Whether a name may be a feed's beside that output.
-fn may_be_feed(out: &str, feed: &str) -> bool
-    ensures { IsTrue result ↔ ((feed.now ≢ []) × (out.now ≢ feed.now)) }
-{
-    !feed.is_empty() && out != feed
 }
 
 // Whether each of the names may be.
@@ -221,19 +204,12 @@ fn cat_of(alloc: Global, found: &ArgMatches) -> Result<Command, WordsRefused>
     ensures bad { (words : List Word) → IsReading (synopsis_of Verb.Cat) words (rows_found found.now)
         → IfErr result (λ refused. refused ≡ WordsRefused.BadWords → (printing : Printed) → IsCat words printing → ⊥) }
 {
-    if is_dash(found, "topic") {
-        return Err(WordsRefused::BadWords);
-    }
-    let range = match range_of(found) {
-        Ok(range) => range,
-        Err(BadValue) => return Err(WordsRefused::BadWords),
-    };
-    let file = match one_name(alloc, found) {
-        Ok(file) => file,
+    let Selected { range, topic } = match selection_of(alloc, found) {
+        Ok(selected) => selected,
         Err(refused) => return Err(refused),
     };
-    match maybe_copy(alloc, value_of(found, "topic")) {
-        Ok(topic) => return Ok(Command::Cat(Printing {
+    match one_name(alloc, found) {
+        Ok(file) => return Ok(Command::Cat(Printing {
             file,
             indexed: has_flag(found, "indexed"),
             range,
@@ -241,21 +217,6 @@ fn cat_of(alloc: Global, found: &ArgMatches) -> Result<Command, WordsRefused>
         })),
         Err(refused) => return Err(refused),
     }
-}
-
-// The one name of the output beside that input.
-fn only_output<'a>(found: &ArgMatches<'a>, input: &str) -> Option<&'a str>
-    ensures { MatchOption result
-        ((out : Word) → out ≢ [] → input.now ≢ out → values_in found.now (codes "out") ≢ out ∷ [])
-        (λ out. (out.now ≢ []) × (input.now ≢ out.now) × (values_in found.now (codes "out") ≡ out.now ∷ [])) }
-{
-    let Some(names) = values_of(found, "out") else {
-        return None;
-    };
-    if names.len() != 1 || !may_be_feed(input, names[0]) {
-        return None;
-    }
-    Some(names[0])
 }
 
 // What was found behind `recover`.
@@ -266,22 +227,64 @@ fn recover_of(alloc: Global, found: &ArgMatches) -> Result<Command, WordsRefused
         → IfErr result (λ refused. refused ≡ WordsRefused.BadWords → (recovery : Recovered)
         → IsRecover words recovery → ⊥) }
 {
-    let Some(input) = name_of_file(found, "in") else {
-        return Err(WordsRefused::BadWords);
-    };
-    let Some(out) = only_output(found, input) else {
-        return Err(WordsRefused::BadWords);
-    };
-    let chunk = match number_of(found, "chunk", 1, LARGEST_CHUNK) {
-        Ok(chunk) => chunk.unwrap_or(USUAL_CHUNK),
-        Err(BadValue) => return Err(WordsRefused::BadWords),
-    };
-    let input = match copy_of(alloc, input) {
-        Ok(input) => input,
+    match rewriting_of(alloc, found) {
+        Ok(Rewriting { input, out, chunk }) => {
+            return Ok(Command::Recover(FileRecovery { input, out, chunk }));
+        }
+        Err(refused) => return Err(refused),
+    }
+}
+
+// What was found behind `filter`.
+fn filter_of(alloc: Global, found: &ArgMatches) -> Result<Command, WordsRefused>
+    ensures command { (words : List Word) → IsReading (synopsis_of Verb.Filter) words (rows_found found.now)
+        → IfOk result (λ command. WordsMean words command × (verb_of command ≡ Verb.Filter)) }
+    ensures bad { (words : List Word) → IsReading (synopsis_of Verb.Filter) words (rows_found found.now)
+        → IfErr result (λ refused. refused ≡ WordsRefused.BadWords → (filtering : Filtered)
+        → IsFilter words filtering → ⊥) }
+{
+    let Selected { range, topic } = match selection_of(alloc, found) {
+        Ok(selected) => selected,
         Err(refused) => return Err(refused),
     };
-    match copy_of(alloc, out) {
-        Ok(out) => return Ok(Command::Recover(FileRecovery { input, out, chunk })),
+    match rewriting_of(alloc, found) {
+        Ok(Rewriting { input, out, chunk }) => return Ok(Command::Filter(FileFilter {
+            input,
+            out,
+            range,
+            topic,
+            chunk,
+        })),
+        Err(refused) => return Err(refused),
+    }
+}
+
+// What was found behind `play`.
+fn play_of(alloc: Global, found: &ArgMatches) -> Result<Command, WordsRefused>
+    ensures command { (words : List Word) → IsReading (synopsis_of Verb.Play) words (rows_found found.now)
+        → IfOk result (λ command. WordsMean words command × (verb_of command ≡ Verb.Play)) }
+    ensures bad { (words : List Word) → IsReading (synopsis_of Verb.Play) words (rows_found found.now)
+        → IfErr result (λ refused. refused ≡ WordsRefused.BadWords → (playing : Played)
+        → IsPlay words playing → ⊥) }
+{
+    let Some(script) = only_name(found, "script") else {
+        return Err(WordsRefused::BadWords);
+    };
+    let Selected { range, topic } = match selection_of(alloc, found) {
+        Ok(selected) => selected,
+        Err(refused) => return Err(refused),
+    };
+    let file = match one_name(alloc, found) {
+        Ok(file) => file,
+        Err(refused) => return Err(refused),
+    };
+    match copy_of(alloc, script) {
+        Ok(script) => return Ok(Command::Play(Playing {
+            file,
+            script,
+            range,
+            topic,
+        })),
         Err(refused) => return Err(refused),
     }
 }
@@ -393,6 +396,8 @@ fn command_of(alloc: Global, verb: Verb, found: &ArgMatches) -> Result<Command, 
         Verb::Recover => return recover_of(alloc, found),
         Verb::Merge => return merge_of(alloc, found),
         Verb::Generate => return generate_of(alloc, found),
+        Verb::Filter => return filter_of(alloc, found),
+        Verb::Play => return play_of(alloc, found),
     }
 }
 
@@ -420,8 +425,8 @@ fn found_command(alloc: Global, found: &ArgMatches) -> Result<Command, WordsRefu
 /// `--chunk` from 1 to 67,108,864 (usually 786,432), and those of `--start` and `--end` are times below 2^64. SEED is a
 /// number below 2^64, FEEDS one from 1 to 64, and FEEDS times MESSAGES is at most 1,000,000. A profile has
 /// at most 65,535 bytes. OUT, FEED, FILE and IN aren't empty and no word is `-` alone; 1 to 64 FEEDs stand behind OUT, each
-/// other than OUT, two of which may be equal, as 1 to 64 INs do behind that of `merge`, and the one IN of `recover` is other than
-/// OUT; `--plain` and `--chunk` exclude each other.
+/// other than OUT, two of which may be equal, as 1 to 64 INs do behind that of `merge`, and the one IN of `recover` and `filter` is
+/// other than OUT, but FILE and SCRIPT may be equal; `--plain` and `--chunk` exclude each other.
 ///
 /// N of `--watchers` is a number from 0 to 16, and START:END of `--watch` two times below 2^64 with one colon between them,
 /// from START on and before END. Without `--watch` the times are all; without `--watchers` there is one watcher where

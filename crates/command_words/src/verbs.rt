@@ -14,6 +14,8 @@ pub enum Verb {
     Recover,
     Merge,
     Generate,
+    Filter,
+    Play,
 }
 
 /// The command of this name.
@@ -34,6 +36,12 @@ pub fn named_verb(name: &str) -> Option<Verb>
     }
     if name == "gen" {
         return Some(Verb::Generate);
+    }
+    if name == "filter" {
+        return Some(Verb::Filter);
+    }
+    if name == "play" {
+        return Some(Verb::Play);
     }
     match FileCommand::named(name) {
         Some(what) => return Some(Verb::OfFile { what }),

@@ -10,4 +10,6 @@ returns c =
     let cat_in = c.with_verb-command-2.ensures _ (verb_app verb.Cat) files_in c.cat.ensures in
     let recover_in = c.with_verb-command-3.ensures _ (verb_app verb.Recover) cat_in c.recover.ensures in
     let merge_in = c.with_verb-command-4.ensures _ (verb_app verb.Merge) recover_in c.merge.ensures in
-    c.with_verb.ensures _ (verb_app verb.Generate) merge_in c.generate.ensures
+    let generate_in = c.with_verb-command-5.ensures _ (verb_app verb.Generate) merge_in c.generate.ensures in
+    let filter_in = c.with_verb-command-6.ensures _ (verb_app verb.Filter) generate_in c.filter.ensures in
+    c.with_verb.ensures _ (verb_app verb.Play) filter_in c.play.ensures

@@ -71,3 +71,17 @@ returns-in-Generate-clause-command c = subst (Gives (rows_found c.args.found.now
 pub returns-in-Generate-clause-bad : goal.returns-in-Generate-clause-bad
 returns-in-Generate-clause-bad c = subst (Refuses (rows_found c.args.found.now) c.generate_of.result) (sym c.in-Generate.is)
     (λ words reading. IfErr-weaker c.generate_of.result _ _ (λ refused bad why. of_verb verb.Generate (λ command. WordsMean words command → ⊥) (bad why)) (c.generate_of.ensures.bad words reading))
+
+pub returns-in-Filter-clause-command : goal.returns-in-Filter-clause-command
+returns-in-Filter-clause-command c = subst (Gives (rows_found c.args.found.now) c.filter_of.result) (sym c.in-Filter.is) c.filter_of.ensures.command
+
+pub returns-in-Filter-clause-bad : goal.returns-in-Filter-clause-bad
+returns-in-Filter-clause-bad c = subst (Refuses (rows_found c.args.found.now) c.filter_of.result) (sym c.in-Filter.is)
+    (λ words reading. IfErr-weaker c.filter_of.result _ _ (λ refused bad why. of_verb verb.Filter (λ command. WordsMean words command → ⊥) (bad why)) (c.filter_of.ensures.bad words reading))
+
+pub returns-in-Play-clause-command : goal.returns-in-Play-clause-command
+returns-in-Play-clause-command c = subst (Gives (rows_found c.args.found.now) c.play_of.result) (sym c.in-Play.is) c.play_of.ensures.command
+
+pub returns-in-Play-clause-bad : goal.returns-in-Play-clause-bad
+returns-in-Play-clause-bad c = subst (Refuses (rows_found c.args.found.now) c.play_of.result) (sym c.in-Play.is)
+    (λ words reading. IfErr-weaker c.play_of.result _ _ (λ refused bad why. of_verb verb.Play (λ command. WordsMean words command → ⊥) (bad why)) (c.play_of.ensures.bad words reading))
