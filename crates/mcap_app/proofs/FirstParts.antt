@@ -51,13 +51,15 @@ use Rattle.mcap_recover.specs.declared.answers.Why.TheVariants as whys
 use Rattle.mcap_model.specs.declared.refusals.ReadingRefused.TheVariants as scans
 use Rattle.mcap_model.specs.declared.rules.Rule.TheVariants as rules
 use Rattle.mcap_recover.specs.declared.answers.RecoverRefused.TheVariants as refusals
-use Rattle.mcap_recover.specs.Recovering.{recovered_options, TellsHalt}
+use Rattle.record_keeping.specs.NewFiles.{recovered_options}
+use Rattle.mcap_recover.specs.Recovering.{TellsHalt}
 use Rattle.command_base.specs.declared.statuses.Status.{Status}
 use Rattle.command_base.specs.declared.statuses.Status.TheVariants as statuses
 use Rattle.command_base.specs.Ran.{Scene, counts_in, AnyRose}
 use Rattle.command_write.specs.declared.recovering.Recovery.{Recovery}
 use Rattle.command_write.specs.declared.recovering.Recovery.TheVariants as recoveries
 use Rattle.command_write.specs.Recover.{HoldsRecovered, RecoveryDecides, RecoversFile}
+use Rattle.command_record.proofs.Held.{stands_first}
 use Rattle.command_record.specs.Record.{back_sources}
 use Rattle.command_record.specs.RecordSteps.{AreAllowed}
 use Rattle.mcap_app.specs.Laws.{IsChunkSize, IsFirstPart, FitsWritingLimits, records_in_pieces, KeepsFirst, RecoversFirst, PassesWritingLimit, RecordingsLeaveFirstParts, RecordingsAreRecovered}
@@ -285,7 +287,7 @@ first_left options out old new r status told now it here tells well some =
     let holds = it.file told now here tells in
     let begun = holds.begun some well in
     let part : (part : List ℕ) × (now.names out ≡ Some part) × IsFirstPart options.file history part = elim holds.part [
-      | inl (text, stands, size, prefix) ↦ (text, stands, record { part_is = prefix; magic = subst V1 (same_Some (front_bytes options.file.profile ++ begun.0) text (sym begun.1 ∙ stands)) (begins_so options.file.profile begun.0) })
+      | inl (text, stands, by) ↦ (text, stands, record { part_is = (stands_first options.file history r.writer.bytes r.writer.end text by).1; magic = subst V1 (same_Some (front_bytes options.file.profile ++ begun.0) text (sym begun.1 ∙ stands)) (begins_so options.file.profile begun.0) })
       | inr (same, unwell) ↦ absurd (both_ways it.live_kept unwell well)
     ] in
     let within : r.writer.end ≡ ends.Closed → FitsWritingLimits options.file history = λ closed.
@@ -314,9 +316,9 @@ first_recovered fronts_are_repaired options before after r allowed text recorded
 
 pub recordings_leave_first_parts : RecordingsLeaveFirstParts
 recordings_leave_first_parts options range out watches feeds old new r answer told now it here tells well some =
-    first_left options out old.world new.world r answer told now (of_watched options range out watches feeds old new r answer it) here tells well some
+    first_left options out old.world new.world r.recorded answer told now (of_watched options range out watches feeds old new r answer it) here tells well some
 
 pub recordings_are_recovered : FrontsAreRepaired → RecordingsAreRecovered
 recordings_are_recovered fronts_are_repaired options range out watches feeds old new r answer allowed text it within part first chunk input output later last status told size here there recovers quiet =
-    let is = it.reported r refl in
-    first_recovered fronts_are_repaired options (sides is.given is.viewed) (sides (back_sources is.kept_feeds) is.live_now) r allowed text is.recorded within part first chunk input output later last status told size here there recovers quiet
+    let is = it.reported r.recorded refl in
+    first_recovered fronts_are_repaired options (sides is.given is.viewed) (sides (back_sources is.kept_feeds) is.live_now) r.recorded allowed text is.recorded within part first chunk input output later last status told size here there recovers quiet

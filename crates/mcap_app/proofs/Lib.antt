@@ -7,3 +7,8 @@ mod Recovered
 mod Merges
 mod FirstParts
 mod WatchFiles
+mod ShortFiles
+mod MergedFiles
+mod Succeeding
+mod ShortContents
+mod Readable

@@ -48,7 +48,7 @@ use Rattle.mcap_app.specs.Laws.{IsChunkSize, AreCounted, MergesAreSound}
 
 -- ---- the inputs are good lists
 
-good_inputs : (files : List (List ℕ)) (inputs : List (List Top)) → AreRead files inputs → Each (Good reading_limits) inputs
+pub good_inputs : (files : List (List ℕ)) (inputs : List (List Top)) → AreRead files inputs → Each (Good reading_limits) inputs
 good_inputs files inputs read n tops at =
     let (bytes, there, found) = zip_back (λ (b : List ℕ) (ts : List Top). (end : ℕ) × Halts reading_limits b ts (at_end end)) files inputs n tops read at in
     let whole : (end : ℕ) × Halts reading_limits bytes tops (at_end end) = found in
@@ -65,7 +65,7 @@ extras_of_one tops good n t at =
     let fits = good passed.0.0 t passed.0.1 in
     record { kind = kind_of t.op passed.1; v6 = fits.v6; v10 = fits.v10 }
 
-extras_meet : (inputs : List (List Top)) → Each (Good reading_limits) inputs → Each IsExtra (flat_map (filter is_extra) inputs)
+pub extras_meet : (inputs : List (List Top)) → Each (Good reading_limits) inputs → Each IsExtra (flat_map (filter is_extra) inputs)
 extras_meet [] good = λ n t at. absurd (at_none n t at)
 extras_meet (tops ∷ more) good = each_joined IsExtra (filter is_extra tops) (flat_map (filter is_extra) more) (extras_of_one tops (good zero tops refl)) (extras_meet more (λ n. good (suc n)))
 
@@ -98,7 +98,7 @@ common_fits tops more profile p true is shown fits same = subst FitsField (sym (
 common_fits tops more profile p false is shown fits differ =
     subst FitsField (sym (is.none (λ q each. both_ways (bytes_eq profile p) differ ((bytes_eq-Decides profile p).1 (is.common q each ∙ profile_once tops q p (each zero tops refl) shown))))) none_fits
 
-profile_fits : (inputs : List (List Top)) (profile : List ℕ) → Each (Good reading_limits) inputs → CommonProfile inputs profile → FitsField profile
+pub profile_fits : (inputs : List (List Top)) (profile : List ℕ) → Each (Good reading_limits) inputs → CommonProfile inputs profile → FitsField profile
 profile_fits [] profile good is = subst FitsField (sym (is.common [] (λ n t at. absurd (at_none n t at)))) none_fits
 profile_fits (tops ∷ more) profile good is =
     let (p, shown, fits) = profile_there tops (good zero tops refl) in
@@ -112,7 +112,7 @@ few_enough blocks few = omega (arith, few)
 small_enough : (bytes : ℕ) → bytes ≤ file_limit → bytes < 2 ^ 64
 small_enough bytes small = omega (arith, small)
 
-can_be_written : (files : List (List ℕ)) (profile : List ℕ) (extras : List Top) (history : List Rec) (chunk : ℕ) → MergesTo files profile extras history → Each IsReadBack history → IsChunkSize chunk
+pub can_be_written : (files : List (List ℕ)) (profile : List ℕ) (extras : List Top) (history : List Rec) (chunk : ℕ) → MergesTo files profile extras history → Each IsReadBack history → IsChunkSize chunk
     → Holds (length (blocks_in (pieces_of (Some chunk) None history))) (length (file_of (merged_options profile chunk) extras history)) → AreCounted extras → CanBeWritten (merged_options profile chunk) extras history
 can_be_written files profile extras history chunk it back size within few =
     let good = good_inputs files it.inputs it.read in
@@ -193,7 +193,7 @@ pub record WasMade (chunk : ℕ) (inputs : List (List ℕ)) (out : List ℕ) (ol
   pub there : AllZip (HoldsBytes told) inputs files
   pub holds : HoldsMerged chunk files merged true (told.names out) (now.names out)
 
-made : (chunk : ℕ) (inputs : List (List ℕ)) (out : List ℕ) (old new : Scene) (told : Told) → (it : MergesFiles chunk inputs out old new statuses.Done) → old.world.told ≡ Some told → WasMade chunk inputs out old new told it.merging
+pub made : (chunk : ℕ) (inputs : List (List ℕ)) (out : List ℕ) (old new : Scene) (told : Told) → (it : MergesFiles chunk inputs out old new statuses.Done) → old.world.told ≡ Some told → WasMade chunk inputs out old new told it.merging
 made chunk inputs out old new told it here =
     let whole = was_merged chunk inputs out old new it in
     let m = whole.merged in
@@ -213,7 +213,7 @@ made chunk inputs out old new told it here =
       holds = subst (λ (b : Bool). HoldsMerged chunk files m b (told.names out) (left.0.names out)) well (all.file told left.0 files here left.1 there);
     }
 
-pub merges_are_sound : MergesAreSound
+unfoldable pub merges_are_sound : MergesAreSound
 merges_are_sound chunk inputs out old new told size it here =
     let all = made chunk inputs out old new told it here in
     let holds = all.holds in

@@ -11,7 +11,8 @@ use Rattle.mcap_model.specs.Recovery.{RepairsCanBeWritten}
 use Rattle.mcap_laws.proofs.Validity.{files_are_valid, files_are_indexed}
 use Rattle.mcap_recover.specs.declared.answers.Recovered.{Recovered}
 use Rattle.mcap_recover.specs.declared.answers.RecoverRefused.{RecoverRefused}
-use Rattle.mcap_recover.specs.Recovering.{lacks, recovered_options}
+use Rattle.record_keeping.specs.NewFiles.{recovered_options}
+use Rattle.mcap_recover.specs.Recovering.{lacks}
 use Rattle.command_base.specs.declared.statuses.Status.TheVariants as statuses
 use Rattle.command_base.specs.Printing.{TellsAll}
 use Rattle.command_base.specs.Ran.{Scene, kept, failed_so, named_when, failed_names}

@@ -30,6 +30,7 @@ use Rattle.command_base.specs.Readings.{IsSourceRead}
 use Rattle.command_base.proofs.ReadNames.{read_is, source_shows}
 use Rattle.command_base.proofs.Refusals.{refusal_is}
 use Rattle.command_base.specs.Printing.{TellsAll}
+use Rattle.command_record.proofs.Held.{output_whole}
 use Rattle.command_read.specs.Cat.{ComesTo, IsPrinted, Cats}
 use Rattle.mcap_app.specs.Laws.{everything, PrintsHistory, RecordingsArePrinted}
 use Rattle.mcap_app.proofs.Recordings.{Recording, of_watched}
@@ -68,29 +69,21 @@ closed_left options out old new r told allowed text it here =
     let readable : AreReadable options.file = record { profile = text; short = omega (arith, allowed.short); size = allowed.size } in (
       closed,
       readable,
-      (it.file told left.0 here left.1).whole closed (it.well refl),
+      output_whole options.file it.recorded.history r.writer it.live_kept (told.names out) (left.0.names out) (it.file told left.0 here left.1) closed (it.well refl),
       (recordings_are_read_back options it.before it.after r readable it.recorded closed).0,
     )
 
--- a printing of it in which no count rises
-pub printed_so : (options : RecordOptions) (out : List ℕ) (old new : WorldState) (later last : Scene) (r : Report) (answer : Status) (told : Told) → AreAllowed options → IsUtf8 options.file.profile
-    → (it : Recording options out old new r statuses.Done) → old.told ≡ Some told
-    → later.world ≡ new → Cats everything out later last answer → (AnyRose (counts_in later) (counts_in last) → ⊥)
-    → ((answer ≡ statuses.Done) × PrintsHistory it.recorded.history later.out last.out) ⊎ (answer ≡ statuses.Memory)
-printed_so options out old new later last r answer told allowed text it here same cats quiet =
-    let history = it.recorded.history in
-    let left = it.goes_on told here in
-    let stands = closed_left options out old new r told allowed text it here in
-    let file = file_of options.file [] history in
-    let held : left.0.names out ≡ Some file = stands.2 in
-    let reads : ReadsAs file history = stands.3 in
-    let tells : later.world.told ≡ Some left.0 = ap (λ (w : WorldState). w.told) same ∙ left.1 in
-    elim (cats.decided left.0 file reads.tops (at_end reads.end) tells held reads.halts quiet) [
+-- a printing in which no count rises of a file that a history can be read of
+pub file_printed : (out file : List ℕ) (history : List Rec) (later last : Scene) (answer : Status) (told : Told) → later.world.told ≡ Some told → told.names out ≡ Some file → ReadsAs file history
+    → Cats everything out later last answer → (AnyRose (counts_in later) (counts_in last) → ⊥)
+    → ((answer ≡ statuses.Done) × PrintsHistory history later.out last.out) ⊎ (answer ≡ statuses.Memory)
+file_printed out file history later last answer told tells held reads cats quiet =
+    elim (cats.decided told file reads.tops (at_end reads.end) tells held reads.halts quiet) [
       | inr five ↦ inr five
       | inl done ↦
           let (well, printed) = cats.reads.ran.whole done in
           let (text, read, text_is) = read_is (λ (t : List ℕ). t) (refusal_ending out) (refusal_is out) cats.reads.reading printed.0 printed.1 in
-          let source = read_of out file later.world left.0 cats.reads.entries cats.reads.reading text tells held cats.reads.read read in
+          let source = read_of out file later.world told cats.reads.entries cats.reads.reading text tells held cats.reads.read read in
           let lines = lines_of file history source.0 source.1 text source.2 source.3 reads in
           inl (
             done,
@@ -107,6 +100,16 @@ printed_so options out old new later last r answer told allowed text it here sam
           )
     ]
 
+-- one of what a recording left
+pub printed_so : (options : RecordOptions) (out : List ℕ) (old new : WorldState) (later last : Scene) (r : Report) (answer : Status) (told : Told) → AreAllowed options → IsUtf8 options.file.profile
+    → (it : Recording options out old new r statuses.Done) → old.told ≡ Some told
+    → later.world ≡ new → Cats everything out later last answer → (AnyRose (counts_in later) (counts_in last) → ⊥)
+    → ((answer ≡ statuses.Done) × PrintsHistory it.recorded.history later.out last.out) ⊎ (answer ≡ statuses.Memory)
+printed_so options out old new later last r answer told allowed text it here same cats quiet =
+    let left = it.goes_on told here in
+    let stands = closed_left options out old new r told allowed text it here in
+    file_printed out (file_of options.file [] it.recorded.history) it.recorded.history later last answer left.0 (ap (λ (w : WorldState). w.told) same ∙ left.1) stands.2 stands.3 cats quiet
+
 pub recordings_are_printed : RecordingsArePrinted
 recordings_are_printed options range out watches feeds old new later last r answer told allowed text it here same cats quiet =
-    printed_so options out old.world new.world later last r answer told allowed text (of_watched options range out watches feeds old new r statuses.Done it) here same cats quiet
+    printed_so options out old.world new.world later last r.recorded answer told allowed text (of_watched options range out watches feeds old new r statuses.Done it) here same cats quiet

@@ -10,12 +10,19 @@ use Rattle.mcap_model.specs.declared.replay.Range.{Range}
 use Rattle.command_words.specs.Items.{Item, given}
 use Rattle.command_words.specs.Commands.{GivesNumber, SizesChunks, Derives, IsFileOptions, Flags, HasWatchers, MayWatch, watchers_with}
 use Rattle.command_words.specs.Defaults.{watch_name, watch_names}
+use Rattle.std.specs.Option.{option_map}
 use Rattle.recorder.specs.declared.report.Report.{Report}
+use Rattle.recorder.specs.Lanes.{AreMessagesListed}
+use Rattle.command_record.specs.declared.recording.RecordingReport.{RecordingReport}
+use Rattle.command_record.specs.RecordSteps.{AreListed}
 use Rattle.command_base.specs.declared.statuses.Status.{Status}
 use Rattle.command_base.specs.declared.statuses.Status.TheVariants as statuses
 use Rattle.command_base.specs.Texts.{status_number}
 use Rattle.command_base.specs.Ran.{Scene}
+use Rattle.mcap_model.specs.declared.options.RecordOptions.{RecordOptions}
 use Rattle.command_generate.specs.Allowed.{OptionsAllowed}
+use Rattle.command_generate.specs.Generating.{Generates}
+use Rattle.command_generate.specs.declared.making.Numbers.{Numbers}
 use Rattle.command_record.specs.Watched.{requested}
 use Rattle.command_record.specs.WatchedAnswer.{Records}
 use Rattle.mcap_app.specs.Runs.{generate_options}
@@ -49,7 +56,7 @@ with_names out out' feeds feeds' P same same2 is = subst (P out) same2 (subst (�
 -- ---- a recording as the words ask for it
 
 -- without watchers
-pub recorded_alone : (recording : Recording) (out : List ℕ) (names feeds : List (List ℕ)) (old new : Scene) (report : Option Report) (status : Status) → out ≡ recording.out → feeds ≡ recording.feeds → recording.watchers ≡ 0 → names ≡ []
+pub recorded_alone : (recording : Recording) (out : List ℕ) (names feeds : List (List ℕ)) (old new : Scene) (report : Option RecordingReport) (status : Status) → out ≡ recording.out → feeds ≡ recording.feeds → recording.watchers ≡ 0 → names ≡ []
     → Records (requested recording.options recording.range out names feeds) old new report status
     → Records (requested recording.options recording.range recording.out (watch_names recording.out recording.watchers) recording.feeds) old new report status
 recorded_alone recording out names feeds old new report status same same2 none empty records =
@@ -57,12 +64,25 @@ recorded_alone recording out names feeds old new report status same same2 none e
     (none_named (λ (l : List (List ℕ)). Records (requested recording.options recording.range out l feeds) old new report status) recording.out recording.watchers names none empty records)
 
 -- with the names that were made for them
-pub recorded_watched : (recording : Recording) (out : List ℕ) (names feeds : List (List ℕ)) (old new : Scene) (report : Option Report) (status : Status) → out ≡ recording.out → feeds ≡ recording.feeds → names ≡ watch_names out recording.watchers
+pub recorded_watched : (recording : Recording) (out : List ℕ) (names feeds : List (List ℕ)) (old new : Scene) (report : Option RecordingReport) (status : Status) → out ≡ recording.out → feeds ≡ recording.feeds → names ≡ watch_names out recording.watchers
     → Records (requested recording.options recording.range out names feeds) old new report status
     → Records (requested recording.options recording.range recording.out (watch_names recording.out recording.watchers) recording.feeds) old new report status
 recorded_watched recording out names feeds old new report status same same2 named records =
     with_names recording.out out recording.feeds feeds (λ o f. Records (requested recording.options recording.range o (watch_names o recording.watchers) f) old new report status) same same2
     (subst (λ (l : List (List ℕ)). Records (requested recording.options recording.range out l feeds) old new report status) named records)
+
+-- what was generated, with the usual options, under that name, and reported as that
+pub generated_so : (numbers : Numbers) (options : RecordOptions) (name out : List ℕ) (old new : Scene) (report : Option Report) (all : Option RecordingReport) (status : Status) → options ≡ generate_options → name ≡ out
+    → option_map (λ (r : RecordingReport). r.recorded) all ≡ report → Generates options numbers name old new report status
+    → Generates generate_options numbers out old new (option_map (λ (r : RecordingReport). r.recorded) all) status
+generated_so numbers options name out old new report all status usual same is generates =
+    subst (λ (o : RecordOptions). Generates o numbers out old new (option_map (λ (r : RecordingReport). r.recorded) all) status) usual
+    (subst (λ (n : List ℕ). Generates options numbers n old new (option_map (λ (r : RecordingReport). r.recorded) all) status) same
+    (subst (λ (r : Option Report). Generates options numbers name old new r status) (sym is) generates))
+
+-- without watchers, the lists of its feeds are those of what the recorder reported
+pub unwatched_listed : (listed : Bool) (report : Option Report) (all : Option RecordingReport) → option_map (λ (r : RecordingReport). r.recorded) all ≡ report → AreMessagesListed report listed → AreListed all listed
+unwatched_listed listed report all is lists r here = lists r.recorded (sym is ∙ ap (option_map (λ (x : RecordingReport). x.recorded)) here)
 
 -- ---- ranges
 
@@ -137,6 +157,11 @@ allowed words (commands.Merge merge) derives =
     let sizes = in_range 1 67108864 786432 _ is.size is.sized (omega arith) (omega arith) in
     (omega (arith, is.chunk_is, sizes.0), omega (arith, is.chunk_is, sizes.1), (is.some, is.few))
 allowed words (commands.Generate generation) derives = let amounts = derives.behind.amounts.feeds_are in (amounts.above, amounts.below)
+allowed words (commands.Filter filtering) derives =
+    let is = derives.behind.rewrites in
+    let sizes = in_range 1 67108864 786432 _ is.size is.sized (omega arith) (omega arith) in
+    (omega (arith, is.chunk_is, sizes.0), omega (arith, is.chunk_is, sizes.1))
+allowed words (commands.Play playing) derives = tt
 
 -- and so are those of a generation
 pub generate_allowed : OptionsAllowed generate_options

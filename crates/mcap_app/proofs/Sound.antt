@@ -193,4 +193,4 @@ checked_so options out old new later last r answer told allowed text it here sam
 
 pub recordings_are_sound : RecordingsAreSound
 recordings_are_sound options range out watches feeds old new later last r answer told allowed text it here same checks quiet =
-    checked_so options out old.world new.world later last r answer told allowed text (of_watched options range out watches feeds old new r statuses.Done it) here same checks quiet
+    checked_so options out old.world new.world later last r.recorded answer told allowed text (of_watched options range out watches feeds old new r statuses.Done it) here same checks quiet

@@ -130,14 +130,14 @@ module _ (options : FileOptions) (history : List Rec) (blocks bytes size : ℕ) 
 
 -- one that wrote all had a view, which didn't fail
 is_calm : (live viewed : LiveState) (sealed : Bool) (w : Watch) (e : WatchEnd) → e ≡ watch_ends.Whole → EndsSo live viewed sealed w e → IsCalm w
-is_calm live viewed sealed w e whole ends = subst (EndsSo live viewed sealed w) whole ends
+is_calm live viewed sealed w e whole ends = (subst (EndsSo live viewed sealed w) whole ends).0
 
-wrote_all : (options : FileOptions) (range : Range) (history : List Rec) (writer : WriterReport) (w : Watch) → IsWatchedFile options range history writer w → w.view ≡ Some 0 → w.report.end ≡ watch_ends.Whole → w.before.took ≡ Some []
+wrote_all : (options : FileOptions) (range : Range) (history : List Rec) (writer : WriterReport) (sealed : Bool) (w : Watch) → IsWatchedFile options range history writer sealed w → w.view ≡ Some 0 → w.report.end ≡ watch_ends.Whole → w.before.took ≡ Some []
     → (text : List ℕ) × WatchText (FrontReplay options range history) writer.blocks w.report.fronts.items (sealed_by writer.end) text × (w.now.took ≡ Some text)
-wrote_all options range history writer w told view whole empty =
-    let seen : TellsWatchFile options range history writer w (Some 0) = subst (λ (v : Option ℕ). TellsWatchFile options range history writer w v) view told in
-    let wrote = subst (λ (e : WatchEnd). WritesOfFile options range history writer (unwritten w.before 0) (written_by w.now 0 w.report) e) whole seen in
-    let (text, is, took) = wrote.1 [] empty in
+wrote_all options range history writer sealed w told view whole empty =
+    let seen : TellsWatchFile options range history writer sealed w (Some 0) = subst (λ (v : Option ℕ). TellsWatchFile options range history writer sealed w v) view told in
+    let wrote = subst (λ (e : WatchEnd). WritesOfFile options range history writer sealed (unwritten w.before 0) (written_by w.now 0 w.report) e) whole seen in
+    let (text, is, took) = wrote.2 [] empty in
     (text, is, took)
 
 -- ---- the sinks were kept
@@ -165,22 +165,22 @@ held_there range history blocks file lines same holds = subst (HoldsWatchedMessa
 
 pub watch_files_hold_messages : WatchFilesHoldMessages
 watch_files_hold_messages options range size out watches feeds old new r told now allowed text some it here tells n name at =
-    let is = it.reported r refl in
+    let is = it.reported r.recorded refl in
     let history = is.recorded.history in
     let made = of_watched options range out watches feeds old new r statuses.Done it in
     let readable : AreReadable options.file = record { profile = text; short = omega (arith, allowed.short); size = allowed.size } in
     let closed = made.closed refl in
-    let file = (closed_file options made.before made.after r is.recorded closed).0 in
+    let file = (closed_file options made.before made.after r.recorded is.recorded closed).0 in
     let (k, at_k, name_is) = at_map (λ (x : SinkKept). x.name) is.kept_sinks n name (subst (λ (l : List (List ℕ)). At l n name) is.watches_are at) in
     let back = map_at (λ (x : SinkKept). x.back) is.kept_sinks n k at_k in
     let (w, at_w, back_is) = at_map (λ (x : Watch). x.now) is.seen n k.back (subst (λ (l : List SinkState). At l n k.back) (sym is.sinks_are) back) in
     let all = it.whole refl in
     let report = subst (λ (l : List WatchReport). At l n w.report) (sym is.reports_are) (map_at (λ (x : Watch). x.report) is.seen n w at_w) in
     let whole : w.report.end ≡ watch_ends.Whole = all.2.whole n w.report report in
-    let calm = is_calm is.live is.viewed it.sealed w w.report.end whole (is.ends n w at_w) in
-    let (lines, wrote, took) = wrote_all options.file range history r.writer w (is.texts told here readable all.2.sealed_is n w at_w) calm.0 whole (is.sinks_empty told here n w at_w) in
-    let wrote_closed = subst (λ (e : End). WatchText (FrontReplay options.file range history) r.writer.blocks w.report.fronts.items (sealed_by e) lines) closed wrote in
-    let holds = messages_held options.file history r.writer.blocks r.writer.bytes size readable file (recorded_inner options made.before made.after r is.recorded) some range w.report.fronts.items lines wrote_closed in
+    let calm = is_calm is.live is.viewed r.sealed w w.report.end whole (is.ends n w at_w) in
+    let (lines, wrote, took) = wrote_all options.file range history r.recorded.writer r.sealed w (is.texts told here readable n w at_w) calm.0 whole (is.sinks_empty told here n w at_w) in
+    let wrote_closed = subst (λ (e : End). WatchText (FrontReplay options.file range history) r.recorded.writer.blocks w.report.fronts.items (sealed_by e) lines) closed wrote in
+    let holds = messages_held options.file history r.recorded.writer.blocks r.recorded.writer.bytes size readable file (recorded_inner options made.before made.after r.recorded is.recorded) some range w.report.fronts.items lines wrote_closed in
     let still = watched_still options range out watches feeds old new r statuses.Done it refl in
     let none = nothing_added old.world.faults new.world.faults (world_faults (map sink_entry is.kept_sinks)) (world_faults (map feed_entry is.kept_feeds)) is.live_kept (watched_total options range out watches feeds old new r statuses.Done it) still in
     let well = none_failed is.kept_sinks none n k at_k in
@@ -188,4 +188,4 @@ watch_files_hold_messages options range size out watches feeds old new r told no
       | inl stands ↦ stands
       | inr (unwell, same) ↦ absurd (both_ways k.well unwell well)
     ] in
-    held_there range history r.writer.blocks (now.names name) lines (ap now.names name_is ∙ placed) holds
+    held_there range history r.recorded.writer.blocks (now.names name) lines (ap now.names name_is ∙ placed) holds

@@ -21,3 +21,5 @@ IsAllowed (commands.Cat printing) = Unit {0}
 IsAllowed (commands.Recover recovery) = (1 ≤ recovery.chunk) × (recovery.chunk ≤ chunk_size_limit)
 IsAllowed (commands.Merge merge) = (1 ≤ merge.chunk) × (merge.chunk ≤ chunk_size_limit) × InputsAreFew merge.inputs
 IsAllowed (commands.Generate generation) = (1 ≤ generation.feeds) × (generation.feeds ≤ feed_limit)
+IsAllowed (commands.Filter filtering) = (1 ≤ filtering.chunk) × (filtering.chunk ≤ chunk_size_limit)
+IsAllowed (commands.Play playing) = Unit {0}

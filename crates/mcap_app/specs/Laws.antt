@@ -27,7 +27,6 @@ use Rattle.time_player.specs.Text.{cat_text}
 use Rattle.live_watcher.specs.Text.{end_line}
 use Rattle.mcap_model.specs.Merged.{Merged as MergesTo}
 use Rattle.chunk_writer.specs.Limits.{Holds}
-use Rattle.recorder.specs.declared.report.Report.{Report}
 use Rattle.command_base.specs.declared.statuses.Status.{Status}
 use Rattle.command_base.specs.declared.statuses.Status.TheVariants as statuses
 use Rattle.command_base.specs.Printing.{TellsAll}
@@ -36,9 +35,10 @@ use Rattle.mcap_model.specs.declared.options.RecordOptions.{RecordOptions}
 use Rattle.recorder.specs.Laws.{IsSoundFile}
 use Rattle.mcap_recover.specs.declared.answers.Recovered.{Recovered}
 use Rattle.mcap_recover.specs.declared.answers.Why.TheVariants as whys
-use Rattle.mcap_recover.specs.Recovering.{recovered_options}
+use Rattle.record_keeping.specs.NewFiles.{recovered_options}
 use Rattle.mcap_merge.specs.declared.answers.Merged.{Merged}
 use Rattle.mcap_merge.specs.Filed.{merged_options}
+use Rattle.command_record.specs.declared.recording.RecordingReport.{RecordingReport}
 use Rattle.command_record.specs.RecordSteps.{AreAllowed}
 use Rattle.command_record.specs.Watched.{requested}
 use Rattle.command_record.specs.WatchedAnswer.{Records}
@@ -71,12 +71,12 @@ pub record PrintsHistory (history : List Rec) (before now : SinkState) : Type 0 
 -- prints the messages of the recording's history, or memory lacked for that.
 abbrev pub RecordingsArePrinted : Type 0
 RecordingsArePrinted = (options : RecordOptions) (range : Range) (out : List ℕ) (watches feeds : List (List ℕ))
-    (old new later last : Scene) (r : Report) (answer : Status) (told : Told) → AreAllowed options
+    (old new later last : Scene) (r : RecordingReport) (answer : Status) (told : Told) → AreAllowed options
     → IsUtf8 options.file.profile
     → (it : Records (requested options range out watches feeds) old new (Some r) statuses.Done)
     → old.world.told ≡ Some told → later.world ≡ new.world → Cats everything out later last answer
     → (AnyRose (counts_in later) (counts_in last) → ⊥)
-    → ((answer ≡ statuses.Done) × PrintsHistory (it.reported r refl).recorded.history later.out last.out)
+    → ((answer ≡ statuses.Done) × PrintsHistory (it.reported r.recorded refl).recorded.history later.out last.out)
     ⊎ (answer ≡ statuses.Memory)
 
 -- ---- what is recorded keeps all rules
@@ -97,7 +97,7 @@ pub record PrintsSound (chunk : Option ℕ) (before now : SinkState) : Type 0 wh
 -- finds no flaw, no compression and no limit of reading, and prints that; or memory lacked for the check.
 abbrev pub RecordingsAreSound : Type 0
 RecordingsAreSound = (options : RecordOptions) (range : Range) (out : List ℕ) (watches feeds : List (List ℕ))
-    (old new later last : Scene) (r : Report) (answer : Status) (told : Told) → AreAllowed options
+    (old new later last : Scene) (r : RecordingReport) (answer : Status) (told : Told) → AreAllowed options
     → IsUtf8 options.file.profile
     → Records (requested options range out watches feeds) old new (Some r) statuses.Done
     → old.world.told ≡ Some told → later.world ≡ new.world → FileChecks out later last answer
@@ -186,13 +186,14 @@ FitsWritingLimits options history =
 -- under the output's name; and where its writer closed, its file is within the limits.
 abbrev pub RecordingsLeaveFirstParts : Type 0
 RecordingsLeaveFirstParts = (options : RecordOptions) (range : Range) (out : List ℕ)
-    (watches feeds : List (List ℕ)) (old new : Scene) (r : Report) (answer : Status) (told now : Told)
+    (watches feeds : List (List ℕ)) (old new : Scene) (r : RecordingReport) (answer : Status) (told now : Told)
     → (it : Records (requested options range out watches feeds) old new (Some r) answer)
-    → old.world.told ≡ Some told → new.world.told ≡ Some now → (it.reported r refl).live_kept ≡ true
-    → ((it.reported r refl).recorded.history ≡ [] → ⊥)
+    → old.world.told ≡ Some told → new.world.told ≡ Some now → (it.reported r.recorded refl).live_kept ≡ true
+    → ((it.reported r.recorded refl).recorded.history ≡ [] → ⊥)
     → ((part : List ℕ) × (now.names out ≡ Some part)
-    × IsFirstPart options.file (it.reported r refl).recorded.history part)
-    × (r.writer.end ≡ ends.Closed → FitsWritingLimits options.file (it.reported r refl).recorded.history)
+    × IsFirstPart options.file (it.reported r.recorded refl).recorded.history part)
+    × (r.recorded.writer.end ≡ ends.Closed
+    → FitsWritingLimits options.file (it.reported r.recorded refl).recorded.history)
 
 -- the records of the first so many pieces of the file of a history
 abbrev pub records_in_pieces : FileOptions → List Rec → ℕ → List Rec
@@ -250,16 +251,17 @@ PassesWritingLimit options history chunk part = (keeps : KeepsFirst options hist
 -- whole there; or that file would pass a limit; or memory lacked.
 abbrev pub RecordingsAreRecovered : Type 0
 RecordingsAreRecovered = (options : RecordOptions) (range : Range) (out : List ℕ) (watches feeds : List (List ℕ))
-    (old new : Scene) (r : Report) (answer : Status) → AreAllowed options → IsUtf8 options.file.profile
+    (old new : Scene) (r : RecordingReport) (answer : Status) → AreAllowed options → IsUtf8 options.file.profile
     → (it : Records (requested options range out watches feeds) old new (Some r) answer)
-    → FitsWritingLimits options.file (it.reported r refl).recorded.history → (part : List ℕ)
-    → IsFirstPart options.file (it.reported r refl).recorded.history part
+    → FitsWritingLimits options.file (it.reported r.recorded refl).recorded.history → (part : List ℕ)
+    → IsFirstPart options.file (it.reported r.recorded refl).recorded.history part
     → (chunk : ℕ) (input output : List ℕ) (later last : Scene) (status : Status) (told : Told) → IsChunkSize chunk
     → later.world.told ≡ Some told → told.names input ≡ Some part → RecoversFile chunk input output later last status
     → (AnyRose (counts_in later) (counts_in last) → ⊥)
     → ((status ≡ statuses.Done)
-    × RecoversFirst options.file (it.reported r refl).recorded.history chunk part output later last)
-    ⊎ (((status ≡ statuses.Limit) × PassesWritingLimit options.file (it.reported r refl).recorded.history chunk part)
+    × RecoversFirst options.file (it.reported r.recorded refl).recorded.history chunk part output later last)
+    ⊎ (((status ≡ statuses.Limit)
+    × PassesWritingLimit options.file (it.reported r.recorded refl).recorded.history chunk part)
     ⊎ (status ≡ statuses.Memory))
 
 -- ---- watch files
@@ -282,10 +284,11 @@ pub record HoldsWatchedMessages (range : Range) (history : List Rec) (blocks : �
 -- A recording in chunks in which all was done, in a world that tells, leaves such a file under each watch name.
 abbrev pub WatchFilesHoldMessages : Type 0
 WatchFilesHoldMessages = (options : RecordOptions) (range : Range) (size : ℕ) (out : List ℕ)
-    (watches feeds : List (List ℕ)) (old new : Scene) (r : Report) (told now : Told) → AreAllowed options
+    (watches feeds : List (List ℕ)) (old new : Scene) (r : RecordingReport) (told now : Told) → AreAllowed options
     → IsUtf8 options.file.profile → options.file.chunk ≡ Some size
     → (it : Records (requested options range out watches feeds) old new (Some r) statuses.Done)
     → old.world.told ≡ Some told → new.world.told ≡ Some now
     → Each
-    (λ (name : List ℕ). HoldsWatchedMessages range (it.reported r refl).recorded.history r.writer.blocks (now.names name))
+    (λ (name : List ℕ).
+    HoldsWatchedMessages range (it.reported r.recorded refl).recorded.history r.recorded.writer.blocks (now.names name))
     watches

@@ -3,3 +3,5 @@ pub mod Runs
 -- What the functions of this crate and its proofs say besides.
 pub mod Allowed
 pub mod Laws
+pub mod Completeness
+pub mod Readable

@@ -1,7 +1,8 @@
 //! The program: what each command does to the world and to both outputs.
 ghost use Rattle.std.specs.Prelude.{◌≡◌, ◌⊎◌, ◌++◌, [], ◌∷◌, length, None, Some};
-ghost use Rattle.recorder.specs.Lanes.{AreMessagesListed};
-ghost use Rattle.command_words.specs.declared.command.Command.{Command as Wanted};
+ghost use Rattle.std.specs.Option.{option_map};
+ghost use Rattle.command_record.specs.RecordSteps.{AreListed};
+ghost use Rattle.command_words.specs.declared.command.Command.{Command as Asked};
 ghost use Rattle.command_words.specs.declared.command.Command.TheVariants as commands;
 ghost use Rattle.command_words.specs.Commands.{AreBad, Derives, usage_text};
 ghost use Rattle.command_base.specs.declared.statuses.Status.TheVariants as statuses;
@@ -9,18 +10,18 @@ ghost use Rattle.command_base.specs.Texts.{no_memory, said, status_number};
 ghost use Rattle.command_base.specs.ComplaintTroubles.{bad_words_line};
 ghost use Rattle.command_base.specs.Printing.{Takes};
 ghost use Rattle.command_base.specs.Scenes.{scene};
-ghost use Rattle.mcap_app.specs.Runs.{Does, LacksForWords, Runs, generate_options};
+ghost use Rattle.mcap_app.specs.Runs.{Does, LacksForWords, Runs, HasNoWatchers, generate_options};
 ghost use Rattle.mcap_app.specs.Allowed.{IsAllowed};
 
 use command_base::{BAD_WORDS_STATUS, Status, refuse_for_memory, refuse_words};
 use command_generate::{Generated, Numbers, generate_file};
-use command_read::{print_file, print_indexed, run_file_command};
-use command_record::{Ended, record_file};
+use command_read::{play_file, print_file, print_indexed, run_file_command};
+use command_record::{Ended, RecordingReport, record_file};
 use command_words::{
-    Command, FileMerge, FileRecovery, Generation, Inspection, Printing, Recording, USUAL_CHUNK,
-    USUAL_LIMIT, WordsRefused, parse_words, usage, watch_names,
+    Command, FileFilter, FileMerge, FileRecovery, Generation, Inspection, Playing, Printing,
+    Recording, USUAL_CHUNK, USUAL_LIMIT, WordsRefused, parse_words, usage, watch_names,
 };
-use command_write::{merge_file, recover_file};
+use command_write::{Wanted, filter_file, merge_file, recover_file};
 use mcap_io::{Sink, World};
 use mcap_model::{FileOptions, RecordOptions};
 use mcap_wire::{Memory, Text};
@@ -33,7 +34,7 @@ use std::thread::Threads;
 /// of a recording.
 pub struct Exit {
     pub number: u8,
-    pub report: Option<Report>,
+    pub report: Option<RecordingReport>,
 }
 
 // A command that made no report.
@@ -61,6 +62,23 @@ fn generated_options(alloc: Global) -> RecordOptions
     }
 }
 
+// The report of a recording without watchers.
+fn unwatched(alloc: Global, report: Option<Report>) -> Option<RecordingReport>
+    ensures recorded { option_map (λ r. r.recorded) result ≡ report }
+    ensures none { HasNoWatchers result }
+{
+    match report {
+        Some(recorded) => {
+            return Some(RecordingReport {
+                recorded,
+                sealed: true,
+                watchers: Vec::new(alloc),
+            });
+        }
+        None => return None,
+    }
+}
+
 // Records generated feeds, and reads the file back.
 #[tactic(auto, using(crate::proofs::Running::generate_allowed))]
 fn run_generate<R: AllocGlobal + Threads + Wait + Sync, W: World, O: Sink, E: Sink>(
@@ -76,7 +94,7 @@ fn run_generate<R: AllocGlobal + Threads + Wait + Sync, W: World, O: Sink, E: Si
         (scene (W.state world.old) (O.state out.old) (E.state err.old))
         (scene (W.state world.new) (O.state out.new) (E.state err.new))
         result.report result.status }
-    ensures listed { AreMessagesListed result.report listed }
+    ensures listed { AreListed result.report listed }
 {
     let numbers = Numbers {
         seed: generation.seed,
@@ -88,7 +106,10 @@ fn run_generate<R: AllocGlobal + Threads + Wait + Sync, W: World, O: Sink, E: Si
     let Generated { status, report } = generate_file(
         rt, &options, numbers, name, world, out, err, listed,
     );
-    Ended { status, report }
+    Ended {
+        status,
+        report: unwatched(rt.alloc(), report),
+    }
 }
 
 // Records feeds, beside watchers where there are any. Where memory lacks for the names of their files nothing is opened.
@@ -106,7 +127,7 @@ fn run_record<R: AllocGlobal + Threads + Wait + Sync, W: World, O: Sink, E: Sink
         (scene (W.state world.new) (O.state out.new) (E.state err.new)) result.report result.status
         ⊎ LacksForWords (scene (W.state world.old) (O.state out.old) (E.state err.old))
         (scene (W.state world.new) (O.state out.new) (E.state err.new)) result.report result.status }
-    ensures listed { AreMessagesListed result.report listed }
+    ensures listed { AreListed result.report listed }
 {
     let (options, range) = (&recording.options, recording.range);
     let (name, feeds) = (recording.out.as_str(), recording.feeds.as_slice());
@@ -159,6 +180,47 @@ fn run_cat<W: World, O: Sink, E: Sink>(
     print_file(alloc, name, range, topic, world, out, err)
 }
 
+// Writes the messages of a file that are asked for as a new file.
+fn run_filter<W: World, O: Sink, E: Sink>(
+    alloc: Global,
+    filtering: &FileFilter,
+    world: &mut W,
+    out: &mut O,
+    err: &mut E,
+) -> Status
+    requires { IsAllowed (commands.Filter filtering.now) }
+    ensures { Does (commands.Filter filtering.now)
+        (scene (W.state world.old) (O.state out.old) (E.state err.old))
+        (scene (W.state world.new) (O.state out.new) (E.state err.new))
+        None result }
+{
+    let wanted = Wanted {
+        range: filtering.range,
+        topic: filtering.topic.as_ref(),
+        chunk: filtering.chunk,
+    };
+    let name = filtering.out.as_str();
+    filter_file(alloc, &wanted, &filtering.input, name, world, out, err)
+}
+
+// Plays the messages of a file by a script.
+fn run_play<W: World, O: Sink, E: Sink>(
+    alloc: Global,
+    playing: &Playing,
+    world: &mut W,
+    out: &mut O,
+    err: &mut E,
+) -> Status
+    ensures { Does (commands.Play playing.now)
+        (scene (W.state world.old) (O.state out.old) (E.state err.old))
+        (scene (W.state world.new) (O.state out.new) (E.state err.new))
+        None result }
+{
+    let (file, script) = (playing.file.as_str(), playing.script.as_str());
+    let (range, topic) = (playing.range, playing.topic.as_ref());
+    play_file(alloc, file, script, range, topic, world, out, err)
+}
+
 // Does what the command says, or nothing where memory lacks for the names of watchers' files.
 fn run_command<R: AllocGlobal + Threads + Wait + Sync, W: World, O: Sink, E: Sink>(
     rt: &R,
@@ -177,7 +239,7 @@ fn run_command<R: AllocGlobal + Threads + Wait + Sync, W: World, O: Sink, E: Sin
         (scene (W.state world.old) (O.state out.old) (E.state err.old))
         (scene (W.state world.new) (O.state out.new) (E.state err.new))
         result.report result.status }
-    ensures listed { AreMessagesListed result.report listed }
+    ensures listed { AreListed result.report listed }
 {
     let alloc = rt.alloc();
     match command {
@@ -208,6 +270,10 @@ fn run_command<R: AllocGlobal + Threads + Wait + Sync, W: World, O: Sink, E: Sin
         Command::Generate(generation) => {
             return run_generate(rt, &generation, world, out, err, listed);
         }
+        Command::Filter(filtering) => {
+            return unreported(run_filter(alloc, &filtering, world, out, err));
+        }
+        Command::Play(playing) => return unreported(run_play(alloc, &playing, world, out, err)),
     }
 }
 
@@ -256,14 +322,14 @@ pub fn run<R: AllocGlobal + Threads + Wait + Sync, W: World, O: Sink, E: Sink>(
         ⊎ ((result.number ≡ status_number statuses.Memory) × Takes (E.state err.old) (E.state err.new) (said (no_memory ∷ []))) }
 
     // The words of a command do what it does, or memory lacks for reading them or for the names of watchers' files.
-    ensures runs { (command : Wanted) → Derives words.now command
+    ensures runs { (command : Asked) → Derives words.now command
         → Runs command
         (scene (W.state world.old) (O.state out.old) (E.state err.old))
         (scene (W.state world.new) (O.state out.new) (E.state err.new))
         result.report result.number }
 
     // A report lists messages, or only counts them.
-    ensures listed { AreMessagesListed result.report listed }
+    ensures listed { AreListed result.report listed }
 {
     match parse_words(rt.alloc(), words) {
         Ok(command) => return exit_of(run_command(rt, command, world, out, err, listed)),

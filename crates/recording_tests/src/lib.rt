@@ -22,6 +22,8 @@ mod overlaps;
 #[cfg(test)]
 mod passes;
 #[cfg(test)]
+mod picks;
+#[cfg(test)]
 mod recordings;
 #[cfg(test)]
 mod recoveries;

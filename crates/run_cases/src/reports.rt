@@ -1,6 +1,6 @@
 //! What is said of reports that no run brings about.
-use command_base::{FailedParts, complain_of_writing};
-use command_record::{Telling, print_report};
+use command_base::FailedParts;
+use command_record::{WatchedFailures, WatchedOutcome, answer_watched, print_report};
 use io_memory::MemorySink;
 use mcap_app::{
     CallRefused, End, FeedEnd, FeedReport, Listing, ReadingRefused, Refusals, Refused, Report,
@@ -98,20 +98,37 @@ fn is_printed(alloc: Global, report: &Report, lines: &str) -> bool {
     print_report(&mut out, report).is_ok() && out.bytes() == lines.as_bytes()
 }
 
+// What a recording without watchers came to that made this report.
+fn outcome_of(alloc: Global, report: Option<Report>) -> WatchedOutcome {
+    WatchedOutcome {
+        report,
+        sealed: true,
+        watches: Vec::new(alloc),
+        feeds_failed: Vec::new(alloc),
+        out_failed: false,
+        watches_failed: Vec::new(alloc),
+    }
+}
+
 // Whether that is answered and complained of.
 fn is_answered(
     alloc: Global,
-    report: &Option<Report>,
-    failed: FailedParts<'_>,
+    report: Option<Report>,
+    parts: FailedParts<'_>,
     status: u8,
     complaints: &str,
 ) -> bool {
     let Ok(feed) = Text::copied(alloc, "F") else {
         return false;
     };
+    let failed = WatchedFailures {
+        parts,
+        watches: &[],
+        every_watch: false,
+    };
     let mut err = MemorySink::new(alloc, Vec::new(alloc));
-    let telling = Telling { report };
-    complain_of_writing(&telling, &[feed], "OUT", failed, &mut err).number() == status
+    let outcome = outcome_of(alloc, report);
+    answer_watched(&mut err, "OUT", &[], &[feed], &outcome, failed).number() == status
         && err.bytes() == complaints.as_bytes()
 }
 
@@ -122,7 +139,7 @@ type Row = (CallRefused, bool, End, FailedParts<'static>, Told);
 fn is_told(alloc: Global, report: Report, failed: FailedParts<'_>, told: &Told) -> bool {
     let (status, complaints, lines) = *told;
     is_printed(alloc, &report, lines)
-        && is_answered(alloc, &Some(report), failed, status, complaints)
+        && is_answered(alloc, Some(report), failed, status, complaints)
 }
 
 // How many rows are told so, up to the first that isn't.
@@ -229,5 +246,5 @@ const ROWS: &[Row] = &[
 /// nothing failed as a want of memory.
 pub(crate) fn are_told(alloc: Global) -> Result<bool, AllocError> {
     let count = told_rows(alloc)?;
-    Ok(count == ROWS.len() as u64 && is_answered(alloc, &None, NO_FAILURE, 5, NO_MEMORY))
+    Ok(count == ROWS.len() as u64 && is_answered(alloc, None, NO_FAILURE, 5, NO_MEMORY))
 }

@@ -3,7 +3,7 @@ use crate::building::Pieces;
 use crate::cases::{Case, Failing};
 use crate::halt::Halt;
 use io_memory::{MemorySink, MemoryWorld};
-use mcap_app::{Exit, Report, run};
+use mcap_app::{Exit, RecordingReport, run};
 use mcap_wire::Text;
 use std::alloc::AllocGlobal;
 use std::mem;
@@ -14,7 +14,7 @@ use std::thread::Threads;
 #[derive(Drop)]
 pub(crate) struct Ran {
     pub status: u8,
-    pub report: Option<Report>,
+    pub report: Option<RecordingReport>,
     pub world: MemoryWorld,
     pub out: MemorySink,
     pub err: MemorySink,

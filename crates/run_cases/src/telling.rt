@@ -111,7 +111,7 @@ fn add_found(alloc: Global, text: &mut String, what: &str, ran: &Ran) -> Result<
         }
         "lists" => {
             if let Some(report) = &ran.report {
-                for feed in &report.feeds {
+                for feed in &report.recorded.feeds {
                     add_feed(alloc, text, feed)?;
                 }
             }

@@ -3,9 +3,10 @@ use crate::building::{Pieces, add_text, piece};
 use crate::halt::{Halt, unread};
 use crate::tokens::{Token, tokens_of};
 use mcap_app::{
-    Command, FileMerge, FileRecovery, Generation, Inspection, Names, Printing, Recording,
-    WordsRefused, parse_words,
+    Command, FileFilter, FileMerge, FileRecovery, Generation, Inspection, Names, Playing, Printing,
+    Recording, WordsRefused, parse_words,
 };
+use mcap_model::Range;
 use mcap_wire::Text;
 use std::alloc::{AllocError, Global};
 
@@ -72,15 +73,39 @@ fn said_of_recording(alloc: Global, recording: &Recording) -> Result<String, All
     )
 }
 
-// A printing with all its options.
-fn said_of_printing(alloc: Global, printing: &Printing) -> Result<String, AllocError> {
-    let (file, indexed) = (printing.file.as_str(), printing.indexed);
-    let (start, end) = (printing.range.start, printing.range.end);
-    let topic = match &printing.topic {
+// Which messages are asked for.
+fn selected(alloc: Global, range: Range, topic: &Option<Text>) -> Result<String, AllocError> {
+    let (start, end) = (range.start, range.end);
+    let topic = match topic {
         Some(topic) => Some(topic.as_str()),
         None => None,
     };
-    format!(in alloc; "cat {file} indexed={indexed} start={start} end={end:?} topic={topic:?}")
+    format!(in alloc; "start={start} end={end:?} topic={topic:?}")
+}
+
+// A printing with all its options.
+fn said_of_printing(alloc: Global, printing: &Printing) -> Result<String, AllocError> {
+    let (file, indexed) = (printing.file.as_str(), printing.indexed);
+    let selected = selected(alloc, printing.range, &printing.topic)?;
+    format!(in alloc; "cat {file} indexed={indexed} {selected}")
+}
+
+// A filtering with all its options.
+fn said_of_filtering(alloc: Global, filtering: &FileFilter) -> Result<String, AllocError> {
+    let (input, out, chunk) = (
+        filtering.input.as_str(),
+        filtering.out.as_str(),
+        filtering.chunk,
+    );
+    let selected = selected(alloc, filtering.range, &filtering.topic)?;
+    format!(in alloc; "filter {input} {out} {selected} chunk={chunk}")
+}
+
+// A playing with all its options.
+fn said_of_playing(alloc: Global, playing: &Playing) -> Result<String, AllocError> {
+    let (file, script) = (playing.file.as_str(), playing.script.as_str());
+    let selected = selected(alloc, playing.range, &playing.topic)?;
+    format!(in alloc; "play {file} {script} {selected}")
 }
 
 fn said(alloc: Global, command: &Command) -> Result<String, AllocError> {
@@ -110,6 +135,8 @@ fn said(alloc: Global, command: &Command) -> Result<String, AllocError> {
             let out = out.as_str();
             format!(in alloc; "gen {seed} {feeds} {messages} {out}")
         }
+        Command::Filter(filtering) => said_of_filtering(alloc, filtering),
+        Command::Play(playing) => said_of_playing(alloc, playing),
     }
 }
 

@@ -2,7 +2,7 @@
 use Rattle.std.proofs.Common.{◌⊎◌, ℕ, List, ◌++◌, Option, sym, ap, subst, inl, Err, ◌∙◌}
 use Rattle.command_words.specs.declared.command.Command.{Command}
 use Rattle.mcap_app.specs.declared.program.Exit.{Exit}
-use Rattle.recorder.specs.declared.report.Report.{Report}
+use Rattle.command_record.specs.declared.recording.RecordingReport.{RecordingReport}
 use Rattle.command_base.specs.Printing.{Takes}
 use Rattle.command_base.specs.Scenes.{scene}
 use Rattle.command_base.specs.ComplaintTroubles.{bad_words_line}
@@ -21,7 +21,7 @@ returns-in-Ok-clause-runs g c = λ command derives.
     let old = scene (g.W.World.state c.args.world.now) (g.O.Sink.state c.args.out.now) (g.E.Sink.state c.args.err.now) in
     let new = scene (g.W.World.state c.run_command.new.world) (g.O.Sink.state c.run_command.new.out) (g.E.Sink.state c.run_command.new.err) in
     let status = c.run_command.result.status in
-    let did = subst (λ (r : Option Report). Does c.in-Ok.command old new r status ⊎ LacksForWords old new r status) (sym c.exit_of.ensures.report) c.run_command.ensures.runs in (
+    let did = subst (λ (r : Option RecordingReport). Does c.in-Ok.command old new r status ⊎ LacksForWords old new r status) (sym c.exit_of.ensures.report) c.run_command.ensures.runs in (
       status,
       subst (λ (x : Command). Does x old new c.exit_of.result.report status ⊎ LacksForWords old new c.exit_of.result.report status) (sym (c.in-Ok.ensures.only command derives)) did,
       c.exit_of.ensures.number,
