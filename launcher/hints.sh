@@ -109,8 +109,8 @@ explain_input() {
         hint="${1@Q} may not be read: its permissions forbid it"
     elif is_same_file "$1"; then
         :
-    elif [ ! -f "$1" ] && [ "$command" != record ] && [ "$command" != recover ]; then
-        hint="${1@Q} is no regular file but a pipe or a device, which has no length: cat without --indexed, record and recover read it"
+    elif [ ! -f "$1" ] && [[ $command != @(record|recover|filter|play) ]]; then
+        hint="${1@Q} is no regular file but a pipe or a device, which has no length: cat without --indexed, record, recover and filter read it"
     fi
 }
 
@@ -148,7 +148,7 @@ explain_limit() {
 explain_memory() {
     case $command in
         record) hint="a recording reserves two buffers of 32 MiB and --limit bytes each (${option[--limit]-104857600} here): a smaller --limit wants less; each watcher holds all that it replays" ;;
-        cat) hint='all messages that are printed are held first: --start, --end and --topic choose fewer' ;;
+        cat | play) hint='all messages that are printed are held first: --start, --end and --topic choose fewer' ;;
         *) return ;;
     esac
 }
@@ -247,7 +247,7 @@ say_next() {
         say_hint
     done
     hint=''
-    if [ "$command" = cat ] && [ "$status" -eq 0 ]; then
+    if [[ $command = @(cat|filter|play) ]] && [ "$status" -eq 0 ]; then
         [ -z "${option[--topic]+x}" ] || explain_topic
         [ -n "$hint" ] || [ -z "${option[--start]+x}${option[--end]+x}" ] || explain_range
     elif [ "$command" = record ] && [ "$status" -gt 128 ] && [ -s "$output" ]; then

@@ -11,7 +11,8 @@ width=''
 set_names() {
     case $command in
         record | merge) inputs=("${places[@]:1}") output=${places[0]-} ;;
-        recover) inputs=("${places[0]-}") output=${places[1]-} ;;
+        recover | filter) inputs=("${places[0]-}") output=${places[1]-} ;;
+        play) inputs=("${places[@]}") ;;
         gen) inputs=() output=${places[3]-} ;;
         *) inputs=("${places[0]-}") output='' ;;
     esac

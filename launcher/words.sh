@@ -134,7 +134,8 @@ refuse_count() {
     local many=${#places[@]}
     case $command in
         info | check | cat) [ "$many" -eq 1 ] || wrong='takes one FILE' ;;
-        recover) [ "$many" -eq 2 ] || wrong='takes IN and OUT' ;;
+        recover | filter) [ "$many" -eq 2 ] || wrong='takes IN and OUT' ;;
+        play) [ "$many" -eq 2 ] || wrong='takes FILE and SCRIPT' ;;
         record) [ "$many" -ge 2 ] && [ "$many" -le 65 ] || wrong='takes OUT and 1 to 64 FEEDs' ;;
         merge) [ "$many" -ge 2 ] && [ "$many" -le 65 ] || wrong='takes OUT and 1 to 64 INs' ;;
         gen) [ "$many" -eq 4 ] || wrong='takes SEED FEEDS MESSAGES OUT' ;;
@@ -159,7 +160,7 @@ refuse_places() {
             [ -n "$wrong" ] || refuse_number MESSAGES "${places[2]}"
             [ -n "$wrong" ] || [ $((10#${places[1]} * 10#${places[2]})) -le 1000000 ] || wrong='FEEDS times MESSAGES is more than 1000000'
             ;;
-        record | merge | recover) refuse_same_names "${places[@]}" ;;
+        record | merge | recover | filter) refuse_same_names "${places[@]}" ;;
     esac
 }
 

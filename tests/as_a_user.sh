@@ -460,6 +460,36 @@ expect_absent merged-none.mcap
 expect 3 '' 'mcaprec: "recovered-link.mcap": fault' mcaprec merge recovered-link.mcap one-recovered.mcap
 expect_records_of one-recovered.mcap "$one"
 
+# ---- files that are filtered
+
+expect 2 '' "$usage" mcaprec filter --topic /imu "$session"
+expect 2 '' "$usage" mcaprec filter "$session" "$session"
+expect 0 'filtered messages=3 records=5' '' mcaprec filter --topic /imu "$session" filtered.mcap
+expect 0 '1000 990 5 1 "/imu" 7b227a223a392e387d
+1010 1000 5 2 "/imu" 7b227a223a392e377d
+1020 1010 5 3 "/imu" -' '' mcaprec cat --indexed filtered.mcap
+expect 0 'ok indexed messages=3 channels=1 schemas=1 chunks=1 attachments=0 metadata=0' '' mcaprec check filtered.mcap
+expect 0 'filtered messages=2 records=4' '' mcaprec filter --start 1010 --end 1030 "$session" filtered.mcap
+expect 0 'filtered messages=0 records=0' '' mcaprec filter --topic imu "$session" filtered.mcap
+expect_size filtered.mcap 165
+expect 1 '' 'mcaprec: "cut.mcap": grammar at 25' mcaprec filter cut.mcap filtered.mcap
+expect 3 '' 'mcaprec: "missing.mcap": fault' mcaprec filter missing.mcap filtered-none.mcap
+expect_absent filtered-none.mcap
+
+# ---- a file that is played
+
+printf 'at 0\nat 5\nseek 6 1020\n' >script
+expect 0 'moment 0 1
+1000 990 5 1 "/imu" 7b227a223a392e387d
+moment 5 1
+1005 1005 2 1 "/log" 7374617274
+moment 6 1
+1020 1010 5 3 "/imu" -' '' mcaprec play "$session" script
+printf 'at 0\nat\n' >script
+expect 1 '' 'mcaprec: "script": line 2' mcaprec play "$session" script
+expect 1 '' 'mcaprec: "cut.mcap": grammar at 25' mcaprec play cut.mcap script
+expect 3 '' 'mcaprec: "no-script": fault' mcaprec play "$session" no-script
+
 # ---- feeds that are generated
 
 expect 2 '' "$usage" mcaprec gen 7 8 generated.mcap
@@ -1037,7 +1067,7 @@ expect_answer() {
 for words in --help help -h 'record --help' 'gen --help'; do
     # shellcheck disable=SC2086  # the words are to be split
     expect_answer mcaprec $words
-    compare "the front of $words" "$(printf '%s\n' "$usage" | sed 1d)" "$(head -n 8 "$room/stdout")"
+    compare "the front of $words" "$(printf '%s\n' "$usage" | sed 1d)" "$(head -n "$(printf '%s\n' "$usage" | sed 1d | wc -l)" "$room/stdout")"
 done
 expect_answer mcaprec --version
 grep -q '^mcaprec 1' "$room/stdout" || say_wrong "the version is $(cat -- "$room/stdout")"
@@ -1216,7 +1246,7 @@ if command -v script >/dev/null; then
     expect_hint 'mcaprec cat compressed.mcap' 1 "mcaprec: compressed chunks aren't read: another tool has to decompress 'compressed.mcap' first, as mcap decompress of the mcap command line does"
     expect_hint 'MCAPREC_QUIET=1 mcaprec check missing.mcap' 3 'mcaprec: "missing.mcap": fault'
     # Words and names that would run a command, or steer the terminal.
-    expect_hint 'mcaprec "$(printf "a//;e touch ran\n#")"' 2 "mcaprec: \$'a//;e touch ran\\n#' is no command; these are: record info check cat recover merge gen"
+    expect_hint 'mcaprec "$(printf "a//;e touch ran\n#")"' 2 "mcaprec: \$'a//;e touch ran\\n#' is no command; these are: record info check cat recover merge gen filter play"
     expect_hint 'mcaprec check "$(printf "\$(touch ran)\033[31m")"' 3 "mcaprec: there is no file \$'\$(touch ran)\\E[31m'"
     expect_hint 'mcaprec check "$(printf "%s" "--\033[31m")"' 2 "mcaprec: '--\\033[31m' is no option of check, which has none; mcaprec --help says more"
     ln -s "$(printf 'no\033[31m')" nowhere.mcap
