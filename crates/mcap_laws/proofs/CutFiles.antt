@@ -1,5 +1,5 @@
 -- What repairing makes of a first part of a file.
-use Rattle.std.proofs.Common.{◌≡◌, ◌⊎◌, ◌↔◌, ℕ, zero, suc, ◌+◌, ◌-◌, ◌<◌, ◌≤◌, Bool, List, [], ◌∷◌, ◌++◌, length, map, take, drop, refl, sym, ap, subst, inl, inr, ◌∙◌, append_assoc, append-nil, length-append, arith}
+use Rattle.std.proofs.Common.{◌≡◌, ◌⊎◌, ◌↔◌, ℕ, zero, suc, ◌+◌, ◌-◌, ◌<◌, ◌≤◌, ◌^◌, Bool, List, [], ◌∷◌, ◌++◌, length, map, take, drop, refl, sym, ap, subst, inl, inr, ◌∙◌, append_assoc, append-nil, length-append, arith}
 use Rattle.std.specs.Prelude.{filter}
 use Rattle.std.specs.List.{AllZip, flat_map}
 use Rattle.std.proofs.Math.Seq.{take-append_seam}
@@ -28,12 +28,24 @@ use Rattle.mcap_model.proofs.Lists.{cut_at, cut_flat, take_second, length-take_a
 use Rattle.mcap_model.proofs.Readings.{kept_once}
 use Rattle.mcap_model.proofs.Edges.{header_top, end_top}
 use Rattle.mcap_model.proofs.Section.{piece_tops, held, each_held, pieces_spelled, indexes_flat, piece_flat, extra_flat}
-use Rattle.mcap_model.proofs.Files.{body_tops, section_tops}
-use Rattle.mcap_model.proofs.Body.{CanStand, header_is, extras_behind, pieces_back, pieces_numbered, pieces_sound, standing}
+use Rattle.mcap_model.proofs.Files.{body_tops, section_tops, front_spelled}
+use Rattle.mcap_model.proofs.Body.{CanStand, header_is, section_within, extras_behind, pieces_back, pieces_numbered, pieces_sound, section_flat, standing}
 use Rattle.mcap_model.proofs.Prefixes.{prefixes_are_kept, ends_there}
 use Rattle.mcap_model.proofs.Fronts.{fronts_keep_whole}
 use Rattle.mcap_model.specs.declared.rules.Rule.TheVariants as rules
-use Rattle.mcap_laws.proofs.Scanned.{read_so}
+use Rattle.mcap_model.proofs.Shape.{ends_there as data_end_last}
+use Rattle.mcap_model.proofs.Histories.{recs_are_flat}
+use Rattle.rec_data.specs.Records.{header_text}
+use Rattle.rec_data.proofs.Contents.{length-header_text}
+use Rattle.mcap_model.specs.Rules.{Agrees}
+use Rattle.mcap_model.specs.Places.{EachBehind}
+use Rattle.mcap_model.specs.Histories.{flat_history}
+use Rattle.mcap_model.specs.File.{library}
+use Rattle.mcap_model.specs.Repaired.{Repaired}
+use Rattle.mcap_laws.specs.Parts.{CanBeReadInPart, PartsAreRepaired}
+use Rattle.mcap_laws.proofs.Ranges.{entries_short}
+use Rattle.mcap_laws.proofs.PartsKept.{KeepsPart, parts_keep}
+use Rattle.mcap_laws.proofs.Scanned.{read_so, front_stands, section_good}
 use Rattle.mcap_laws.proofs.Repairing.{indexes_no_extra, ExtrasShown, shown_extras, all_extra}
 
 -- ---- fronts of lists
@@ -426,31 +438,33 @@ halts_cut file some tops halts (behind, is) magic_there =
         no_more [] few = refl
         no_more (x ∷ xs) few = absurd (omega (arith, few))
 
-pub fronts_are_repaired : FrontsAreRepaired
-fronts_are_repaired options some extras history written readable prefix v1 =
-    let file = file_of options extras history in
-    let stand = standing options extras history written in
+-- what is said of a first part of a file that holds so many whole records
+record PartShows (options : FileOptions) (extras : List Top) (history : List Rec) (some : List ℕ) : Type 0 where
+  pub profile : List ℕ
+  pub kept : List Top
+  pub first : List Rec
+  pub repaired : Repaired some profile kept first
+  pub header : length (front options.profile) ≤ length some → profile ≡ options.profile
+  pub no_header : length some < length (front options.profile) → profile ≡ []
+  pub piece_count : ℕ
+  pub first_is : first ≡ without_repeats (body_of (held (take piece_count (pieces_of options.chunk options.span history))))
+  pub pieces_are : (n : ℕ) (p : Piece) → At (pieces_of options.chunk options.span history) n p → (n < piece_count) ↔ (offset_behind_piece options (take n (pieces_of options.chunk options.span history)) p ≤ length some)
+  pub extra_count : ℕ
+  pub kept_is : kept ≡ extras_in (held (take piece_count (pieces_of options.chunk options.span history))) ++ take extra_count extras
+  pub extras_are : (n : ℕ) (t : Top) → At extras n t → (n < extra_count) ↔ (length (section options (take n extras ++ t ∷ []) history) ≤ length some)
+
+part_shows : (options : FileOptions) (extras : List Top) (history : List Rec) (some : List ℕ) (stand : CanStand options extras history) (k : ℕ) → AreWhole some (tops_of_file options extras history stand) k → Kept reading_limits some (take k (tops_of_file options extras history stand))
+    → PartShows options extras history some
+part_shows options extras history some stand k are kept =
     let tops = tops_of_file options extras history stand in
-    let it = read_so options extras history written.profile written.records_fit written.numbered written.ids_agree written.extras_meet readable in
-    let halts : Halts reading_limits file tops (at_end (offset_behind tops)) = subst (λ (l : List Top). Halts reading_limits file l (at_end (offset_behind l))) (tops_are options extras history stand) it.halts in
-    let (k, halted) = halts_cut file some tops halts prefix v1 in
-    let are = halted.whole_to_there in
     let first = first_ones options extras history stand k in
-    let joined : take k tops ++ drop k tops ≡ tops = take-append-drop k tops in
     let header = whole_to some k tops (header_top options.profile ∷ []) (flat_map piece_tops (pieces_of options.chunk options.span history) ++ (extras ++ end_top ∷ [])) refl are in
     let size = header_behind options.profile in
     record {
-      whole = take k tops;
-      others = drop k tops;
-      read = subst (λ (l : List Top). Halts reading_limits file l (at_end (offset_behind l))) (sym joined) halts;
-      within = are.within;
-      cut = halted.cut;
-      complete = halted.complete;
-      short = halted.short;
       profile = first.profile;
       kept = filter is_extra (take k tops);
       first = without_repeats (body_of (held (take first.piece_count (pieces_of options.chunk options.span history))));
-      repaired = record { tops = take k tops; kept = kept_by k halted; repairs = repaired_front options extras history stand k first };
+      repaired = record { tops = take k tops; kept = kept; repairs = repaired_front options extras history stand k first };
       header = λ there. first.header (header.1 (omega (arith, there, size)));
       no_header = λ cut. first.no_header (none_by k header.0 cut size);
       piece_count = first.piece_count;
@@ -480,6 +494,42 @@ fronts_are_repaired options some extras history written readable prefix v1 =
           );
     }
   where
+    none_by : (k : ℕ) → (1 ≤ k → offset_behind (header_top options.profile ∷ []) ≤ length some) → length some < length (front options.profile) → length (front options.profile) ≡ offset_behind (header_top options.profile ∷ []) → k ≡ 0
+    none_by zero within cut size = refl
+    none_by (suc k) within cut size = absurd (let there = within (omega arith) in omega (arith, there, cut, size))
+
+pub fronts_are_repaired : FrontsAreRepaired
+fronts_are_repaired options some extras history written readable prefix v1 =
+    let file = file_of options extras history in
+    let stand = standing options extras history written in
+    let tops = tops_of_file options extras history stand in
+    let it = read_so options extras history written.profile written.records_fit written.numbered written.ids_agree written.extras_meet readable in
+    let halts : Halts reading_limits file tops (at_end (offset_behind tops)) = subst (λ (l : List Top). Halts reading_limits file l (at_end (offset_behind l))) (tops_are options extras history stand) it.halts in
+    let (k, halted) = halts_cut file some tops halts prefix v1 in
+    let are = halted.whole_to_there in
+    let shows = part_shows options extras history some stand k are (kept_by k halted) in
+    record {
+      whole = take k tops;
+      others = drop k tops;
+      read = subst (λ (l : List Top). Halts reading_limits file l (at_end (offset_behind l))) (sym (take-append-drop k tops)) halts;
+      within = are.within;
+      cut = halted.cut;
+      complete = halted.complete;
+      short = halted.short;
+      profile = shows.profile;
+      kept = shows.kept;
+      first = shows.first;
+      repaired = shows.repaired;
+      header = shows.header;
+      no_header = shows.no_header;
+      piece_count = shows.piece_count;
+      first_is = shows.first_is;
+      pieces_are = shows.pieces_are;
+      extra_count = shows.extra_count;
+      kept_is = shows.kept_is;
+      extras_are = shows.extras_are;
+    }
+  where
     kept_by : (k : ℕ) → HaltsCut some (tops_of_file options extras history (standing options extras history written)) k → Kept reading_limits some (take k (tops_of_file options extras history (standing options extras history written)))
     kept_by k halted = by (drop k tops_all) refl
       where
@@ -490,6 +540,71 @@ fronts_are_repaired options some extras history written readable prefix v1 =
         by [] is = let halts = halted.complete is in halts.kept
         by (t ∷ ts) is = let halts = halted.short (λ none. let same : [] ≡ t ∷ ts = sym none ∙ is in cc) in halts.kept
 
-    none_by : (k : ℕ) → (1 ≤ k → offset_behind (header_top options.profile ∷ []) ≤ length some) → length some < length (front options.profile) → length (front options.profile) ≡ offset_behind (header_top options.profile ∷ []) → k ≡ 0
-    none_by zero within cut size = refl
-    none_by (suc k) within cut size = absurd (let there = within (omega arith) in omega (arith, there, cut, size))
+-- ---- a first part of a file that may be too long
+
+stand_in_part : (options : FileOptions) (extras : List Top) (history : List Rec) → CanBeReadInPart options extras history → CanStand options extras history
+stand_in_part options extras history readable = record {
+  profile = readable.profile;
+  profile_fits = (let size = length-header_text (record { profile = options.profile; library = library }) in let short = readable.header in omega (arith, size, short));
+  records_fit = readable.records_fit;
+  numbered = readable.numbered;
+  extras_meet = readable.extras_meet;
+  entries_fit = λ n records at. entries_short records (readable.pieces n (block records) at);
+  size_fits = readable.size_fits;
+}
+
+pub parts_are_repaired : PartsAreRepaired
+parts_are_repaired options some extras history readable (behind, is) v1 few =
+    let stand = stand_in_part options extras history readable in
+    let tops = section_tops options extras history ++ end_top ∷ [] in
+    let same : tops ≡ tops_of_file options extras history stand = tops_are options extras history stand in
+    let flat_all : flat tops ≡ flat_history history =
+    flat_map-append flattened (section_tops options extras history) (end_top ∷ []) ∙ append-nil (flat (section_tops options extras history)) ∙ section_flat options extras history stand ∙ sym (recs_are_flat history readable.records_fit) in
+    let near = section_within options extras history stand in
+    let good = section_good (2 ^ 64) options extras history stand (record { header = readable.header; pieces = readable.pieces; extras_short = readable.extras_short }) (subst (EachBehind Agrees) (sym flat_all) readable.ids_agree) (omega (arith, near)) in
+    let (rest, stands) = front_stands options extras history in
+    let keeps = parts_keep (2 ^ 64) (file_of options extras history) some behind tops rest stands good (data_end_last (section_tops options extras history) []) (sym is) (long v1) few in
+    let parted : take (length keeps.whole) tops ≡ keeps.whole = ap (take (length keeps.whole)) keeps.joined ∙ take-append_seam keeps.whole keeps.others in
+    let whole_is : take (length keeps.whole) (tops_of_file options extras history stand) ≡ keeps.whole = ap (take (length keeps.whole)) (sym same) ∙ parted in
+    let within = keeps.within in
+    let are : AreWhole some (tops_of_file options extras history stand) (length keeps.whole) = subst (λ (l : List Top). AreWhole some l (length keeps.whole)) same (record {
+      within = omega (arith, within, ap offset_behind parted);
+      last = last_by keeps.others keeps refl;
+    }) in
+    let shows = part_shows options extras history some stand (length keeps.whole) are (subst (Kept reading_limits some) (sym whole_is) keeps.kept) in
+    record {
+      whole = keeps.whole;
+      others = keeps.others;
+      are = front_spelled options extras history ∙ ap (λ (l : List Top). magic ++ spelled l) keeps.joined;
+      within = keeps.within;
+      cut = keeps.cut;
+      complete = keeps.complete;
+      short = keeps.short;
+      profile = shows.profile;
+      kept = shows.kept;
+      first = shows.first;
+      repaired = shows.repaired;
+      header = shows.header;
+      no_header = shows.no_header;
+      piece_count = shows.piece_count;
+      first_is = shows.first_is;
+      pieces_are = shows.pieces_are;
+      extra_count = shows.extra_count;
+      kept_is = shows.kept_is;
+      extras_are = shows.extras_are;
+    }
+  where
+    long : V1 some → 8 ≤ length some
+    long (left, starts) = let size = ap (λ (l : List ℕ). length l) starts in omega (arith, size, length-append magic left)
+
+    last_by : (others : List Top) → (keeps : KeepsPart some (section_tops options extras history ++ end_top ∷ [])) → keeps.others ≡ others
+        → (length keeps.whole ≡ length (section_tops options extras history ++ end_top ∷ [])) ⊎ (length some < offset_behind (take (suc (length keeps.whole)) (section_tops options extras history ++ end_top ∷ [])))
+    last_by [] keeps none =
+        let size = ap (λ (l : List Top). length l) keeps.joined in
+        let few = ap (λ (l : List Top). length l) none in
+        inl (omega (arith, size, few, length-append keeps.whole keeps.others))
+    last_by (t ∷ more) keeps next =
+        let one : suc (length keeps.whole) ≡ length keeps.whole + 1 = omega arith in
+        let taken : take (suc (length keeps.whole)) (section_tops options extras history ++ end_top ∷ []) ≡ keeps.whole ++ t ∷ [] =
+        ap (take (suc (length keeps.whole))) (keeps.joined ∙ ap (λ (l : List Top). keeps.whole ++ l) next) ∙ ap (λ (n : ℕ). take n (keeps.whole ++ t ∷ more)) one ∙ take_second keeps.whole (t ∷ more) 1 in
+        inr (subst (λ (l : List Top). length some < offset_behind l) (sym taken) (keeps.cut t more next))

@@ -20,5 +20,6 @@ mod Recovered
 mod Premises
 pub mod Leading
 mod Repairing
+mod PartsKept
 mod CutFiles
 mod Rewriting

@@ -22,6 +22,7 @@ use Rattle.mcap_model.specs.Repaired.{is_extra, ProfileIs}
 use Rattle.mcap_model.specs.Laws.{IsNumberedRec, IsInner, EntriesFit}
 use Rattle.mcap_model.specs.ReadBack.{IsReadBack, IsExtraKind, IsExtra}
 use Rattle.mcap_model.specs.Recovery.{RepairsCanBeWritten}
+use Rattle.mcap_laws.specs.Repairs.{RepairsKeepRules}
 use Rattle.mcap_model.proofs.Places.{at_none}
 use Rattle.mcap_model.proofs.ReadBack.{schema_back, channel_back, message_back}
 use Rattle.mcap_model.proofs.Distinct.{rec_id, repeats_are}
@@ -189,8 +190,8 @@ profile_there (t ∷ ts) profile good (header, same) =
     let fit = header.layout.1.fit in
     (subst IsUtf8 same fit.0.1, (let size = ap (λ (l : List ℕ). length l) same in let few = fit.0.0 in omega (arith, size, few)))
 
-pub repairs_can_be_written : RepairsCanBeWritten
-repairs_can_be_written options tops extras history size good repairs chunk some small few_blocks few_bytes few_attachments few_metadata =
+pub repairs_keep_rules : RepairsKeepRules
+repairs_keep_rules tops extras profile history good repairs =
     let (meets, agree) = good_lists_agree reading_limits tops good in
     let back : Each IsReadBack repairs.flattened = λ n r at. let (u, stands, shows) = rec_at (flat tops) repairs.flattened n r repairs.are_flattened at in read_back u r shows in
     let numbered = numbered_on (flat tops) repairs.flattened repairs.are_flattened meets in
@@ -198,15 +199,28 @@ repairs_can_be_written options tops extras history size good repairs chunk some 
     let ids : IdsAgree repairs.flattened = subst (EachBehind Agrees) (sym (recs_are_flat repairs.flattened back ∙ ap (map rec_top) (body_whole repairs.flattened inner))) (ids_on (flat tops) repairs.flattened repairs.are_flattened agree) in
     let (ids_kept, back_kept, numbered_kept) = repeats_may_go repairs.flattened back numbered inner ids in
     let none : extras_in history ≡ [] = no_extras history (λ n r at. let has = repeats_are repairs.flattened r (n, subst (λ (l : List Rec). At l n r) repairs.history_is at) in inner has.0 r has.1) in
-    let all : extras_in history ++ extras ≡ extras = ap (λ (l : List Top). l ++ extras) none in
-    let (utf8, fits) = profile_there tops options.profile good repairs.profile_is in
+    let (utf8, fits) = profile_there tops profile good repairs.profile_is in
     record {
-      profile = utf8;
+      profile_utf8 = utf8;
       profile_fits = fits;
       records_fit = subst (Each IsReadBack) (sym repairs.history_is) back_kept;
       numbered = subst (Each IsNumberedRec) (sym repairs.history_is) numbered_kept;
       ids_agree = subst IdsAgree (sym repairs.history_is) ids_kept;
-      extras_meet = subst (Each IsExtra) (sym (all ∙ repairs.extras_are)) (extras_meet tops good);
+      no_extras = none;
+      extras_meet = subst (Each IsExtra) (sym repairs.extras_are) (extras_meet tops good);
+    }
+
+pub repairs_can_be_written : RepairsCanBeWritten
+repairs_can_be_written options tops extras history size good repairs chunk some small few_blocks few_bytes few_attachments few_metadata =
+    let keeps = repairs_keep_rules tops extras options.profile history good repairs in
+    let all : extras_in history ++ extras ≡ extras = ap (λ (l : List Top). l ++ extras) keeps.no_extras in
+    record {
+      profile = keeps.profile_utf8;
+      profile_fits = keeps.profile_fits;
+      records_fit = keeps.records_fit;
+      numbered = keeps.numbered;
+      ids_agree = keeps.ids_agree;
+      extras_meet = subst (Each IsExtra) (sym all) keeps.extras_meet;
       entries_fit = subst (λ (c : Option ℕ). Each EntriesFit (blocks_in (pieces_of c options.span history))) (sym chunk) (small_blocks_fit size options.span history some small);
       few_blocks = omega (arith, few_blocks);
       few_attachments = (let same = ap (count_of 9) all in omega (arith, same, few_attachments));

@@ -1,6 +1,6 @@
 -- The file of a history is read to its Data End, and its messages are those of the history.
 use Rattle.std.proofs.Common.{◌≡◌, ℕ, zero, suc, ◌+◌, ◌≤◌, Bool, true, false, List, [], ◌∷◌, ◌++◌, length, take, map, refl, sym, ap, subst, inl, inr, ◌∙◌, append_assoc, cond, arith}
-use Rattle.std.specs.Prelude.{filter, IsUtf8}
+use Rattle.std.specs.Prelude.{filter, nat_lt, IsUtf8}
 use Rattle.std.specs.List.{flat_map, AllZip}
 use Rattle.std.proofs.lemmas.List.{append-nil, length-append, take-append-le}
 use Rattle.std.proofs.lemmas.Grind.{flat_map-append}
@@ -8,7 +8,7 @@ use Rattle.mcap_wire.specs.Layout.{magic, le}
 use Rattle.mcap_wire.proofs.Numbers.{length-le}
 use Rattle.rec_data.specs.declared.owned.Rec.{Rec}
 use Rattle.rec_data.specs.declared.owned.Rec.TheVariants.{Schema, Channel, Message, Extra}
-use Rattle.rec_data.specs.Records.{data_end_text}
+use Rattle.rec_data.specs.Records.{header_text, data_end_text}
 use Rattle.rec_data.proofs.Contents.{data_end_shown, length-header_text}
 use Rattle.std.proofs.Math.Seq.{take-append_seam}
 use Rattle.mcap_model.specs.declared.options.FileOptions.{FileOptions}
@@ -16,12 +16,12 @@ use Rattle.mcap_model.specs.Places.{At, Each, EachBehind}
 use Rattle.mcap_model.specs.Tops.{Top, Tops, top_bytes, spelled, offset_behind, flattened, flat, Placed, placed}
 use Rattle.mcap_model.specs.Fields.{IsHeader, IsMessage}
 use Rattle.mcap_model.specs.Rules.{V7, HasDataEnd, Agrees}
-use Rattle.mcap_model.specs.Kept.{Halts, reading_limits, Fits, Good, at_end, at_data_end}
+use Rattle.mcap_model.specs.Kept.{Limits, Halts, reading_limits, is_beyond, Fits, Good, at_end, at_data_end}
 use Rattle.mcap_model.specs.Scan.{Seen, IsSeen, is_message_top, tops_of, Scan}
 use Rattle.mcap_model.specs.History.{rec_top, is_message, is_inner, body_of, extras_in}
 use Rattle.mcap_model.proofs.Asides.{filter_twice, message_inner, each_body}
 use Rattle.rec_data.proofs.OwnedReading.{extra_not}
-use Rattle.std.proofs.lemmas.Bool.{ne_eqb}
+use Rattle.std.proofs.lemmas.Bool.{ne_eqb, or_from, le-ltb}
 use Rattle.mcap_model.specs.Histories.{flat_history, IdsAgree}
 use Rattle.mcap_model.specs.Blocks.{Piece, block, alone, pieces_of, logged_channels}
 use Rattle.mcap_model.specs.File.{library, noted, file_of}
@@ -37,7 +37,7 @@ use Rattle.mcap_laws.proofs.Ranges.{length-chunk, entries_short}
 use Rattle.mcap_model.proofs.Places.{at_none, at_within, at_more, at_kept}
 use Rattle.mcap_model.proofs.ReadBack.{message_back}
 use Rattle.mcap_model.proofs.Readings.{length-top, halts_are_last}
-use Rattle.mcap_model.proofs.Histories.{header_meets, data_end_meets, within_there, recs_are_flat}
+use Rattle.mcap_model.proofs.Histories.{header_meets, data_end_meets, recs_are_flat}
 use Rattle.mcap_model.proofs.Edges.{header_top, end_top}
 use Rattle.mcap_model.proofs.WrittenChunks.{each_map}
 use Rattle.mcap_model.proofs.Flat.{placed_tops}
@@ -102,23 +102,30 @@ ends_not [] each none = none
 ends_not (t ∷ ts) each (inl here) = each 0 t refl here
 ends_not (t ∷ ts) each (inr more) = ends_not ts (λ n x at. each (suc n) x at) more
 
-near_in : (before : List Top) (t : Top) (more : List Top) → offset_behind before + 9 + length t.content ≤ offset_behind (before ++ t ∷ more)
+-- contents as long as are read, and files as long as that
+abbrev pub sized : ℕ → Limits
+sized most = record { content = 268435456; file = most }
+
+pub within_most : (most at len : ℕ) → len ≤ 268435456 → at + 9 + len ≤ most → is_beyond (sized most) at len ≡ false
+within_most most at len short near = or_from (nat_lt 268435456 len) (nat_lt most (at + 9 + len)) (le-ltb 268435456 len short) (le-ltb most (at + 9 + len) near)
+
+pub near_in : (before : List Top) (t : Top) (more : List Top) → offset_behind before + 9 + length t.content ≤ offset_behind (before ++ t ∷ more)
 near_in before t more =
     let size = ap length (flat_map-append top_bytes before (t ∷ more)) in
     omega (arith, size, length-append (spelled before) (top_bytes t ++ spelled more), length-append (top_bytes t) (spelled more), length-top t)
 
 -- a Header, sound records and a Data End are a good list where their flat records agree
-good_of_sound : (header : Top) (tops : List Top) → IsHeader header → length header.content ≤ 268435456 → Each IsSound tops → EachBehind Agrees (flat (header ∷ (tops ++ end_top ∷ [])))
-    → offset_behind (header ∷ (tops ++ end_top ∷ [])) ≤ 1099511627776 → Good reading_limits (header ∷ (tops ++ end_top ∷ []))
-good_of_sound header tops is short sound agree near n t at = fits n t at (cut_at all n t at)
+pub good_of_sound : (most : ℕ) (header : Top) (tops : List Top) → IsHeader header → length header.content ≤ 268435456 → Each IsSound tops → EachBehind Agrees (flat (header ∷ (tops ++ end_top ∷ [])))
+    → offset_behind (header ∷ (tops ++ end_top ∷ [])) ≤ most → Good (sized most) (header ∷ (tops ++ end_top ∷ []))
+good_of_sound most header tops is short sound agree near n t at = fits n t at (cut_at all n t at)
   where
     all : List Top
     all = header ∷ (tops ++ end_top ∷ [])
 
-    fits : (n : ℕ) (t : Top) → At (header ∷ (tops ++ end_top ∷ [])) n t → (more : List Top) × ((header ∷ (tops ++ end_top ∷ [])) ≡ take n (header ∷ (tops ++ end_top ∷ [])) ++ t ∷ more) → Fits reading_limits (take n (header ∷ (tops ++ end_top ∷ []))) t
+    fits : (n : ℕ) (t : Top) → At (header ∷ (tops ++ end_top ∷ [])) n t → (more : List Top) × ((header ∷ (tops ++ end_top ∷ [])) ≡ take n (header ∷ (tops ++ end_top ∷ [])) ++ t ∷ more) → Fits (sized most) (take n (header ∷ (tops ++ end_top ∷ []))) t
     fits zero t at split =
         let same = same_Some header t at in
-        subst (Fits reading_limits []) same (record {
+        subst (Fits (sized most) []) same (record {
           v3 = is;
           v5 = λ e. omega (arith, is.kind, e);
           v6 = header_meets header is;
@@ -126,11 +133,11 @@ good_of_sound header tops is short sound agree near n t at = fits n t at (cut_at
           v8 = λ f chunk. absurd (omega (arith, is.kind, chunk.kind));
           v10 = λ f place kind. absurd (omega (arith, is.kind, kind));
           plain = λ name named. let chunk = named.is in absurd (omega (arith, is.kind, chunk.kind));
-          within = within_there 8 (length header.content) short (omega (arith, short));
+          within = within_most most 8 (length header.content) short (let inner = near_in [] header (tops ++ end_top ∷ []) in omega (arith, inner, near));
           unended = λ e. e;
         })
     fits (suc n) t at split =
-        let close : offset_behind (take (suc n) (header ∷ (tops ++ end_top ∷ []))) + 9 + length t.content ≤ 1099511627776 =
+        let close : offset_behind (take (suc n) (header ∷ (tops ++ end_top ∷ []))) + 9 + length t.content ≤ most =
         let inner = near_in (take (suc n) (header ∷ (tops ++ end_top ∷ []))) t split.0 in
         let whole = ap offset_behind split.1 in
         omega (arith, inner, whole, near) in
@@ -147,13 +154,13 @@ good_of_sound header tops is short sound agree near n t at = fits n t at (cut_at
                 v8 = s.v8;
                 v10 = s.v10;
                 plain = s.plain;
-                within = within_there (offset_behind (take (suc n) (header ∷ (tops ++ end_top ∷ [])))) (length t.content) both.short close;
+                within = within_most most (offset_behind (take (suc n) (header ∷ (tops ++ end_top ∷ [])))) (length t.content) both.short close;
                 unended = λ ended. unended_by (take n (tops ++ end_top ∷ [])) (subst (Each (λ x. x.op ≡ 15 → ⊥)) (sym front) (each_take (λ x. x.op ≡ 15 → ⊥) tops n (λ k x there. let one = sound k x there in let right = one.right in right.unended))) ended;
               }
           | inr here ↦
               let size : length (data_end_text 0) ≡ 4 = ap length (append-nil (le 4 0)) ∙ length-le 4 0 in
               let front : take n (tops ++ end_top ∷ []) ≡ tops = ap (λ (m : ℕ). take m (tops ++ end_top ∷ [])) here.0 ∙ take-append_seam tops (end_top ∷ []) in
-              subst (Fits reading_limits (header ∷ take n (tops ++ end_top ∷ []))) (sym here.1) (record {
+              subst (Fits (sized most) (header ∷ take n (tops ++ end_top ∷ []))) (sym here.1) (record {
                 v3 = tt;
                 v5 = ((λ e. omega (arith, e)), inr refl);
                 v6 = data_end_meets end_top (record { kind = refl; crc = 0; layout = data_end_shown 0 (omega arith) });
@@ -161,7 +168,7 @@ good_of_sound header tops is short sound agree near n t at = fits n t at (cut_at
                 v8 = λ f chunk. absurd (omega (arith, chunk.kind));
                 v10 = λ f place kind. absurd (omega (arith, kind));
                 plain = λ name named. let chunk = named.is in absurd (omega (arith, chunk.kind));
-                within = within_there (offset_behind (header ∷ take n (tops ++ end_top ∷ []))) (length (data_end_text 0)) (omega (arith, size)) (subst (λ (x : Top). offset_behind (header ∷ take n (tops ++ end_top ∷ [])) + 9 + length x.content ≤ 1099511627776) here.1 close);
+                within = within_most most (offset_behind (header ∷ take n (tops ++ end_top ∷ []))) (length (data_end_text 0)) (omega (arith, size)) (subst (λ (x : Top). offset_behind (header ∷ take n (tops ++ end_top ∷ [])) + 9 + length x.content ≤ most) here.1 close);
                 unended = λ ended. unended_by (take n (tops ++ end_top ∷ [])) (subst (Each (λ x. x.op ≡ 15 → ⊥)) (sym front) (λ k x there. let one = sound k x there in let right = one.right in right.unended)) ended;
               })
         ]
@@ -196,6 +203,34 @@ stand_of options extras history utf8 back numbered are readable = record {
   size_fits = (let near = readable.file in omega (arith, near));
 }
 
+-- a file begins with its records up to the Data End
+pub front_stands : (options : FileOptions) (extras : List Top) (history : List Rec) → (rest : List ℕ) × Tops (file_of options extras history) (section_tops options extras history ++ end_top ∷ []) rest
+front_stands options extras history =
+    let tops = section_tops options extras history ++ end_top ∷ [] in
+    let tail = summary_tops options.chunk (noted options extras history) (summary_at options extras history) ++ summary_foot options.chunk (noted options extras history) (summary_at options extras history) ∷ [] in
+    let parts : spelled (written_tops options extras history) ≡ spelled tops ++ spelled tail = ap spelled (sym (append_assoc (section_tops options extras history) (end_top ∷ []) tail)) ∙ flat_map-append top_bytes tops tail in (
+      spelled tail ++ magic,
+      record { split = file_spelled options extras history ∙ ap (λ (l : List ℕ). magic ++ (l ++ magic)) parts ∙ ap (λ (l : List ℕ). magic ++ l) (append_assoc (spelled tops) (spelled tail) magic) },
+    )
+
+-- no content up to the Data End is longer than what is read
+pub record AreShort (options : FileOptions) (extras : List Top) (history : List Rec) : Type 0 where
+  pub header : length (header_text (record { profile = options.profile; library = library })) ≤ 268435456
+  pub pieces : Each PieceIsShort (pieces_of options.chunk options.span history)
+  pub extras_short : Each (λ t. length t.content ≤ 268435456) extras
+
+-- they are a good list where they end that soon
+pub section_good : (most : ℕ) (options : FileOptions) (extras : List Top) (history : List Rec) → CanStand options extras history → AreShort options extras history → EachBehind Agrees (flat (section_tops options extras history ++ end_top ∷ []))
+    → offset_behind (section_tops options extras history ++ end_top ∷ []) ≤ most → Good (sized most) (section_tops options extras history ++ end_top ∷ [])
+section_good most options extras history written are agree until =
+    let ps = pieces_of options.chunk options.span history in
+    let inside = body_tops options extras history in
+    let short : Each (λ t. length t.content ≤ 268435456) inside = each_joined (λ t. length t.content ≤ 268435456) (flat_map piece_tops ps) extras
+    (each_flat (λ t. length t.content ≤ 268435456) piece_tops ps (λ n p at. piece_short p (are.pieces n p at))) are.extras_short in
+    let right = body_right options extras history written in
+    let sound : Each IsSound inside = λ n t at. record { right = right n t at; short = short n t at } in
+    good_of_sound most (header_top options.profile) inside (header_is options extras history written) are.header sound agree until
+
 -- the records up to the Data End, with which a file is read
 pub record IsReadSo (options : FileOptions) (extras : List Top) (history : List Rec) : Type 0 where
   pub halts : Halts reading_limits (file_of options extras history) (section_tops options extras history ++ end_top ∷ []) (at_end (offset_behind (section_tops options extras history ++ end_top ∷ [])))
@@ -205,27 +240,15 @@ pub record IsReadSo (options : FileOptions) (extras : List Top) (history : List 
 pub read_so : (options : FileOptions) (extras : List Top) (history : List Rec) → IsUtf8 options.profile → Each IsReadBack history → Each IsNumberedRec history → IdsAgree history → Each IsExtra (extras_in history ++ extras) → CanBeRead options extras history → IsReadSo options extras history
 read_so options extras history utf8 back numbered agree are readable =
     let written = stand_of options extras history utf8 back numbered are readable in
-    let header = header_top options.profile in
-    let ps = pieces_of options.chunk options.span history in
-    let inside = body_tops options extras history in
     let tops = section_tops options extras history ++ end_top ∷ [] in
-    let short : Each (λ t. length t.content ≤ 268435456) inside = each_joined (λ t. length t.content ≤ 268435456) (flat_map piece_tops ps) extras
-    (each_flat (λ t. length t.content ≤ 268435456) piece_tops ps (λ n p at. piece_short p (readable.pieces n p at))) readable.extras_short in
-    let right = body_right options extras history written in
-    let sound : Each IsSound inside = λ n t at. record { right = right n t at; short = short n t at } in
     let flat_recs : flat tops ≡ map rec_top (body_of history) = flat_map-append flattened (section_tops options extras history) (end_top ∷ []) ∙ append-nil (flat (section_tops options extras history)) ∙ section_flat options extras history written in
     let flat_all : flat tops ≡ flat_history history = flat_recs ∙ sym (recs_are_flat history back) in
     let file = file_of options extras history in
-    let tail = summary_tops options.chunk (noted options extras history) (summary_at options extras history) ++ summary_foot options.chunk (noted options extras history) (summary_at options extras history) ∷ [] in
-    let rest = spelled tail ++ magic in
-    let all = file_spelled options extras history in
-    let parts : spelled (written_tops options extras history) ≡ spelled tops ++ spelled tail = ap spelled (sym (append_assoc (section_tops options extras history) (end_top ∷ []) tail)) ∙ flat_map-append top_bytes tops tail in
-    let stands : Tops file tops rest = record { split = all ∙ ap (λ (l : List ℕ). magic ++ (l ++ magic)) parts ∙ ap (λ (l : List ℕ). magic ++ l) (append_assoc (spelled tops) (spelled tail) magic) } in
-    let bytes = length-file file (written_tops options extras history) all in
-    let more = ap length parts ∙ length-append (spelled tops) (spelled tail) in
+    let (rest, stands) = front_stands options extras history in
+    let size = ap length stands.split in
     let limit = readable.file in
-    let until : offset_behind tops ≤ 1099511627776 = omega (arith, bytes, more, limit) in
-    let good = good_of_sound header inside (header_is options extras history written) readable.header sound (subst (EachBehind Agrees) (sym flat_all) agree) until in
+    let until : offset_behind tops ≤ 1099511627776 = omega (arith, size, limit, length-append magic (spelled tops ++ rest), length-append (spelled tops) rest) in
+    let good = section_good 1099511627776 options extras history written (record { header = readable.header; pieces = readable.pieces; extras_short = readable.extras_short }) (subst (EachBehind Agrees) (sym flat_all) agree) until in
     let ended : HasDataEnd tops = ends_there (section_tops options extras history) [] in
     record {
       halts = record {

@@ -2,6 +2,8 @@
 #![tactic(auto)]
 
 ghost use Rattle.mcap_model.specs.Recovery.{RepairsCanBeWritten, FilesAreRepaired, FrontsAreRepaired, RepairsKeepMessages, RepairsGoOn, GoodRecordsAreKept};
+ghost use Rattle.mcap_laws.specs.Parts.{PartsAreRepaired};
+ghost use Rattle.mcap_laws.specs.Repairs.{RepairsKeepRules};
 ghost use Rattle.mcap_model.specs.Laws.{GoodFromTheFront, ReadingsHaltOnce, KeptIsOne, HaltsAreLast, FrontsKeepWhole, RecordsAreFound, ChunksAreOpened, ExtrasAreIndexed, ChunksAreWritten, IndexesAreWritten, ReplaysAreOne, BlocksAreOne, PiecesStandInTurn, PiecesAreOne, PlainPiecesAreRecords, SizesRipen, GoodListsAgree, GoodListsAreScanned, NumberedIdsAgree, RepeatsMayGo, RepairsAreOne, FlawsExcludeValidity, FilesAreScanned, FilesAreValid, FilesAreIndexed, PrefixesAreKept, GoodHistoriesAgree, SmallBlocksFit, WholeFilesAreOne, PiecesMakeFiles, StopsLeavePrefixes, IndexesLeadToTheScan, LedReplaysAreScans};
 
 /// What stands in front in a good list is a good list.
@@ -195,7 +197,17 @@ pub fn fronts_are_repaired()
     ensures { FrontsAreRepaired }
 {}
 
-/// Of what repairing makes of good records a file can be written.
+/// So it is where the file is too long to be read, but for a part that ends in a record whose end is past the limit.
+pub fn parts_are_repaired()
+    ensures { PartsAreRepaired }
+{}
+
+/// What repairing makes of good records keeps the rules.
+pub fn repairs_keep_rules()
+    ensures { RepairsKeepRules }
+{}
+
+/// Of that a file can be written.
 pub fn repairs_can_be_written()
     ensures { RepairsCanBeWritten }
 {}
