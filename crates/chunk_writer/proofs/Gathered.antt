@@ -189,6 +189,7 @@ filled_more options extras t history p body phase framed len is size notes fille
   body = subst (λ (k : Noted). SummaryFor options.chunk k body) (noted_more options extras t history p.bytes filled.bytes) (notes options.chunk (noted options extras history) filled.body);
   blocks = filled.blocks;
   bytes = section_long options extras t history p.bytes len filled.bytes (size ∙ ap (λ (l : List ℕ). length l) is);
+  contents = filled.contents;
 }
 
 -- ---- extras that wait

@@ -1,4 +1,5 @@
 pub mod Cuts
+pub mod Contents
 pub mod Noting
 pub mod Planned
 pub mod Stopping

@@ -20,9 +20,10 @@ use Rattle.chunk_build.specs.Chunking.{Chunking}
 use Rattle.chunk_build.specs.Chunker as chunker
 use Rattle.chunk_writer.specs.declared.body.Body.{Body}
 use Rattle.chunk_writer.specs.Limits.{Holds}
-use Rattle.chunk_writer.specs.LimitSteps.{HoldsOrStops, IsNoFault}
+use Rattle.chunk_writer.specs.LimitSteps.{HoldsOrStops, BlockFits, IsNoFault}
 use Rattle.chunk_writer.specs.Bodies.{noted_of, IsBody, BodyTakes, TakesLast, StandsSo, ClosesPiece, NextBlock, NextAside, LastBlock}
-use Rattle.chunk_writer.specs.Plans.{PiecePasses, PutStopped, LastStopped}
+use Rattle.chunk_writer.specs.Plans.{PutStopped, LastStopped}
+use Rattle.chunk_writer.proofs.Contents.{block_of_piece}
 use Rattle.chunk_writer.proofs.Cuts.{few_logged, closes_aside}
 
 pub blocks_append : (at : ℕ) (ps qs : List Piece) → blocks_from at (ps ++ qs) ≡ blocks_from at ps ++ blocks_from (at + length (pieces_bytes ps)) qs
@@ -181,21 +182,18 @@ next_aside size span at history r b t blocks bytes extra notes so =
 
 -- ---- a block is refused
 
-passes_by : (blocks bytes len : ℕ) (records : List Rec) → len ≡ length (block_bytes records) → (Holds (blocks + 1) (bytes + len) → ⊥) → PiecePasses blocks bytes (block records)
-passes_by blocks bytes len records is passes = λ holds. passes (record { few = holds.few; small = subst (λ (n : ℕ). bytes + n ≤ 1099511627776) (sym is) holds.small })
-
-stopped_by : (size span : Option ℕ) (history : List Rec) (r : Rec) (blocks bytes len : ℕ) (records : List Rec) (stop : Stop) → ClosesPiece size span history r (block records) → len ≡ length (block_bytes records)
-    → HoldsOrStops {X = Unit} blocks bytes (blocks + 1) (bytes + len) (Err stop) → PutStopped size span history r blocks bytes stop
-stopped_by size span history r blocks bytes len records (stops.Fault faults) closes is kept = absurd kept
-stopped_by size span history r blocks bytes len records (stops.Limit b n) closes is kept = (block records, closes, kept.0, kept.1, passes_by blocks bytes len records is kept.2)
-stopped_by size span history r blocks bytes len records stops.Memory closes is kept = tt
+stopped_by : (size span : Option ℕ) (history : List Rec) (r : Rec) (blocks bytes : ℕ) (blk : Block) (records : List Rec) (stop : Stop) → ClosesPiece size span history r (block records) → IsBlock blk records
+    → HoldsOrStops {X = Unit} blocks bytes (BlockFits blocks bytes blk) (Err stop) → PutStopped size span history r blocks bytes stop
+stopped_by size span history r blocks bytes blk records (stops.Fault faults) closes is kept = absurd kept
+stopped_by size span history r blocks bytes blk records (stops.Limit b n) closes is kept = (block records, closes, kept.0, kept.1, λ fits. kept.2 (block_of_piece blocks bytes blk records is fits))
+stopped_by size span history r blocks bytes blk records stops.Memory closes is kept = tt
 
 pub next_err : (size : ℕ) (span : Option ℕ) (at : ℕ) (history : List Rec) (r : Rec) (b after : Body) (blocks bytes : ℕ) (closed : Option Block) (blk : Block) (stop : Stop) → closed ≡ Some blk → TakesIt b r closed after
-    → HoldsOrStops {X = Unit} blocks bytes (blocks + 1) (bytes + length blk.bytes) (Err stop) → StandsSo size span at history b blocks bytes → PutStopped (Some size) span history r blocks bytes stop
+    → HoldsOrStops {X = Unit} blocks bytes (BlockFits blocks bytes blk) (Err stop) → StandsSo size span at history b blocks bytes → PutStopped (Some size) span history r blocks bytes stop
 next_err size span at history r b after blocks bytes closed blk stop some takes kept so =
     let took : BodyTakes size span at history r (Some blk) after = subst (λ (x : Option Block). BodyTakes size span at history r x after) some (takes size span at history so.body) in
     let built = took.closes.1 in
-    stopped_by (Some size) span history r blocks bytes (length blk.bytes) ((cuts (Some size) span history).waiting ++ r ∷ []) stop took.closes.0 (ap (λ (l : List ℕ). length l) built.spelled) kept
+    stopped_by (Some size) span history r blocks bytes blk ((cuts (Some size) span history).waiting ++ r ∷ []) stop took.closes.0 built kept
 
 pub built_next : (size : ℕ) (span : Option ℕ) (at : ℕ) (history : List Rec) (r : Rec) (b after : Body) (blocks bytes : ℕ) (closed : Option Block) (blk : Block) → closed ≡ Some blk → TakesIt b r closed after
     → StandsSo size span at history b blocks bytes → (records : List Rec) × IsBlock blk records
@@ -231,18 +229,18 @@ last_some size span at history b after blocks bytes last blk t some takes notes 
       summary = subst (λ (l : List Piece). SummaryStandsFor t (noted_of at history (ps ++ l))) (sym took.last_block.0) noted;
     }
 
-last_by : (size span : Option ℕ) (history : List Rec) (blocks bytes len : ℕ) (records : List Rec) (stop : Stop) → last_piece (cuts size span history).waiting ≡ block records ∷ [] → len ≡ length (block_bytes records)
-    → HoldsOrStops {X = Unit} blocks bytes (blocks + 1) (bytes + len) (Err stop) → LastStopped size span history blocks bytes stop
-last_by size span history blocks bytes len records (stops.Fault faults) last is kept = absurd kept
-last_by size span history blocks bytes len records (stops.Limit b n) last is kept = (block records, last, kept.0, kept.1, passes_by blocks bytes len records is kept.2)
-last_by size span history blocks bytes len records stops.Memory last is kept = tt
+last_by : (size span : Option ℕ) (history : List Rec) (blocks bytes : ℕ) (blk : Block) (records : List Rec) (stop : Stop) → last_piece (cuts size span history).waiting ≡ block records ∷ [] → IsBlock blk records
+    → HoldsOrStops {X = Unit} blocks bytes (BlockFits blocks bytes blk) (Err stop) → LastStopped size span history blocks bytes stop
+last_by size span history blocks bytes blk records (stops.Fault faults) last is kept = absurd kept
+last_by size span history blocks bytes blk records (stops.Limit b n) last is kept = (block records, last, kept.0, kept.1, λ fits. kept.2 (block_of_piece blocks bytes blk records is fits))
+last_by size span history blocks bytes blk records stops.Memory last is kept = tt
 
 pub last_err : (size : ℕ) (span : Option ℕ) (at : ℕ) (history : List Rec) (b after : Body) (blocks bytes : ℕ) (last : Option Block) (blk : Block) (stop : Stop) → last ≡ Some blk → TakesLastOf b last after
-    → HoldsOrStops {X = Unit} blocks bytes (blocks + 1) (bytes + length blk.bytes) (Err stop) → StandsSo size span at history b blocks bytes → LastStopped (Some size) span history blocks bytes stop
+    → HoldsOrStops {X = Unit} blocks bytes (BlockFits blocks bytes blk) (Err stop) → StandsSo size span at history b blocks bytes → LastStopped (Some size) span history blocks bytes stop
 last_err size span at history b after blocks bytes last blk stop some takes kept so =
     let took : TakesLast size span at history (Some blk) after = subst (λ (x : Option Block). TakesLast size span at history x after) some (takes size span at history so.body) in
     let built = took.last_block.1 in
-    last_by (Some size) span history blocks bytes (length blk.bytes) (cuts (Some size) span history).waiting stop took.last_block.0 (ap (λ (l : List ℕ). length l) built.spelled) kept
+    last_by (Some size) span history blocks bytes blk (cuts (Some size) span history).waiting stop took.last_block.0 built kept
 
 pub built_last : (size : ℕ) (span : Option ℕ) (at : ℕ) (history : List Rec) (b after : Body) (blocks bytes : ℕ) (last : Option Block) (blk : Block) → last ≡ Some blk → TakesLastOf b last after
     → StandsSo size span at history b blocks bytes → (records : List Rec) × IsBlock blk records
@@ -252,7 +250,7 @@ built_last size span at history b after blocks bytes last blk some takes so =
 
 -- ---- faults
 
-pub no_fault : (blocks bytes with_blocks with_bytes : ℕ) (stop : Stop) → HoldsOrStops {X = Unit} blocks bytes with_blocks with_bytes (Err stop) → IsNoFault stop
-no_fault blocks bytes with_blocks with_bytes (stops.Fault faults) kept = absurd kept
-no_fault blocks bytes with_blocks with_bytes (stops.Limit b n) kept = tt
-no_fault blocks bytes with_blocks with_bytes stops.Memory kept = tt
+pub no_fault : (blocks bytes : ℕ) (holds : Type 0) (stop : Stop) → HoldsOrStops {X = Unit} blocks bytes holds (Err stop) → IsNoFault stop
+no_fault blocks bytes holds (stops.Fault faults) kept = absurd kept
+no_fault blocks bytes holds (stops.Limit b n) kept = tt
+no_fault blocks bytes holds stops.Memory kept = tt

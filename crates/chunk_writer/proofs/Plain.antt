@@ -23,7 +23,7 @@ use Rattle.live_entry.specs.Entries.{SeenExtents}
 use Rattle.chunk_writer.specs.declared.body.Body.{Body}
 use Rattle.chunk_writer.specs.declared.phase.Phase.TheVariants as phases
 use Rattle.chunk_writer.specs.declared.next.Next.TheVariants as nexts
-use Rattle.chunk_writer.specs.Limits.{Holds}
+use Rattle.chunk_writer.specs.Limits.{Holds, ContentsFit}
 use Rattle.chunk_writer.specs.Bodies.{BodyFor}
 use Rattle.chunk_writer.specs.Planning.{Planning}
 use Rattle.chunk_writer.specs.Plans.{Plans, counted_on, StoppedBefore}
@@ -87,6 +87,7 @@ whole_plans options history records p len is long plans =
       body = subst (λ (s : Option ℕ). BodyFor s options.span at (history ++ records) p.body) (sym none) (subst (λ (x : Option Body). BodyFor None options.span at (history ++ records) x) (sym is) tt);
       blocks = plans.blocks ∙ ap (λ (l : List (List Rec)). length l) (sym (same_blocks options history records none));
       bytes = omega (arith, all, old, long, length-append (written_of options history) (history_bytes records));
+      contents = subst (λ (l : List (List Rec)). ContentsFit options.profile l) (sym (same_blocks options history records none)) plans.contents;
     }
 
 pub whole_put : (options : FileOptions) (opened held now : Option (List ℕ)) (history records : List Rec) (p after : Planning) (len : ℕ) → p.body ≡ None → p.phase ≡ phases.Going → after ≡ counted_on p len → len ≡ length (history_bytes records)

@@ -20,11 +20,13 @@ use Rattle.chunk_build.specs.Chunker as chunker
 use Rattle.chunk_writer.specs.declared.body.Body.{Body}
 use Rattle.chunk_writer.specs.declared.phase.Phase.{Phase}
 use Rattle.chunk_writer.specs.declared.next.Next.TheVariants as nexts
-use Rattle.chunk_writer.specs.Limits.{Holds}
+use Rattle.mcap_model.specs.Places.{Each}
+use Rattle.chunk_writer.specs.Limits.{Holds, HeaderFits, ChunkFits, ContentsFit}
 use Rattle.chunk_writer.specs.LimitSteps.{LimitKept, HoldsOrStops}
 use Rattle.chunk_writer.specs.Bodies.{noted_of, IsBody, StandsSo, ClosesPiece, ClosesBlock, NextBlock, NextAside, LastBlock, BodyFor, SummaryFor}
 use Rattle.chunk_writer.specs.Planning.{Planning}
-use Rattle.chunk_writer.specs.Plans.{Plans, IsPlanned, PutStopped, IsLastBlock, LastStopped}
+use Rattle.chunk_writer.specs.Plans.{Plans, HoldsBlock, IsPlanned, PutStopped, IsLastBlock, LastStopped}
+use Rattle.chunk_writer.proofs.Contents.{contents_same, contents_more, piece_of_block, no_chunks}
 use Rattle.chunk_writer.proofs.Cuts.{cuts_more, closes_aside, bytes_behind, none_waits}
 use Rattle.chunk_writer.proofs.Noting.{blocks_more}
 
@@ -34,11 +36,12 @@ pub body_new : (size span : Option ℕ) (at n : ℕ) (b : Body) → size ≡ Som
 body_new size span at n b is body = subst (λ (s : Option ℕ). BodyFor s span at [] (Some b)) (sym is) (body at)
 
 pub plans_new : (options : FileOptions) (body : Option Body) (bytes : ℕ) (phase : Phase) → ((k : ℕ) → BodyFor options.chunk options.span k [] body) → bytes ≡ length (front options.profile)
-    → Plans options [] (record { body = body; blocks = 0; bytes = bytes; phase = phase })
-plans_new options body bytes phase stands is = record {
+    → HeaderFits options.profile → Plans options [] (record { body = body; blocks = 0; bytes = bytes; phase = phase })
+plans_new options body bytes phase stands is fits = record {
   body = stands (length (front options.profile));
   blocks = refl;
   bytes = is ∙ ap (λ (l : List ℕ). length l) (sym (append-nil (front options.profile)));
+  contents = record { header = fits; chunks = no_chunks };
 }
 
 -- a plan with a body has a chunk size
@@ -84,11 +87,16 @@ plans_waits options history r p b after closed phase none is plans next =
         body = body_after options.chunk options.span (length (front options.profile)) size (history ++ r ∷ []) after chunk nb.body;
         blocks = plans.blocks ∙ ap (λ (l : List Piece). length (blocks_in l)) (sym same);
         bytes = plans.bytes ∙ ap (λ (l : List Piece). length (front options.profile ++ pieces_bytes l)) (sym same);
+        contents = contents_same options.profile _ _ (sym same) plans.contents;
       };
       next_is = same;
     }
 
--- the numbers with a piece more
+-- the numbers and the contents with a piece more
+contents_behind : (options : FileOptions) (history : List Rec) (r : Rec) (piece : Piece) → ClosesPiece options.chunk options.span history r piece → Each ChunkFits (blocks_in (piece ∷ [])) → ContentsFit options.profile (blocks_in (cuts options.chunk options.span history).pieces)
+    → ContentsFit options.profile (blocks_in (cuts options.chunk options.span (history ++ r ∷ [])).pieces)
+contents_behind options history r piece closes one fits = contents_same options.profile _ _ (sym closes) (contents_more options.profile (cuts options.chunk options.span history).pieces piece fits one)
+
 more_blocks : (chunk span : Option ℕ) (history : List Rec) (r : Rec) (piece : Piece) (blocks : ℕ) → ClosesPiece chunk span history r piece → blocks ≡ length (blocks_in (cuts chunk span history).pieces)
     → blocks + length (blocks_in (piece ∷ [])) ≡ length (blocks_in (cuts chunk span (history ++ r ∷ [])).pieces)
 more_blocks chunk span history r piece blocks closes is =
@@ -101,10 +109,10 @@ more_bytes start ps qs piece bytes len closes is size =
     let last = ap (λ (l : List ℕ). length (start ++ l)) (bytes_behind ps piece) in
     omega (arith, is, size, all, last, length-append start (pieces_bytes ps), length-append start (pieces_bytes ps ++ piece_bytes piece), length-append (pieces_bytes ps) (piece_bytes piece))
 
-pub plans_block : (options : FileOptions) (history : List Rec) (r : Rec) (p : Planning) (b after : Body) (closed : Option Block) (blk : Block) (phase : Phase) (len : ℕ) → closed ≡ Some blk → p.body ≡ Some b → len ≡ length blk.bytes → Plans options history p
+pub plans_block : (options : FileOptions) (history : List Rec) (r : Rec) (p : Planning) (b after : Body) (closed : Option Block) (blk : Block) (phase : Phase) (len : ℕ) → closed ≡ Some blk → p.body ≡ Some b → len ≡ length blk.bytes → HoldsBlock p.blocks p.bytes closed → Plans options history p
     → ((size : ℕ) (span : Option ℕ) (at : ℕ) (h : List Rec) → StandsSo size span at h b p.blocks p.bytes → NextBlock size span at h r closed after)
     → IsPlanned options history r (nexts.Block blk) (record { body = Some after; blocks = p.blocks + 1; bytes = p.bytes + len; phase = phase })
-plans_block options history r p b after closed blk phase len some is size_is plans next =
+plans_block options history r p b after closed blk phase len some is size_is room plans next =
     let (size, chunk, so) = has_size options history p b is plans in
     let nb : NextBlock size options.span (length (front options.profile)) history r (Some blk) after =
     subst (λ (x : Option Block). NextBlock size options.span (length (front options.profile)) history r x after) some (next size options.span (length (front options.profile)) history so) in
@@ -116,6 +124,7 @@ plans_block options history r p b after closed blk phase len some is size_is pla
         blocks = more_blocks options.chunk options.span history r (block records) p.blocks closes plans.blocks;
         bytes = more_bytes (front options.profile) (cuts options.chunk options.span history).pieces (cuts options.chunk options.span (history ++ r ∷ [])).pieces (block records) p.bytes len closes plans.bytes
             (size_is ∙ ap (λ (l : List ℕ). length l) built.spelled);
+        contents = contents_behind options history r (block records) closes (piece_of_block p.blocks p.bytes blk records built (subst (λ (x : Option Block). HoldsBlock p.blocks p.bytes x) some room)).chunks plans.contents;
       };
       next_is = (records, closes, built);
     }
@@ -138,6 +147,7 @@ plans_record options history r p piece phase len is size_is spelled plans =
         blocks = omega (arith, more_blocks options.chunk options.span history r (alone r) p.blocks closes plans.blocks);
         bytes = more_bytes (front options.profile) (cuts options.chunk options.span history).pieces (cuts options.chunk options.span (history ++ r ∷ [])).pieces (alone r) p.bytes len closes plans.bytes
             (size_is ∙ ap (λ (l : List ℕ). length l) spelled);
+        contents = contents_behind options history r (alone r) closes no_chunks plans.contents;
       };
       next_is = closes;
     }
@@ -156,12 +166,13 @@ plans_aside options history r p b after piece phase len is size_is spelled plans
         blocks = omega (arith, more_blocks options.chunk options.span history r (alone r) p.blocks closes plans.blocks);
         bytes = more_bytes (front options.profile) (cuts options.chunk options.span history).pieces (cuts options.chunk options.span (history ++ r ∷ [])).pieces (alone r) p.bytes len closes plans.bytes
             (size_is ∙ ap (λ (l : List ℕ). length l) spelled);
+        contents = contents_behind options history r (alone r) closes no_chunks plans.contents;
       };
       next_is = closes;
     }
 
 aside_by : (size : ℕ) (span : Option ℕ) (history : List Rec) (r : Rec) (blocks bytes : ℕ) (piece : List ℕ) (stop : Stop) → is_inner r ≡ false → piece ≡ rec_bytes r
-    → HoldsOrStops {X = Unit} blocks bytes (blocks + 0) (bytes + length piece) (Err stop) → PutStopped (Some size) span history r blocks bytes stop
+    → HoldsOrStops {X = Unit} blocks bytes (Holds (blocks + 0) (bytes + length piece)) (Err stop) → PutStopped (Some size) span history r blocks bytes stop
 aside_by size span history r blocks bytes piece (stops.Fault faults) extra spelled kept = absurd kept
 aside_by size span history r blocks bytes piece (stops.Limit b n) extra spelled kept =
     let long = ap (λ (l : List ℕ). length l) spelled in (
@@ -169,13 +180,13 @@ aside_by size span history r blocks bytes piece (stops.Limit b n) extra spelled 
       ap (λ (c : Cuts). c.pieces) (closes_aside size span history r extra),
       kept.0,
       kept.1,
-      λ holds. let few = holds.few in let small = holds.small in kept.2 (record { few = omega (arith, few); small = omega (arith, small, long) }),
+      λ fits. let few = fits.holds.few in let small = fits.holds.small in kept.2 (record { few = omega (arith, few); small = omega (arith, small, long) }),
     )
 aside_by size span history r blocks bytes piece stops.Memory extra spelled kept = tt
 
 -- it is refused
 pub stopped_aside : (options : FileOptions) (history : List Rec) (r : Rec) (p : Planning) (b : Body) (piece : List ℕ) (stop : Stop) → p.body ≡ Some b → is_inner r ≡ false → piece ≡ rec_bytes r → Plans options history p
-    → HoldsOrStops {X = Unit} p.blocks p.bytes (p.blocks + 0) (p.bytes + length piece) (Err stop) → PutStopped options.chunk options.span history r p.blocks p.bytes stop
+    → HoldsOrStops {X = Unit} p.blocks p.bytes (Holds (p.blocks + 0) (p.bytes + length piece)) (Err stop) → PutStopped options.chunk options.span history r p.blocks p.bytes stop
 stopped_aside options history r p b piece stop is extra spelled plans kept =
     let (size, chunk, so) = has_size options history p b is plans in
     subst (λ (s : Option ℕ). PutStopped s options.span history r p.blocks p.bytes stop) (sym chunk) (aside_by size options.span history r p.blocks p.bytes piece stop extra spelled kept)
@@ -190,7 +201,7 @@ pub stopped_record : (options : FileOptions) (history : List Rec) (r : Rec) (p :
     → LimitKept p.blocks p.bytes (p.blocks + 0) (p.bytes + length piece) (Err stop) → PutStopped options.chunk options.span history r p.blocks p.bytes stop
 stopped_record options history r p piece stop is spelled plans (limit, passes) =
     subst (λ (s : Stop). PutStopped options.chunk options.span history r p.blocks p.bytes s) (sym limit)
-    (alone r, closes_record options history r p is plans, refl, refl, subst (λ (l : List ℕ). Holds (p.blocks + 0) (p.bytes + length l) → ⊥) spelled passes)
+    (alone r, closes_record options history r p is plans, refl, refl, λ fits. subst (λ (l : List ℕ). Holds (p.blocks + 0) (p.bytes + length l) → ⊥) spelled passes fits.holds)
 
 -- ---- the end
 
@@ -211,6 +222,7 @@ is_last_none options history p body phase none plans stands =
         body = stands;
         blocks = plans.blocks ∙ ap (λ (l : List Piece). length (blocks_in l)) (sym same);
         bytes = plans.bytes ∙ ap (λ (l : List Piece). length (front options.profile ++ pieces_bytes l)) (sym same);
+        contents = contents_same options.profile _ _ (sym same) plans.contents;
       };
       last_block = none;
     }
@@ -234,10 +246,10 @@ ended_waits options history p b after last phase none is plans ends =
     is_last_none options history p (Some after) phase (subst (λ (s : Option ℕ). last_piece (cuts s options.span history).waiting ≡ []) (sym chunk) lb.last_block) plans
     (subst (λ (s : Option ℕ). SummaryFor s (noted_of at history (pieces_of s options.span history)) (Some after)) (sym chunk) lb.summary)
 
-pub ended_block : (options : FileOptions) (history : List Rec) (p : Planning) (b after : Body) (last : Option Block) (blk : Block) (phase : Phase) (len : ℕ) → last ≡ Some blk → p.body ≡ Some b → len ≡ length blk.bytes → Plans options history p
+pub ended_block : (options : FileOptions) (history : List Rec) (p : Planning) (b after : Body) (last : Option Block) (blk : Block) (phase : Phase) (len : ℕ) → last ≡ Some blk → p.body ≡ Some b → len ≡ length blk.bytes → HoldsBlock p.blocks p.bytes last → Plans options history p
     → ((size : ℕ) (span : Option ℕ) (at : ℕ) (h : List Rec) → StandsSo size span at h b p.blocks p.bytes → LastBlock size span at h last after)
     → IsLastBlock options history (Some blk) (record { body = Some after; blocks = p.blocks + 1; bytes = p.bytes + len; phase = phase })
-ended_block options history p b after last blk phase len some is size_is plans ends =
+ended_block options history p b after last blk phase len some is size_is room plans ends =
     let (size, chunk, so) = has_size options history p b is plans in
     let at = length (front options.profile) in
     let lb : LastBlock size options.span at history (Some blk) after = subst (λ (x : Option Block). LastBlock size options.span at history x after) some (ends size options.span at history so) in
@@ -250,6 +262,9 @@ ended_block options history p b after last blk phase len some is size_is plans e
         body = subst (λ (s : Option ℕ). SummaryFor s (noted_of at history (pieces_of s options.span history)) (Some after)) (sym chunk) lb.summary;
         blocks = ap (λ (n : ℕ). n + 1) plans.blocks ∙ sym (blocks_more (cuts options.chunk options.span history).pieces (block records)) ∙ ap (λ (l : List Piece). length (blocks_in l)) (sym same);
         bytes = more_bytes (front options.profile) (cuts options.chunk options.span history).pieces (pieces_of options.chunk options.span history) (block records) p.bytes len same plans.bytes (size_is ∙ ap (λ (l : List ℕ). length l) built.spelled);
+        contents = contents_same options.profile _ _ (sym same)
+            (contents_more options.profile (cuts options.chunk options.span history).pieces (block records) plans.contents
+            (piece_of_block p.blocks p.bytes blk records built (subst (λ (x : Option Block). HoldsBlock p.blocks p.bytes x) some room)).chunks);
       };
       last_block = lasts;
     }

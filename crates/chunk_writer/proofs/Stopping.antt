@@ -19,14 +19,14 @@ use Rattle.mcap_model.specs.Blocks.{Piece, cuts, last_piece, pieces_of, piece_by
 use Rattle.mcap_model.specs.File.{front, section}
 use Rattle.mcap_model.specs.Histories.{written_of}
 use Rattle.mcap_model.specs.Pieces.{joined, back_of, file_pieces, pieces_before}
-use Rattle.chunk_writer.specs.Limits.{Holds, StopWhy}
-use Rattle.chunk_writer.specs.LimitSteps.{IsNoFault}
+use Rattle.chunk_writer.specs.Limits.{Holds, HeaderFits, ContentsFit, FileHolds, StopWhy}
+use Rattle.chunk_writer.specs.LimitSteps.{HoldsOrStops, IsNoFault}
 use Rattle.chunk_writer.specs.Bodies.{ClosesPiece}
-use Rattle.chunk_writer.specs.Plans.{PutStopped, LastStopped, ExtraStopped, BackStopped}
-use Rattle.chunk_writer.specs.Stops.{numbers, blocks_among, StopsAt, Cause}
+use Rattle.chunk_writer.proofs.Contents.{holds_piece, fits_piece, no_chunks}
+use Rattle.chunk_writer.specs.Plans.{PieceFits, PutStopped, LastStopped, ExtraStopped, BackStopped}
+use Rattle.chunk_writer.specs.Stops.{numbers, first_blocks, blocks_among, StopsAt, Cause}
 use Rattle.chunk_writer.specs.StopSteps.{Appends, Added, refusal}
 use Rattle.chunk_writer.proofs.Cuts.{pieces_grow, closed_grow}
-use Rattle.chunk_writer.proofs.Noting.{blocks_more}
 use Rattle.chunk_writer.proofs.Planned.{whole_some}
 
 -- ---- refused appends
@@ -59,14 +59,13 @@ left_part : (held now : Option (List ℕ)) (next : List ℕ) (faults : ℕ) → 
 left_part held now next faults part before told = let some = part before told in (some.0, some.3, λ unfailed. absurd (unfailed faults refl))
 
 -- a refused append of a piece for which there was room
-abbrev Refused : Option (List ℕ) → Option (List ℕ) → List ℕ → Stop → ℕ → ℕ → ℕ → ℕ → Type 0
-Refused held now next stop blocks bytes with_blocks with_bytes = Left held now next stop × StopWhy stop blocks bytes with_blocks with_bytes
+abbrev Refused : Option (List ℕ) → Option (List ℕ) → List ℕ → Stop → ℕ → ℕ → Type 0 → Type 0
+Refused held now next stop blocks bytes room = Left held now next stop × StopWhy stop blocks bytes room
 
-refused_by : (held now : Option (List ℕ)) (next : List ℕ) (stop : Stop) (blocks bytes with_blocks with_bytes : ℕ) → Added held now next (Err stop) → Holds with_blocks with_bytes
-    → Refused held now next stop blocks bytes with_blocks with_bytes
-refused_by held now next (stops.Fault faults) blocks bytes with_blocks with_bytes added holds = (left_part held now next faults added, holds)
-refused_by held now next (stops.Limit b n) blocks bytes with_blocks with_bytes added holds = absurd added
-refused_by held now next stops.Memory blocks bytes with_blocks with_bytes added holds = (left_none held now next stops.Memory added, tt)
+refused_by : (held now : Option (List ℕ)) (next : List ℕ) (stop : Stop) (blocks bytes : ℕ) (room : Type 0) → Added held now next (Err stop) → room → Refused held now next stop blocks bytes room
+refused_by held now next (stops.Fault faults) blocks bytes room added holds = (left_part held now next faults added, holds)
+refused_by held now next (stops.Limit b n) blocks bytes room added holds = absurd added
+refused_by held now next stops.Memory blocks bytes room added holds = (left_none held now next stops.Memory added, tt)
 
 -- ---- a piece behind others
 
@@ -102,13 +101,9 @@ take_first [] [] = refl
 take_first [] (p ∷ rest) = refl
 take_first (q ∷ ps) rest = ap (λ (l : List Piece). q ∷ l) (take_first ps rest)
 
-more_first : (ps rest : List Piece) → length (blocks_in (ps ++ first_of rest)) ≡ length (blocks_in ps) + length (blocks_in (first_of rest))
-more_first ps [] = ap (λ (l : List Piece). length (blocks_in l)) (append-nil ps) ∙ omega arith
-more_first ps (p ∷ rest) = blocks_more ps p
-
 pub stops_at : (options : FileOptions) (extras : List Top) (history : List Rec) (opened held now : Option (List ℕ)) (ps rest : List Piece) (stop : Stop) (blocks bytes : ℕ) → pieces_of options.chunk options.span history ≡ ps ++ rest
     → Adds opened held (front options.profile ++ pieces_bytes ps) → Left held now (next_of rest (tail_of options extras history)) stop → blocks ≡ length (blocks_in ps) → bytes ≡ length (front options.profile ++ pieces_bytes ps)
-    → StopWhy stop blocks bytes (blocks + length (blocks_in (first_of rest))) (bytes + length (next_of rest (tail_of options extras history))) → StopsAt options extras history opened now stop (numbers blocks bytes)
+    → StopWhy stop blocks bytes (FileHolds options.profile (blocks_in (ps ++ first_of rest)) (bytes + length (next_of rest (tail_of options extras history)))) → StopsAt options extras history opened now stop (numbers blocks bytes)
 stops_at options extras history opened held now ps rest stop blocks bytes is adds left many long why =
     let back = back_of options extras history in
     let es = map top_bytes extras in
@@ -125,18 +120,17 @@ stops_at options extras history opened held now ps rest stop blocks bytes is add
     ap (λ (l : List Piece). length (blocks_in (take (place - 1) l))) is
     ∙ ap (λ (k : ℕ). length (blocks_in (take k (ps ++ rest)))) (let e : place - 1 ≡ length ps = omega arith in e)
     ∙ ap (λ (l : List Piece). length (blocks_in l)) (take-append_seam ps rest) in
-    let with_it : blocks_among options history (place + 1) ≡ blocks + length (blocks_in (first_of rest)) =
-    ap (λ (l : List Piece). length (blocks_in (take (place + 1 - 1) l))) is
-    ∙ ap (λ (k : ℕ). length (blocks_in (take k (ps ++ rest)))) (let e : place + 1 - 1 ≡ suc (length ps) = omega arith in e)
-    ∙ ap (λ (l : List Piece). length (blocks_in l)) (take_first ps rest)
-    ∙ more_first ps rest ∙ ap (λ (n : ℕ). n + length (blocks_in (first_of rest))) (sym many) in
+    let with_it : first_blocks options history (place + 1) ≡ blocks_in (ps ++ first_of rest) =
+    ap (λ (l : List Piece). blocks_in (take (place + 1 - 1) l)) is
+    ∙ ap (λ (k : ℕ). blocks_in (take k (ps ++ rest))) (let e : place + 1 - 1 ≡ suc (length ps) = omega arith in e)
+    ∙ ap (λ (l : List Piece). blocks_in l) (take_first ps rest) in
     record {
       place = place;
       next = next;
       at = at;
       blocks_are = many ∙ sym among;
       bytes_are = size;
-      why = subst (λ (n : ℕ). StopWhy stop blocks bytes n (bytes + length next)) (sym with_it) why;
+      why = subst (λ (l : List (List Rec)). StopWhy stop blocks bytes (FileHolds options.profile l (bytes + length next))) (sym with_it) why;
       took = λ first told.
           let whole = start ++ pieces_bytes ps in
           let (some, holds, unfailed) = left (first ++ whole) (adds first told) in (
@@ -157,11 +151,12 @@ stops_at options extras history opened held now ps rest stop blocks bytes is add
 
 abbrev pub Holding : FileOptions → Option (List ℕ) → Option (List ℕ) → List Rec → ℕ → ℕ → Type 0
 Holding options opened held history blocks bytes = Adds opened held (written_of options history) × (blocks ≡ length (blocks_in (cuts options.chunk options.span history).pieces)) × (bytes ≡ length (written_of options history))
+    × ContentsFit options.profile (blocks_in (cuts options.chunk options.span history).pieces)
 
 -- memory lacks behind the pieces that are sure
 pub put_lacks : (options : FileOptions) (extras : List Top) (opened held : Option (List ℕ)) (history : List Rec) (blocks bytes : ℕ) (behind : List Rec) → Holding options opened held history blocks bytes
     → StopsAt options extras (history ++ behind) opened held stops.Memory (numbers blocks bytes)
-put_lacks options extras opened held history blocks bytes behind (adds, many, long) =
+put_lacks options extras opened held history blocks bytes behind (adds, many, long, fit) =
     let (rest, is) = pieces_grow options.chunk options.span history behind in
     stops_at options extras (history ++ behind) opened held held (cuts options.chunk options.span history).pieces rest stops.Memory blocks bytes is adds
     (left_none held held (next_of rest (tail_of options extras (history ++ behind))) stops.Memory refl) many long tt
@@ -169,22 +164,23 @@ put_lacks options extras opened held history blocks bytes behind (adds, many, lo
 pub put_refused : (options : FileOptions) (extras : List Top) (opened held : Option (List ℕ)) (history : List Rec) (r : Rec) (stop : Stop) (blocks bytes : ℕ) (behind : List Rec) → Holding options opened held history blocks bytes
     → PutStopped options.chunk options.span history r blocks bytes stop → StopsAt options extras ((history ++ r ∷ []) ++ behind) opened held stop (numbers blocks bytes)
 put_refused options extras opened held history r (stops.Fault faults) blocks bytes behind stands stopped = absurd stopped
-put_refused options extras opened held history r (stops.Limit b n) blocks bytes behind (adds, many, long) (piece, closes, same_b, same_n, passes) =
+put_refused options extras opened held history r (stops.Limit b n) blocks bytes behind (adds, many, long, fit) (piece, closes, same_b, same_n, passes) =
     let (rest, is) = closed_grow options.chunk options.span history r piece behind closes in
     let all = (history ++ r ∷ []) ++ behind in
-    stops_at options extras all opened held held (cuts options.chunk options.span history).pieces (piece ∷ rest) (stops.Limit b n) blocks bytes is adds (left_none held held (piece_bytes piece) (stops.Limit b n) refl) many long (same_b, same_n, passes)
-put_refused options extras opened held history r stops.Memory blocks bytes behind (adds, many, long) stopped =
+    stops_at options extras all opened held held (cuts options.chunk options.span history).pieces (piece ∷ rest) (stops.Limit b n) blocks bytes is adds (left_none held held (piece_bytes piece) (stops.Limit b n) refl) many long
+    (same_b, same_n, λ holds. passes (fits_piece options.profile (cuts options.chunk options.span history).pieces piece blocks bytes many holds))
+put_refused options extras opened held history r stops.Memory blocks bytes behind (adds, many, long, fit) stopped =
     let (rest, is) = pieces_grow options.chunk options.span history (r ∷ behind) in
     let same : history ++ r ∷ behind ≡ (history ++ r ∷ []) ++ behind = sym (append_assoc history (r ∷ []) behind) in
     subst (λ (l : List Rec). StopsAt options extras l opened held stops.Memory (numbers blocks bytes)) same
     (stops_at options extras (history ++ r ∷ behind) opened held held (cuts options.chunk options.span history).pieces rest stops.Memory blocks bytes is adds (left_none held held (next_of rest (tail_of options extras (history ++ r ∷ behind))) stops.Memory refl) many long tt)
 
 pub append_refused : (options : FileOptions) (extras : List Top) (opened held now : Option (List ℕ)) (history : List Rec) (r : Rec) (piece : Piece) (stop : Stop) (blocks bytes : ℕ) (behind : List Rec) → Holding options opened held history blocks bytes
-    → ClosesPiece options.chunk options.span history r piece → Holds (blocks + length (blocks_in (piece ∷ []))) (bytes + length (piece_bytes piece)) → Added held now (piece_bytes piece) (Err stop)
+    → ClosesPiece options.chunk options.span history r piece → PieceFits blocks bytes piece → Added held now (piece_bytes piece) (Err stop)
     → StopsAt options extras ((history ++ r ∷ []) ++ behind) opened now stop (numbers blocks bytes)
-append_refused options extras opened held now history r piece stop blocks bytes behind (adds, many, long) closes holds added =
+append_refused options extras opened held now history r piece stop blocks bytes behind (adds, many, long, fit) closes holds added =
     let (rest, is) = closed_grow options.chunk options.span history r piece behind closes in
-    let (left, why) = refused_by held now (piece_bytes piece) stop blocks bytes _ _ added holds in
+    let (left, why) = refused_by held now (piece_bytes piece) stop blocks bytes _ added (holds_piece options.profile (cuts options.chunk options.span history).pieces piece blocks bytes many fit holds) in
     stops_at options extras ((history ++ r ∷ []) ++ behind) opened held now (cuts options.chunk options.span history).pieces (piece ∷ rest) stop blocks bytes is adds left many long why
 
 -- ---- where the end was refused
@@ -192,24 +188,25 @@ append_refused options extras opened held now history r piece stop blocks bytes 
 pub last_refused : (options : FileOptions) (extras : List Top) (opened held : Option (List ℕ)) (history : List Rec) (stop : Stop) (blocks bytes : ℕ) → Holding options opened held history blocks bytes
     → LastStopped options.chunk options.span history blocks bytes stop → StopsAt options extras history opened held stop (numbers blocks bytes)
 last_refused options extras opened held history (stops.Fault faults) blocks bytes stands stopped = absurd stopped
-last_refused options extras opened held history (stops.Limit b n) blocks bytes (adds, many, long) (piece, last, same_b, same_n, passes) =
+last_refused options extras opened held history (stops.Limit b n) blocks bytes (adds, many, long, fit) (piece, last, same_b, same_n, passes) =
     stops_at options extras history opened held held (cuts options.chunk options.span history).pieces (piece ∷ []) (stops.Limit b n) blocks bytes (whole_some options.chunk options.span history piece last) adds
-    (left_none held held (piece_bytes piece) (stops.Limit b n) refl) many long (same_b, same_n, passes)
-last_refused options extras opened held history stops.Memory blocks bytes (adds, many, long) stopped =
+    (left_none held held (piece_bytes piece) (stops.Limit b n) refl) many long (same_b, same_n, λ holds. passes (fits_piece options.profile (cuts options.chunk options.span history).pieces piece blocks bytes many holds))
+last_refused options extras opened held history stops.Memory blocks bytes (adds, many, long, fit) stopped =
     let rest = last_piece (cuts options.chunk options.span history).waiting in
     stops_at options extras history opened held held (cuts options.chunk options.span history).pieces rest stops.Memory blocks bytes refl adds (left_none held held (next_of rest (tail_of options extras history)) stops.Memory refl) many long tt
 
 pub last_append_refused : (options : FileOptions) (extras : List Top) (opened held now : Option (List ℕ)) (history : List Rec) (piece : Piece) (stop : Stop) (blocks bytes : ℕ) → Holding options opened held history blocks bytes
-    → last_piece (cuts options.chunk options.span history).waiting ≡ piece ∷ [] → Holds (blocks + length (blocks_in (piece ∷ []))) (bytes + length (piece_bytes piece)) → Added held now (piece_bytes piece) (Err stop)
+    → last_piece (cuts options.chunk options.span history).waiting ≡ piece ∷ [] → PieceFits blocks bytes piece → Added held now (piece_bytes piece) (Err stop)
     → StopsAt options extras history opened now stop (numbers blocks bytes)
-last_append_refused options extras opened held now history piece stop blocks bytes (adds, many, long) last holds added =
-    let (left, why) = refused_by held now (piece_bytes piece) stop blocks bytes _ _ added holds in
+last_append_refused options extras opened held now history piece stop blocks bytes (adds, many, long, fit) last holds added =
+    let (left, why) = refused_by held now (piece_bytes piece) stop blocks bytes _ added (holds_piece options.profile (cuts options.chunk options.span history).pieces piece blocks bytes many fit holds) in
     stops_at options extras history opened held now (cuts options.chunk options.span history).pieces (piece ∷ []) stop blocks bytes (whole_some options.chunk options.span history piece last) adds left many long why
 
 -- all pieces and the first extras
 abbrev pub Wholly : FileOptions → List Top → Option (List ℕ) → Option (List ℕ) → List Rec → ℕ → ℕ → Type 0
 Wholly options extras opened held history blocks bytes = Adds opened held (section options extras history)
     × (blocks ≡ length (blocks_in (pieces_of options.chunk options.span history))) × (bytes ≡ length (section options extras history))
+    × ContentsFit options.profile (blocks_in (pieces_of options.chunk options.span history))
 
 take_past : (ps : List Piece) (es : List Top) (k : ℕ) → take (length (map piece_bytes ps ++ map top_bytes es) + k) ps ≡ ps
 take_past ps es k = take_all (length (map piece_bytes ps ++ map top_bytes es) + k) ps (let size : length (map piece_bytes ps) ≡ length ps = length-map ps piece_bytes in omega (arith, size, length-append (map piece_bytes ps) (map top_bytes es)))
@@ -217,8 +214,8 @@ take_past ps es k = take_all (length (map piece_bytes ps ++ map top_bytes es) + 
 -- the writer stopped behind the first extras, where that stands next
 stops_past : (options : FileOptions) (done extras : List Top) (opened held now : Option (List ℕ)) (history : List Rec) (next : List ℕ) (behind : List (List ℕ)) (stop : Stop) (blocks bytes : ℕ)
     → tail_of options extras history ≡ map top_bytes done ++ next ∷ behind → Wholly options done opened held history blocks bytes → Left held now next stop
-    → StopWhy stop blocks bytes (blocks + 0) (bytes + length next) → StopsAt options extras history opened now stop (numbers blocks bytes)
-stops_past options done extras opened held now history next behind stop blocks bytes is (adds, many, long) left why =
+    → StopWhy stop blocks bytes (FileHolds options.profile (blocks_in (pieces_of options.chunk options.span history)) (bytes + length next)) → StopsAt options extras history opened now stop (numbers blocks bytes)
+stops_past options done extras opened held now history next behind stop blocks bytes is (adds, many, long, fit) left why =
     let ps = pieces_of options.chunk options.span history in
     let start = front options.profile in
     let xs = map piece_bytes ps ++ map top_bytes done in
@@ -230,17 +227,16 @@ stops_past options done extras opened held now history next behind stop blocks b
     flat_map-append (λ (piece : List ℕ). piece) (map piece_bytes ps) (map top_bytes done) ∙ ap (λ (l : List ℕ). l ++ joined (map top_bytes done)) (joined_map piece_bytes ps) ∙ ap (λ (l : List ℕ). pieces_bytes ps ++ l) (joined_map top_bytes done) in
     let before : pieces_before (file_pieces options extras history) place ≡ section options done history =
     ap (λ (l : List (List ℕ)). pieces_before l place) fp ∙ ap (λ (l : List (List ℕ)). start ++ joined l) (take-append_seam xs (next ∷ behind)) ∙ ap (λ (l : List ℕ). start ++ l) joins in
-    let among : (k : ℕ) → blocks_among options history (place + k) ≡ length (blocks_in ps) =
-    λ k. ap (λ (n : ℕ). length (blocks_in (take n ps))) (let e : place + k - 1 ≡ length xs + k = omega arith in e) ∙ ap (λ (l : List Piece). length (blocks_in l)) (take_past ps done k) in
-    let here : blocks_among options history place ≡ length (blocks_in ps) = ap (λ (n : ℕ). blocks_among options history n) (let e : place ≡ place + 0 = omega arith in e) ∙ among 0 in
-    let with_it : blocks_among options history (place + 1) ≡ blocks + 0 = among 1 ∙ sym many ∙ (let e : blocks ≡ blocks + 0 = omega arith in e) in
+    let among : (k : ℕ) → first_blocks options history (place + k) ≡ blocks_in ps =
+    λ k. ap (λ (n : ℕ). blocks_in (take n ps)) (let e : place + k - 1 ≡ length xs + k = omega arith in e) ∙ ap (λ (l : List Piece). blocks_in l) (take_past ps done k) in
+    let here : blocks_among options history place ≡ length (blocks_in ps) = ap (λ (n : ℕ). blocks_among options history n) (let e : place ≡ place + 0 = omega arith in e) ∙ ap (λ (l : List (List Rec)). length l) (among 0) in
     record {
       place = place;
       next = next;
       at = at;
       blocks_are = many ∙ sym here;
       bytes_are = long ∙ ap (λ (l : List ℕ). length l) (sym before);
-      why = subst (λ (n : ℕ). StopWhy stop blocks bytes n (bytes + length next)) (sym with_it) why;
+      why = subst (λ (l : List (List Rec)). StopWhy stop blocks bytes (FileHolds options.profile l (bytes + length next))) (sym (among 1)) why;
       took = λ first told.
           let whole = section options done history in
           let (some, holds, unfailed) = left (first ++ whole) (adds first told) in (
@@ -257,16 +253,17 @@ stops_past options done extras opened held now history next behind stop blocks b
           );
     }
 
--- the reasons why a piece behind all blocks isn't appended
-limit_past : (blocks bytes len b n : ℕ) → (b ≡ blocks) × (n ≡ bytes) × (Holds blocks (bytes + len) → ⊥) → StopWhy (stops.Limit b n) blocks bytes (blocks + 0) (bytes + len)
-limit_past blocks bytes len b n (same_b, same_n, passes) = (same_b, same_n, λ holds. let few = holds.few in passes (record { few = omega (arith, few); small = holds.small }))
+-- a file may hold a piece behind all blocks exactly where its bytes are within the limit
+limit_past : (profile : List ℕ) (all : List (List Rec)) (blocks bytes len b n : ℕ) → blocks ≡ length all → (b ≡ blocks) × (n ≡ bytes) × (Holds blocks (bytes + len) → ⊥) → StopWhy (stops.Limit b n) blocks bytes (FileHolds profile all (bytes + len))
+limit_past profile all blocks bytes len b n many (same_b, same_n, passes) = (same_b, same_n, λ file. let few = file.holds.few in passes (record { few = omega (arith, few, many); small = file.holds.small }))
 
 past_refused : (options : FileOptions) (done extras : List Top) (opened held now : Option (List ℕ)) (history : List Rec) (next : List ℕ) (behind : List (List ℕ)) (stop : Stop) (blocks bytes : ℕ)
     → tail_of options extras history ≡ map top_bytes done ++ next ∷ behind → Wholly options done opened held history blocks bytes
     → Holds blocks (bytes + length next) → Added held now next (Err stop) → StopsAt options extras history opened now stop (numbers blocks bytes)
 past_refused options done extras opened held now history next behind stop blocks bytes is wholly holds added =
     let few = holds.few in
-    let (left, why) = refused_by held now next stop blocks bytes (blocks + 0) (bytes + length next) added (record { few = omega (arith, few); small = holds.small }) in
+    let (adds, many, long, fit) = wholly in
+    let (left, why) = refused_by held now next stop blocks bytes _ added (record { holds = record { few = omega (arith, few, many); small = holds.small }; contents = fit }) in
     stops_past options done extras opened held now history next behind stop blocks bytes is wholly left why
 
 -- ---- the back
@@ -276,7 +273,7 @@ pub back_refused : (options : FileOptions) (extras : List Top) (opened held : Op
 back_refused options extras opened held history (stops.Fault faults) blocks bytes wholly stopped = absurd stopped
 back_refused options extras opened held history (stops.Limit b n) blocks bytes wholly stopped =
     let back = back_of options extras history in
-    stops_past options extras extras opened held held history back [] (stops.Limit b n) blocks bytes refl wholly (left_none held held back (stops.Limit b n) refl) (limit_past blocks bytes (length back) b n stopped)
+    stops_past options extras extras opened held held history back [] (stops.Limit b n) blocks bytes refl wholly (left_none held held back (stops.Limit b n) refl) (limit_past options.profile _ blocks bytes (length back) b n wholly.1 stopped)
 back_refused options extras opened held history stops.Memory blocks bytes wholly stopped =
     let back = back_of options extras history in
     stops_past options extras extras opened held held history back [] stops.Memory blocks bytes refl wholly (left_none held held back stops.Memory refl) tt
@@ -300,7 +297,7 @@ pub extra_refused : (options : FileOptions) (done : List Top) (t : Top) (behind 
 extra_refused options done t behind opened held history (stops.Fault faults) blocks bytes wholly stopped = absurd stopped
 extra_refused options done t behind opened held history (stops.Limit b n) blocks bytes wholly stopped =
     stops_past options done (done ++ t ∷ behind) opened held held history (top_bytes t) _ (stops.Limit b n) blocks bytes (tail_split options done t behind history) wholly
-    (left_none held held (top_bytes t) (stops.Limit b n) refl) (limit_past blocks bytes (length (top_bytes t)) b n stopped)
+    (left_none held held (top_bytes t) (stops.Limit b n) refl) (limit_past options.profile _ blocks bytes (length (top_bytes t)) b n wholly.1 stopped)
 extra_refused options done t behind opened held history stops.Memory blocks bytes wholly stopped =
     stops_past options done (done ++ t ∷ behind) opened held held history (top_bytes t) _ stops.Memory blocks bytes (tail_split options done t behind history) wholly (left_none held held (top_bytes t) stops.Memory refl) tt
 
@@ -312,7 +309,7 @@ extra_append_refused options done t behind opened held now history stop blocks b
 -- ---- where the front was refused
 
 at_front : (options : FileOptions) (extras : List Top) (opened now : Option (List ℕ)) (history : List Rec) (stop : Stop) → Left opened now (front options.profile) stop
-    → StopWhy stop 0 0 0 (0 + length (front options.profile)) → StopsAt options extras history opened now stop (numbers 0 0)
+    → StopWhy stop 0 0 (FileHolds options.profile [] (0 + length (front options.profile))) → StopsAt options extras history opened now stop (numbers 0 0)
 at_front options extras opened now history stop left why = record {
   place = 0;
   next = front options.profile;
@@ -325,11 +322,20 @@ at_front options extras opened now history stop left why = record {
       (take some (front options.profile), holds, record { next = front options.profile; at = refl; some = some; split = refl; unfailed = unfailed; size = refl });
 }
 
-pub front_lacks : (options : FileOptions) (extras : List Top) (opened : Option (List ℕ)) (history : List Rec) → StopsAt options extras history opened opened stops.Memory (numbers 0 0)
-front_lacks options extras opened history = at_front options extras opened opened history stops.Memory (left_none opened opened (front options.profile) stops.Memory refl) tt
+-- it isn't appended: its Header would be too long, or memory lacks
+pub front_stopped : (X : Type 0) (options : FileOptions) (extras : List Top) (opened : Option (List ℕ)) (history : List Rec) (stop : Stop) → HoldsOrStops {X = X} 0 0 (HeaderFits options.profile) (Err stop) → StopsAt options extras history opened opened stop (numbers 0 0)
+front_stopped X options extras opened history (stops.Fault faults) stopped = absurd stopped
+front_stopped X options extras opened history (stops.Limit b n) (same_b, same_n, passes) =
+    at_front options extras opened opened history (stops.Limit b n) (left_none opened opened (front options.profile) (stops.Limit b n) refl) (same_b, same_n, λ file. passes file.contents.header)
+front_stopped X options extras opened history stops.Memory stopped = at_front options extras opened opened history stops.Memory (left_none opened opened (front options.profile) stops.Memory refl) tt
 
-pub front_refused : (options : FileOptions) (extras : List Top) (opened now : Option (List ℕ)) (history : List Rec) (stop : Stop) → length (front options.profile) ≤ 1099511627776 → Added opened now (front options.profile) (Err stop)
+pub front_still : (X Y : Type 0) (count : ℕ) (room : Type 0) (stop : Stop) → HoldsOrStops {X = X} 0 0 room (Err stop) → Cause {X = Y} count count (Err stop)
+front_still X Y count room (stops.Fault faults) stopped = absurd stopped
+front_still X Y count room (stops.Limit b n) stopped = refl
+front_still X Y count room stops.Memory stopped = refl
+
+pub front_refused : (options : FileOptions) (extras : List Top) (opened now : Option (List ℕ)) (history : List Rec) (stop : Stop) → length (front options.profile) ≤ 1099511627776 → HeaderFits options.profile → Added opened now (front options.profile) (Err stop)
     → StopsAt options extras history opened now stop (numbers 0 0)
-front_refused options extras opened now history stop small added =
-    let (left, why) = refused_by opened now (front options.profile) stop 0 0 0 (0 + length (front options.profile)) added (record { few = omega arith; small = omega (arith, small) }) in
+front_refused options extras opened now history stop small fits added =
+    let (left, why) = refused_by opened now (front options.profile) stop 0 0 _ added (record { holds = record { few = omega arith; small = omega (arith, small) }; contents = record { header = fits; chunks = no_chunks } }) in
     at_front options extras opened now history stop left why

@@ -25,7 +25,8 @@ use Rattle.chunk_writer.specs.declared.next.Next.TheVariants as nexts
 use Rattle.chunk_writer.specs.Limits.{Holds}
 use Rattle.chunk_writer.specs.Bodies.{ClosesPiece, noted_of, SummaryFor}
 use Rattle.chunk_writer.specs.Planning.{Planning}
-use Rattle.chunk_writer.specs.Plans.{Plans, IsPlanned, IsToAppend, PutStopped, HoldsBlock, HoldsNext, StoppedBefore, IsFilled, IsLastBlock, LastStopped, ExtraStopped, BackStopped}
+use Rattle.chunk_writer.proofs.Contents.{piece_of_block, no_chunks}
+use Rattle.chunk_writer.specs.Plans.{Plans, PieceFits, IsPlanned, IsToAppend, PutStopped, HoldsBlock, HoldsNext, StoppedBefore, IsFilled, IsLastBlock, LastStopped, ExtraStopped, BackStopped}
 use Rattle.chunk_writer.specs.Stops.{numbers, StopsAt, Ends}
 use Rattle.chunk_writer.specs.StopSteps.{StopsBehind, Added}
 use Rattle.chunk_writer.specs.Scribes.{ScribeStands, AreWaiting, IsEntryWith, AddsLast, FillsExtras, GivesEntry, GivesLast}
@@ -53,7 +54,7 @@ same_stop p one other first second = cc
 -- ---- a record was put
 
 pub holding : (options : FileOptions) (opened held : Option (List ℕ)) (history : List Rec) (p : Planning) → p.phase ≡ phases.Going → ScribeStands options opened held history p → Holding options opened held history p.blocks p.bytes
-holding options opened held history p going stands = let (plans, adds) = stands.going going in (adds, plans.blocks, plans.bytes)
+holding options opened held history p going stands = let (plans, adds) = stands.going going in (adds, plans.blocks, plans.bytes, plans.contents)
 
 more_written : (start : List ℕ) (ps qs : List Piece) (piece : Piece) → qs ≡ ps ++ piece ∷ [] → (start ++ pieces_bytes ps) ++ piece_bytes piece ≡ start ++ pieces_bytes qs
 more_written start ps qs piece closes =
@@ -144,8 +145,7 @@ block_refused options opened held now history r p mid after next framed blk stop
     let made = planned options history plans in
     let (records, closes, built) : (records : List Rec) × ClosesPiece options.chunk options.span history r (block records) × IsBlock blk records = subst (λ (n : Next). IsToAppend options.chunk options.span history r n) is made.next_is in
     let piece : Added held now (piece_bytes (block records)) (Err stop) = subst (λ (l : List ℕ). Added held now l (Err stop)) built.spelled added in
-    let holds : Holds (p.blocks + 1) (p.bytes + length blk.bytes) = subst (λ (n : Next). HoldsNext p.blocks p.bytes framed n) is room in
-    let fits : Holds (p.blocks + 1) (p.bytes + length (block_bytes records)) = subst (λ (l : List ℕ). Holds (p.blocks + 1) (p.bytes + length l)) built.spelled holds in
+    let fits = piece_of_block p.blocks p.bytes blk records built (subst (λ (n : Next). HoldsNext p.blocks p.bytes framed n) is room) in
     let stopped : StoppedBefore p.blocks p.bytes stop after = record { phase = before.phase; blocks_are = before.blocks_are ∙ same_b; bytes_are = before.bytes_are ∙ same_n } in
     stands_stopped options opened now (history ++ r ∷ []) after stop p.blocks p.bytes stopped (plans_begun options history p (stands.going going).0)
     (λ extras behind. append_refused options extras opened held now history r (block records) stop p.blocks p.bytes behind (holding options opened held history p going stands) closes fits piece)
@@ -162,7 +162,7 @@ record_refused options opened held now history r p mid after next piece stop blo
     let long = ap (λ (l : List ℕ). length l) spelled in
     let few = holds.few in
     let small = holds.small in
-    let fits : Holds (p.blocks + 0) (p.bytes + length (rec_bytes r)) = record { few = omega (arith, few); small = omega (arith, small, long) } in
+    let fits : PieceFits p.blocks p.bytes (alone r) = record { holds = record { few = omega (arith, few); small = omega (arith, small, long) }; chunks = no_chunks } in
     let stopped : StoppedBefore p.blocks p.bytes stop after = record { phase = before.phase; blocks_are = before.blocks_are ∙ same_b; bytes_are = before.bytes_are ∙ same_n } in
     stands_stopped options opened now (history ++ r ∷ []) after stop p.blocks p.bytes stopped (plans_begun options history p (stands.going going).0)
     (λ extras behind. append_refused options extras opened held now history r (alone r) stop p.blocks p.bytes behind (holding options opened held history p going stands) closes fits left)
@@ -262,8 +262,7 @@ block_last_refused options extras opened held now history p mid after last blk s
     let records = (cuts options.chunk options.span history).waiting in
     let built = made.last_block.1 in
     let piece : Added held now (piece_bytes (block records)) (Err stop) = subst (λ (l : List ℕ). Added held now l (Err stop)) built.spelled added in
-    let holds : Holds (p.blocks + 1) (p.bytes + length blk.bytes) = subst (λ (x : Option Block). HoldsBlock p.blocks p.bytes x) is room in
-    let fits : Holds (p.blocks + 1) (p.bytes + length (block_bytes records)) = subst (λ (l : List ℕ). Holds (p.blocks + 1) (p.bytes + length l)) built.spelled holds in
+    let fits = piece_of_block p.blocks p.bytes blk records built (subst (λ (x : Option Block). HoldsBlock p.blocks p.bytes x) is room) in
     let stopped : StoppedBefore p.blocks p.bytes stop after = record { phase = before.phase; blocks_are = before.blocks_are ∙ same_b; bytes_are = before.bytes_are ∙ same_n } in
     stops_so options extras opened now history after stop p.blocks p.bytes stopped
     (last_append_refused options extras opened held now history (block records) stop p.blocks p.bytes (holding options opened held history p going stands) made.last_block.0 fits piece)
@@ -298,6 +297,7 @@ fills_none options opened now history p lasts =
         body = subst (λ (n : Noted). SummaryFor options.chunk n p.body) (noted_none options history) whole.body;
         blocks = whole.blocks;
         bytes = whole.bytes ∙ ap (λ (l : List ℕ). length l) same;
+        contents = whole.contents;
       };
       adds = subst (λ (l : List ℕ). Adds opened now l) same lasts.adds;
     }
@@ -310,7 +310,7 @@ section_more options extras t history =
     ∙ sym (append_assoc (front options.profile) (ps ++ spelled extras) (top_bytes t))
 
 pub wholly : (options : FileOptions) (extras : List Top) (opened held : Option (List ℕ)) (history : List Rec) (p : Planning) → FillsExtras options extras opened held history p → Wholly options extras opened held history p.blocks p.bytes
-wholly options extras opened held history p fills = (fills.adds, fills.filled.blocks, fills.filled.bytes)
+wholly options extras opened held history p fills = (fills.adds, fills.filled.blocks, fills.filled.bytes, fills.filled.contents)
 
 pub fills_more : (options : FileOptions) (extras : List Top) (t : Top) (opened held now : Option (List ℕ)) (history : List Rec) (p after : Planning) (piece : List ℕ) → piece ≡ top_bytes t → IsFilled options (extras ++ t ∷ []) history after
     → Adds held now piece → FillsExtras options extras opened held history p → FillsExtras options (extras ++ t ∷ []) opened now history after
@@ -361,6 +361,7 @@ back_ends options extras opened held now history p after piece is many long adds
       subst (λ (l : List ℕ). Adds opened now l) all (adds-adds opened held now start piece fills.adds adds),
       many ∙ filled.blocks,
       long ∙ ap (λ (n : ℕ). n + length piece) filled.bytes ∙ sym (length-append start piece) ∙ ap (λ (l : List ℕ). length l) all,
+      filled.contents,
     )
 
 pub back_stopped : (options : FileOptions) (extras : List Top) (opened held : Option (List ℕ)) (history : List Rec) (p after : Planning) (stop : Stop)

@@ -7,6 +7,7 @@ use Rattle.mcap_model.specs.declared.ends.Stop.{Stop}
 use Rattle.mcap_model.specs.declared.ends.Stop.TheVariants as stops
 use Rattle.mcap_model.specs.Built.{IsBlock}
 use Rattle.mcap_model.specs.Blocks.{Piece, block, alone, piece_bytes, cuts, pieces_of, pieces_bytes, last_piece, blocks_in}
+use Rattle.mcap_model.specs.Places.{Each}
 use Rattle.mcap_model.specs.Tops.{Top}
 use Rattle.mcap_model.specs.File.{front, section, noted}
 use Rattle.mcap_model.specs.Histories.{written_of}
@@ -15,7 +16,8 @@ use Rattle.chunk_build.specs.Chunker as chunker
 use Rattle.chunk_writer.specs.declared.phase.Phase.TheVariants as phases
 use Rattle.chunk_writer.specs.declared.next.Next.{Next}
 use Rattle.chunk_writer.specs.declared.next.Next.TheVariants as nexts
-use Rattle.chunk_writer.specs.Limits.{Holds}
+use Rattle.chunk_writer.specs.Limits.{Holds, ChunkFits, ContentsFit}
+use Rattle.chunk_writer.specs.LimitSteps.{BlockFits}
 use Rattle.chunk_writer.specs.Bodies.{noted_of, ClosesPiece, BodyFor, SummaryFor}
 use Rattle.chunk_writer.specs.Planning.{Planning}
 
@@ -26,6 +28,7 @@ pub record Plans (options : FileOptions) (history : List Rec) (p : Planning) : T
   pub body : BodyFor options.chunk options.span (length (front options.profile)) history p.body
   pub blocks : p.blocks ≡ length (blocks_in (cuts options.chunk options.span history).pieces)
   pub bytes : p.bytes ≡ length (written_of options history)
+  pub contents : ContentsFit options.profile (blocks_in (cuts options.chunk options.span history).pieces)
 
 -- the plan, with so many bytes more of records that stand at top level
 abbrev pub counted_on : Planning → ℕ → Planning
@@ -46,27 +49,28 @@ pub record IsPlanned (options : FileOptions) (history : List Rec) (r : Rec) (nex
   pub stands : Plans options (history ++ r ∷ []) after
   pub next_is : IsToAppend options.chunk options.span history r next
 
--- with this piece a file passes what it may hold
-abbrev pub PiecePasses : ℕ → ℕ → Piece → Type 0
-PiecePasses blocks bytes piece =
-    Holds (blocks + length (blocks_in (piece ∷ []))) (bytes + length (piece_bytes piece)) → ⊥
+-- a file may hold a piece more
+pub record PieceFits (blocks bytes : ℕ) (piece : Piece) : Type 0 where
+  pub holds : Holds (blocks + length (blocks_in (piece ∷ []))) (bytes + length (piece_bytes piece))
+  pub chunks : Each ChunkFits (blocks_in (piece ∷ []))
 
 -- why there is none: memory lacks, or the piece that the record makes sure would pass the limit
 abbrev pub PutStopped : Option ℕ → Option ℕ → List Rec → Rec → ℕ → ℕ → Stop → Type 0
 PutStopped size span history r blocks bytes (stops.Fault faults) = ⊥
 PutStopped size span history r blocks bytes (stops.Limit at_blocks at_bytes) = (piece : Piece)
-    × ClosesPiece size span history r piece × (at_blocks ≡ blocks) × (at_bytes ≡ bytes) × PiecePasses blocks bytes piece
+    × ClosesPiece size span history r piece × (at_blocks ≡ blocks) × (at_bytes ≡ bytes)
+    × (PieceFits blocks bytes piece → ⊥)
 PutStopped size span history r blocks bytes stops.Memory = Unit {0}
 
 -- a file may hold a block more, where there is one
 abbrev pub HoldsBlock : ℕ → ℕ → Option Block → Type 0
 HoldsBlock blocks bytes None = Unit {0}
-HoldsBlock blocks bytes (Some b) = Holds (blocks + 1) (bytes + length b.bytes)
+HoldsBlock blocks bytes (Some b) = BlockFits blocks bytes b
 
 -- it may hold what is next, where the record has these bytes
 abbrev pub HoldsNext : ℕ → ℕ → List ℕ → Next → Type 0
 HoldsNext blocks bytes framed nexts.Waits = Unit {0}
-HoldsNext blocks bytes framed (nexts.Block b) = Holds (blocks + 1) (bytes + length b.bytes)
+HoldsNext blocks bytes framed (nexts.Block b) = BlockFits blocks bytes b
 HoldsNext blocks bytes framed nexts.Record = Holds blocks (bytes + length framed)
 HoldsNext blocks bytes framed nexts.Aside = Holds blocks (bytes + length framed)
 
@@ -98,12 +102,14 @@ pub record CountsAllPieces (options : FileOptions) (history : List Rec) (p : Pla
       (noted_of (length (front options.profile)) history (pieces_of options.chunk options.span history)) p.body
   pub blocks : p.blocks ≡ length (blocks_in (pieces_of options.chunk options.span history))
   pub bytes : p.bytes ≡ length (front options.profile ++ pieces_bytes (pieces_of options.chunk options.span history))
+  pub contents : ContentsFit options.profile (blocks_in (pieces_of options.chunk options.span history))
 
 -- all pieces of a history and these extras behind them are counted, and its summary stands for them
 pub record IsFilled (options : FileOptions) (extras : List Top) (history : List Rec) (p : Planning) : Type 0 where
   pub body : SummaryFor options.chunk (noted options extras history) p.body
   pub blocks : p.blocks ≡ length (blocks_in (pieces_of options.chunk options.span history))
   pub bytes : p.bytes ≡ length (section options extras history)
+  pub contents : ContentsFit options.profile (blocks_in (pieces_of options.chunk options.span history))
 
 -- why an extra of these bytes isn't counted
 abbrev pub ExtraStopped : ℕ → ℕ → List ℕ → Stop → Type 0
@@ -128,7 +134,7 @@ abbrev pub LastStopped : Option ℕ → Option ℕ → List Rec → ℕ → ℕ 
 LastStopped size span history blocks bytes (stops.Fault faults) = ⊥
 LastStopped size span history blocks bytes (stops.Limit at_blocks at_bytes) = (piece : Piece)
     × (last_piece (cuts size span history).waiting ≡ piece ∷ []) × (at_blocks ≡ blocks) × (at_bytes ≡ bytes)
-    × PiecePasses blocks bytes piece
+    × (PieceFits blocks bytes piece → ⊥)
 LastStopped size span history blocks bytes stops.Memory = Unit {0}
 
 -- why what closes the file isn't given

@@ -11,15 +11,19 @@ use Rattle.chunk_writer.specs.declared.tape.Written.{Written}
 use Rattle.mcap_model.specs.declared.ends.Stop.TheVariants as stops
 use Rattle.mcap_model.specs.Places.{At}
 use Rattle.mcap_model.specs.Pieces.{file_pieces, pieces_before, StoppedAt}
-use Rattle.chunk_writer.specs.Limits.{StopWhy}
+use Rattle.chunk_writer.specs.Limits.{ContentsFit, FileHolds, StopWhy}
 
 -- so many blocks and bytes
 abbrev pub numbers : ℕ → ℕ → Written
 numbers blocks bytes = record { blocks = blocks; bytes = bytes }
 
--- how many blocks stand among the first pieces of a file; the front is the first of them
+-- the blocks among the first pieces of a file; the front is the first of them
+abbrev pub first_blocks : FileOptions → List Rec → ℕ → List (List Rec)
+first_blocks options history pieces = blocks_in (take (pieces - 1) (pieces_of options.chunk options.span history))
+
+-- how many these are
 abbrev pub blocks_among : FileOptions → List Rec → ℕ → ℕ
-blocks_among options history pieces = length (blocks_in (take (pieces - 1) (pieces_of options.chunk options.span history)))
+blocks_among options history pieces = length (first_blocks options history pieces)
 
 -- The writer of this history and these extras stopped at a piece of their file. So many blocks and bytes are written before
 -- the piece, and where the store tells, these bytes, and of the piece no more than the store took of it in a failure, stand
@@ -31,8 +35,8 @@ pub record StopsAt (options : FileOptions) (extras : List Top) (history : List R
   pub at : At (file_pieces options extras history) place next
   pub blocks_are : written.blocks ≡ blocks_among options history place
   pub bytes_are : written.bytes ≡ length (pieces_before (file_pieces options extras history) place)
-  pub why : StopWhy stop written.blocks written.bytes (blocks_among options history (place + 1))
-      (written.bytes + length next)
+  pub why : StopWhy stop written.blocks written.bytes
+      (FileHolds options.profile (first_blocks options history (place + 1)) (written.bytes + length next))
   pub took : (start : List ℕ) → opened ≡ Some start
       → (text : List ℕ) × (now ≡ Some (start ++ text))
       × StoppedAt (file_pieces options extras history) place stop text written.bytes
@@ -47,10 +51,12 @@ abbrev pub Cause : {X : Type 0} → ℕ → ℕ → Result X Stop → Type 0
 Cause before now (Ok it) = now ≡ before
 Cause before now (Err stop) = StopCause before now stop
 
--- how the file of extras and a history ended: all of it stands behind what the store held, or the writer stopped at a piece of it
+-- How the file of extras and a history ended: all of it stands behind what the store held, and its Header and Chunks can be
+-- read; or the writer stopped at a piece of it.
 abbrev pub Ends : FileOptions → List Top → Option (List ℕ) → Option (List ℕ) → List Rec → Written → Result Unit Stop
     → Type 0
 Ends options extras opened now history written (Ok it) = Adds opened now (file_of options extras history)
     × (written.blocks ≡ length (blocks_in (pieces_of options.chunk options.span history)))
     × (written.bytes ≡ length (file_of options extras history))
+    × ContentsFit options.profile (blocks_in (pieces_of options.chunk options.span history))
 Ends options extras opened now history written (Err stop) = StopsAt options extras history opened now stop written

@@ -13,8 +13,8 @@ ghost use Rattle.mcap_model.specs.Pieces.{back_of};
 ghost use Rattle.summary_write.specs.Tally.{SummaryStandsFor, with_noted_block, with_noted_extra};
 ghost use Rattle.chunk_writer.specs.declared.next.Next.TheVariants as nexts;
 ghost use Rattle.chunk_writer.specs.declared.phase.Phase.TheVariants as phases;
-ghost use Rattle.chunk_writer.specs.Limits.{Holds, ChunkSizeFits};
-ghost use Rattle.chunk_writer.specs.LimitSteps.{HoldsOrStops, IsNoFault};
+ghost use Rattle.chunk_writer.specs.Limits.{Holds, HeaderFits, ChunkSizeFits};
+ghost use Rattle.chunk_writer.specs.LimitSteps.{HoldsOrStops, BlockFits, IsNoFault};
 ghost use Rattle.chunk_writer.specs.Bodies.{BodyFor, SummaryFor, StandsSo, NextBlock, LastBlock};
 ghost use Rattle.chunk_writer.specs.Waiting.{AreExtra, AreAside};
 ghost use Rattle.chunk_writer.specs.Plans.{Plans, counted_on, IsPlanned, PutStopped, IsLastBlock, LastStopped, IsFilled, ExtraStopped, BackStopped, HoldsBlock, HoldsNext, CountsNext, StandsAlone, CountsBlock, StoppedBefore};
@@ -25,7 +25,7 @@ use crate::next::Next;
 use crate::phase::Phase;
 use crate::pieces::back_piece;
 use mcap_model::{Block, FileOptions, Stop};
-use mcap_wire::{Bytes, FILE_LIMIT, Memory};
+use mcap_wire::{Bytes, CONTENT_LIMIT, FILE_LIMIT, HEAD_LENGTH, Memory};
 use rec_data::{ATTACHMENT, MESSAGE, METADATA};
 use std::alloc::Global;
 use std::marker::Model;
@@ -67,15 +67,18 @@ fn body_for(alloc: Global, size: Option<u64>, span: Option<u64>) -> Result<Optio
     }
 }
 
-// Notes a block behind so many blocks and bytes, where the limit has room for it.
+// Notes a block behind so many blocks and bytes, where a file may hold it.
 fn note(summary: &mut Summary, blocks: u64, bytes: u64, block: &Block) -> Result<(), Stop>
     requires within { Holds blocks bytes }
     requires few { summary.old.blocks < 2 ^ 48 }
     requires built { (records : List Rec) × IsBlock block.now records }
     ensures ok { OnOk result ((records : List Rec) → IsBlock block.now records → (n : Noted)
         → SummaryStandsFor summary.old n → SummaryStandsFor summary.new (with_noted_block n bytes records)) }
-    ensures limit { HoldsOrStops blocks bytes (blocks + 1) (bytes + length block.now.bytes) result }
+    ensures limit { HoldsOrStops blocks bytes (BlockFits blocks bytes block.now) result }
 {
+    if block.chunk_length > HEAD_LENGTH + CONTENT_LIMIT {
+        return Err(Stop::Limit { blocks, bytes });
+    }
     match keep_limit(blocks, bytes, 1, block.bytes.as_slice()) {
         Ok(()) => {}
         Err(stop) => return Err(stop),
@@ -171,7 +174,7 @@ fn note_aside(summary: &mut Summary, blocks: u64, bytes: u64, framed: &[u8]) -> 
     requires within { Holds blocks bytes }
     ensures ok { OnOk result ((t : Top) → framed.now ≡ top_bytes t → (n : Noted) → SummaryStandsFor summary.old n
         → SummaryStandsFor summary.new (with_noted_extra n bytes t)) }
-    ensures limit { HoldsOrStops blocks bytes (blocks + 0) (bytes + length framed.now) result }
+    ensures limit { HoldsOrStops blocks bytes (Holds (blocks + 0) (bytes + length framed.now)) result }
 {
     match keep_limit(blocks, bytes, 0, framed) {
         Ok(()) => {}
@@ -209,6 +212,7 @@ impl Plan {
     pub(crate) fn new(alloc: Global, options: &FileOptions, bytes: u64) -> Result<Plan, Memory>
         requires size { ChunkSizeFits options.now.chunk }
         requires front { bytes ≡ length (front options.now.profile) }
+        requires header { HeaderFits options.now.profile }
         requires small { bytes ≤ file_limit }
         ensures stands { IfOk result (λ p. Plans options.now [] p) }
         ensures goes_on { IfOk result (λ p. p.phase ≡ phases.Going) }

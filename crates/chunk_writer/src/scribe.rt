@@ -18,7 +18,8 @@ ghost use Rattle.mcap_model.specs.ReadBack.{IsExtra};
 ghost use Rattle.mcap_model.specs.File.{front};
 ghost use Rattle.live_entry.specs.Entries.{seen_before};
 ghost use Rattle.chunk_writer.specs.declared.phase.Phase.TheVariants as phases;
-ghost use Rattle.chunk_writer.specs.Limits.{Holds, ChunkSizeFits};
+ghost use Rattle.chunk_writer.specs.Limits.{Holds, HeaderFits, ChunkSizeFits};
+ghost use Rattle.chunk_writer.specs.LimitSteps.{HoldsOrStops};
 ghost use Rattle.chunk_writer.specs.Plans.{Plans, StoppedBefore};
 ghost use Rattle.chunk_writer.specs.Stops.{numbers, StopsAt, Cause, StopCause, Ends};
 ghost use Rattle.chunk_writer.specs.StopSteps.{StopsBehind, Appends, Added, refusal};
@@ -35,10 +36,13 @@ use chunk_build::framed_of;
 use live_entry::Entry;
 use mcap_io::{AppendRefused, LiveStore};
 use mcap_model::{Block, FileOptions, Stop};
-use mcap_wire::Memory;
+use mcap_wire::CONTENT_LIMIT;
 use rec_data::Rec;
 use record_cache::Cache;
 use std::alloc::Global;
+
+/// The longest profile of a Header that is read. Beside it the Header has seventeen bytes: two lengths, and nine of what wrote it.
+const LONGEST_PROFILE: u64 = CONTENT_LIMIT - 17;
 
 /// Writes the file of a history into a store, record by record. A scribe stands for each history (`WritesHistory`) whose sure
 /// pieces stand in its store and whose other records wait in its plan; the extras that are given beside the history
@@ -106,20 +110,28 @@ fn taken<X>(full: Cache, entries: Vec<Entry<X>>, end: Result<(), Stop>) -> Taken
 }
 
 // The front of a file, and the plan of what follows it.
-fn opening(alloc: Global, options: &FileOptions) -> Result<(Plan, Vec<u8>), Memory>
+fn opening(alloc: Global, options: &FileOptions) -> Result<(Plan, Vec<u8>), Stop>
     requires size { ChunkSizeFits options.now.chunk }
     requires profile { length options.now.profile ≤ content_limit }
     ensures front { IfOk result (λ o. o.1.items ≡ front options.now.profile) }
     ensures stands { IfOk result (λ o. Plans options.now [] o.0) }
     ensures goes_on { IfOk result (λ o. o.0.phase ≡ phases.Going) }
+    ensures limit { HoldsOrStops 0 0 (HeaderFits options.now.profile) result }
 {
-    let piece = match front_piece(alloc, options.profile.as_str()) {
+    let profile = options.profile.as_str();
+    if profile.len() as u64 > LONGEST_PROFILE {
+        return Err(Stop::Limit {
+            blocks: 0,
+            bytes: 0,
+        });
+    }
+    let piece = match front_piece(alloc, profile) {
         Ok(piece) => piece,
-        Err(memory) => return Err(memory),
+        Err(_) => return Err(Stop::Memory),
     };
     match Plan::new(alloc, options, piece.len() as u64) {
         Ok(plan) => return Ok((plan, piece)),
-        Err(memory) => return Err(memory),
+        Err(_) => return Err(Stop::Memory),
     }
 }
 
@@ -141,7 +153,7 @@ fn begin_file<L: LiveStore>(
 {
     let (plan, piece) = match opening(alloc, options) {
         Ok(opened) => opened,
-        Err(_) => return Err(Stop::Memory),
+        Err(stop) => return Err(stop),
     };
     match append_through(store, piece.as_slice()) {
         Ok(_) => return Ok(plan),

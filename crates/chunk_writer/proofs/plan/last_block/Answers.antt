@@ -22,4 +22,4 @@ returns-in-Err-note-clause-err c = λ size span at history so.
     last_err size span at history c.args.body.now c.take_last.new.body _ _ _ c.in-Ok-Some.block c.in-Err-note.stop c.in-Ok-Some.field-0-is c.in-Ok-Some.ensures.ok c.in-Err-note.ensures.limit so
 
 pub returns-in-Err-note-clause-no_fault : goal.returns-in-Err-note-clause-no_fault
-returns-in-Err-note-clause-no_fault c = no_fault _ _ _ _ c.in-Err-note.stop c.in-Err-note.ensures.limit
+returns-in-Err-note-clause-no_fault c = no_fault _ _ _ c.in-Err-note.stop c.in-Err-note.ensures.limit

@@ -27,4 +27,4 @@ returns-in-Err-note-clause-err c = λ r framed size span at history so.
     next_err size span at history r c.args.body.now c.take.new.body _ _ _ c.in-Ok-Some.block c.in-Err-note.stop c.in-Ok-Some.field-0-is (c.in-Ok-Some.ensures.ok r framed) c.in-Err-note.ensures.limit so
 
 pub returns-in-Err-note-clause-no_fault : goal.returns-in-Err-note-clause-no_fault
-returns-in-Err-note-clause-no_fault c = no_fault _ _ _ _ c.in-Err-note.stop c.in-Err-note.ensures.limit
+returns-in-Err-note-clause-no_fault c = no_fault _ _ _ c.in-Err-note.stop c.in-Err-note.ensures.limit

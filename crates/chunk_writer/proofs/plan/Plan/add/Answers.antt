@@ -81,15 +81,15 @@ pub invariant_of-self-in-Ok-Some : goal.invariant_of-self-in-Ok-Some
 invariant_of-self-in-Ok-Some c = record {
   within =
       let holds = subst (λ (x : Option Block). HoldsBlock c.self.inside.blocks c.self.inside.bytes x) c.in-Ok-Some.field-0-is c.in-Ok-Some.ensures.room in
-      let few = holds.few in
-      let small = holds.small in
+      let few = holds.holds.few in
+      let small = holds.holds.small in
       record { few = few; small = omega (arith, small, ap (λ (l : List ℕ). length l) c.as_slice.ensures) };
   stands = λ going.
       let (r, framed) = c.requires.framed in
       let inner = framed_inner c.args.framed.now c.stands_inside.result r framed (c.stands_inside.ensures r framed) c.if-not-stands_inside.false in
       let (o, h, plans) = c.self.invariant.stands (ap (λ (v : Planning). v.phase) c.self.view_is ∙ c.requires.goes_on) in
       let planned = plans_block o h r (planning c.self.inside) c.in-Some.body c.next_block.new.body _ c.in-Ok-Some.block c.self.inside.phase (length c.as_slice.result.now)
-      c.in-Ok-Some.field-0-is c.in-Some.is (ap (λ (l : List ℕ). length l) c.as_slice.ensures) plans (c.in-Ok-Some.ensures.ok r inner) in
+      c.in-Ok-Some.field-0-is c.in-Some.is (ap (λ (l : List ℕ). length l) c.as_slice.ensures) c.in-Ok-Some.ensures.room plans (c.in-Ok-Some.ensures.ok r inner) in
       (o, h ++ r ∷ [], planned.stands);
 }
 
@@ -97,7 +97,7 @@ pub returns-in-Ok-Some-clause-ok : goal.returns-in-Ok-Some-clause-ok
 returns-in-Ok-Some-clause-ok c = λ r framed o h plans.
     let inner = framed_inner c.args.framed.now c.stands_inside.result r framed (c.stands_inside.ensures r framed) c.if-not-stands_inside.false in
     plans_block o h r (planning c.self.inside) c.in-Some.body c.next_block.new.body _ c.in-Ok-Some.block c.self.inside.phase (length c.as_slice.result.now)
-    c.in-Ok-Some.field-0-is c.in-Some.is (ap (λ (l : List ℕ). length l) c.as_slice.ensures) (subst (λ (v : Planning). Plans o h v) (sym c.self.view_is) plans) (c.in-Ok-Some.ensures.ok r inner)
+    c.in-Ok-Some.field-0-is c.in-Some.is (ap (λ (l : List ℕ). length l) c.as_slice.ensures) c.in-Ok-Some.ensures.room (subst (λ (v : Planning). Plans o h v) (sym c.self.view_is) plans) (c.in-Ok-Some.ensures.ok r inner)
 
 pub returns-in-Err-next_block-clause-err : goal.returns-in-Err-next_block-clause-err
 returns-in-Err-next_block-clause-err c = λ r framed o h.

@@ -26,7 +26,7 @@ returns-in-Ok-None-clause-ok c = λ o h plans.
 pub returns-in-Ok-Some-clause-ok : goal.returns-in-Ok-Some-clause-ok
 returns-in-Ok-Some-clause-ok c = λ o h plans.
     ended_block o h (planning c.self.inside) c.in-Some.body c.last_block.new.body _ c.in-Ok-Some.block phases.Ended (length c.as_slice.result.now) c.in-Ok-Some.field-0-is c.in-Some.is
-    (ap (λ (l : List ℕ). length l) c.as_slice.ensures) (subst (λ (v : Planning). Plans o h v) (sym c.self.view_is) plans) c.in-Ok-Some.ensures.ok
+    (ap (λ (l : List ℕ). length l) c.as_slice.ensures) c.in-Ok-Some.ensures.room (subst (λ (v : Planning). Plans o h v) (sym c.self.view_is) plans) c.in-Ok-Some.ensures.ok
 
 pub returns-in-Err-clause-err : goal.returns-in-Err-clause-err
 returns-in-Err-clause-err c = λ o h.
