@@ -22,7 +22,7 @@ use Rattle.record_core.specs.declared.answers.CallRefused.TheVariants as refusin
 use Rattle.history_ids.proofs.Numbering.{HasContents}
 use Rattle.history_ids.proofs.Searches.{schemas_counted, channels_counted, schemas_more, channels_more}
 use Rattle.feed_lane.specs.Pass.{full_at, named_by, lack_at}
-use Rattle.buffer_swap.specs.Shown.{ChannelStands, NameStands, IdsLack, IdsLackAt, bytes_before_call, HeldThere, FoundThere}
+use Rattle.buffer_swap.specs.Shown.{ChannelStands, NameStands, IdsLack, IdsLackAt, HadRoom, HeldThere, FoundThere}
 use Rattle.buffer_swap.specs.Turns.{BufferFits}
 use Rattle.buffer_swap.specs.Plays.{MayCount, NamedAt, LacksIdAt}
 use Rattle.buffer_swap.proofs.Reasons.{publish_reason, declare_reason}
@@ -69,7 +69,7 @@ full_there swaps d s stands buffer =
       held = ap (λ (l : List Rec). length (history_bytes l)) (sym same);
       begun = buffer.begun;
       unswapped = λ j x at. inl (buffer.before j x at);
-      room = subst (λ (l : List Rec). bytes_before_call l < d.limit) (sym same) buffer.room;
+      room = subst (HadRoom d.limit) (sym same) buffer.room;
     }
 
 pub found_there : (swaps : List ℕ) (d : DeskView) (s : State) → DeskStandsFor d s → BufferFits swaps d → FoundThere d.limit s.history swaps (found_of d)
@@ -139,8 +139,8 @@ message_counts d after channel m place is steps = record {
   is = is.2;
   unended = (publish_reason d channel (length m.payload) None is.0).0;
   room = λ was.
-      subst (λ (x : DeskView). bytes_before_call x.primary < x.limit) (sym is.2)
-      (room_added d.primary (message_of channel m ∷ []) d.limit (omega arith) (publish_reason d channel (length m.payload) None is.0).3);
+      subst (λ (x : DeskView). HadRoom x.limit x.primary) (sym is.2)
+      (room_added d.primary (message_of channel m ∷ []) d.limit (inr (inl (channel, m, refl))) (publish_reason d channel (length m.payload) None is.0).3);
   stands = λ s stands. published_state d after s channel m is.0 (steps 0) stands;
   spares = λ s stands. message_spares s.history channel m;
 }
@@ -155,7 +155,7 @@ channel_counts d after c given is steps table =
       is = is.4;
       unended = (declare_reason d c None is.0).0;
       room = λ was.
-          subst (λ (x : DeskView). bytes_before_call x.primary < x.limit) (sym is.4)
+          subst (λ (x : DeskView). HadRoom x.limit x.primary) (sym is.4)
           (declared_room d c (channel_place d.ids c) refl (declare_reason d c None is.0).1 was);
       stands = λ s stands. declared_state d after s c is.0 (steps 0) stands;
       spares = λ s stands. declared_spares d.ids s.history c (parts d s stands).contents small.few_schemas small.few_channels;

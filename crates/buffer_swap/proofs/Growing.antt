@@ -16,7 +16,7 @@ use Rattle.record_core.specs.declared.answers.CallRefused.{CallRefused}
 use Rattle.record_core.specs.declared.answers.CallRefused.TheVariants as refusing
 use Rattle.history_ids.proofs.Searches.{schemas_counted, channels_counted, schemas_more, channels_more, schema_content, channel_content}
 use Rattle.feed_lane.specs.Pass.{FullAt, full_at, NamedBy, LackAt, with_places}
-use Rattle.buffer_swap.specs.Shown.{SchemaStands, ChannelStands, NameStands, LacksSchema, LacksChannelId, IdsLack, IdsLackAt, bytes_before_call, HeldThere, FoundThere}
+use Rattle.buffer_swap.specs.Shown.{SchemaStands, ChannelStands, NameStands, LacksSchema, LacksChannelId, IdsLack, IdsLackAt, HadRoom, HeldThere, FoundThere}
 use Rattle.buffer_swap.specs.ShownSteps.{Spares}
 
 -- ---- places
@@ -165,7 +165,7 @@ held_there_on limit history more swaps full there =
       held = there.held ∙ ap (λ (l : List Rec). length (history_bytes l)) (sym same);
       begun = there.begun;
       unswapped = there.unswapped;
-      room = subst (λ (l : List Rec). bytes_before_call l < limit) (sym same) there.room;
+      room = subst (HadRoom limit) (sym same) there.room;
     }
 
 -- behind one more that was handed over, at the end of the history

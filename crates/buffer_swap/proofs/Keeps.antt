@@ -1,5 +1,5 @@
 -- Each step keeps the rule.
-use Rattle.std.proofs.Common.{◌≡◌, ◌≢◌, ℕ, zero, suc, ◌+◌, ◌%◌, ◌^◌, ◌<◌, ◌≤◌, eqb, Bool, true, false, cond, List, [], ◌∷◌, ◌++◌, length, get_or, set, take, Option, Some, None, sym, refl, ap, ◌∙◌, subst, ⊎_elim, arith, length-set, get_or-set_other, get_or-set_same, true≢false}
+use Rattle.std.proofs.Common.{◌≡◌, ◌≢◌, ℕ, zero, suc, ◌+◌, ◌%◌, ◌^◌, ◌<◌, ◌≤◌, eqb, Bool, true, false, cond, List, [], ◌∷◌, ◌++◌, length, get_or, set, take, Option, Some, None, sym, refl, ap, inl, ◌∙◌, subst, ⊎_elim, arith, length-set, get_or-set_other, get_or-set_same, true≢false}
 use mathlib.Core.Option.{some, none, some-injective, some-ne-none}
 use mathlib.Core.Logic.{dite}
 use native.Mathlib.Decide.{ℕ_discrete}
@@ -860,7 +860,7 @@ opens limit least = let d = new_desk limit in let v = newcomer limit first_post 
     halted = λ stop e. absurd (none-some _ e);
     stood = λ stop e. absurd (none-some _ e);
   };
-  buffer = record { rise = λ i j x lt within. absurd (omega (arith, lt, within)); begun = (0, refl); before = λ j x at. absurd (at_none j x at); room = let some_room : 0 < limit = omega (arith, least) in some_room };
+  buffer = record { rise = λ i j x lt within. absurd (omega (arith, lt, within)); begun = (0, refl); before = λ j x at. absurd (at_none j x at); room = record { front = []; call = []; added = inl refl; whole = refl; room = let some_room : 0 < limit = omega (arith, least) in some_room } };
   wired = record { wide = refl; homes_one = refl; turn = omega arith; free = λ _. refl; out = λ e. absurd (omega arith) };
   holders = refl;
   each = λ j u e. ⊎_elim (λ (x : get_elem? [] j ≡ some u). absurd (some-ne-none u (sym x))) (λ (x : v ≡ u). subst (ViewFits [] [] d None) x (fits_new [] [] d None limit first_post (λ _. refl) refl refl refl refl (λ e'. no e'))) (at_snoc [] v u j e);

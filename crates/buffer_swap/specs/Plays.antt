@@ -16,7 +16,7 @@ use Rattle.record_core.specs.declared.answers.Found.{Found}
 use Rattle.feed_lane.specs.Pass.{PassState, with_places, full_at, named_by, lack_at}
 use Rattle.feed_lane.specs.PassCalls.{with_found}
 use Rattle.buffer_swap.specs.Weights.{total, below}
-use Rattle.buffer_swap.specs.Shown.{ChannelStands, IdsLack, AreHandOvers, bytes_before_call}
+use Rattle.buffer_swap.specs.Shown.{ChannelStands, IdsLack, AreHandOvers, HadRoom}
 use Rattle.buffer_swap.specs.ShownSteps.{Spares, ShownTo}
 use Rattle.buffer_swap.specs.Posts.{Gathered, Post, drain_post, publisher_post, note_post}
 use Rattle.buffer_swap.specs.Turns.{view, newcomer, PassFits}
@@ -108,7 +108,7 @@ fresh_records hand d = drop (length hand.primary) d.primary
 pub record MayCount (hand : DeskView) (records : List Rec) (d : DeskView) : Type 0 where
   pub is : d ≡ with_more_records hand records
   pub unended : hand.end ≡ None
-  pub room : bytes_before_call hand.primary < hand.limit → bytes_before_call d.primary < d.limit
+  pub room : HadRoom hand.limit hand.primary → HadRoom d.limit d.primary
   pub stands : (s : State) → DeskStandsFor hand s → DeskStandsFor d (accept 0 records s)
   pub spares : (s : State) → DeskStandsFor hand s → Spares s.history records
 

@@ -1,5 +1,5 @@
 -- That what a pass showed is so of the history of a recording.
-use Rattle.std.specs.Prelude.{◌≡◌, ◌⊎◌, ℕ, ◌-◌, ◌<◌, ◌≤◌, List, ◌∷◌, length, take, drop, AllPairs, Option, Some, None}
+use Rattle.std.specs.Prelude.{◌≡◌, ◌⊎◌, ℕ, ◌-◌, ◌<◌, ◌≤◌, List, [], ◌∷◌, ◌++◌, length, take, drop, AllPairs, Option, Some, None}
 use Rattle.mcap_wire.specs.Limits.{id_limit}
 use Rattle.rec_data.specs.declared.owned.Rec.{Rec}
 use Rattle.rec_data.specs.declared.schema.SchemaDef.{SchemaDef}
@@ -7,12 +7,13 @@ use Rattle.rec_data.specs.declared.channel.ChannelDef.{ChannelDef}
 use Rattle.mcap_model.specs.declared.ends.End.{End}
 use Rattle.mcap_model.specs.declared.ends.End.TheVariants as ends
 use Rattle.mcap_model.specs.Places.{At, Has, Each}
-use Rattle.mcap_model.specs.History.{schema_of, channel_of, schema_count, channel_count, history_bytes}
+use Rattle.mcap_model.specs.Fields.{MessageFields}
+use Rattle.mcap_model.specs.History.{schema_of, channel_of, message_of, schema_count, channel_count, history_bytes}
 use Rattle.history_ids.specs.DeclarationFields.{fields_of_schema, fields_with}
 use Rattle.record_core.specs.declared.answers.CallRefused.{CallRefused}
 use Rattle.record_core.specs.declared.answers.CallRefused.TheVariants as refusing
 use Rattle.record_core.specs.declared.answers.Found.{Found}
-use Rattle.feed_lane.specs.Pass.{FullAt, full_at, NamedBy, LackAt, PassState}
+use Rattle.feed_lane.specs.Pass.{FullAt, full_at, NamedBy, LackAt, PassState, AreAdded}
 
 -- ---- channels
 
@@ -65,9 +66,19 @@ pub record AreHandOvers (history : List Rec) (swaps : List ℕ) : Type 0 where
 abbrev pub records_between : ℕ → ℕ → List Rec → List Rec
 records_between from to history = take (to - from) (drop from history)
 
--- how many bytes a buffer held before its last call, which added two records at most
-abbrev pub bytes_before_call : List Rec → ℕ
-bytes_before_call records = length (history_bytes (take (length records - 2) records))
+-- the records that one call added, if there was one: a message, or what a declaration adds
+abbrev pub AreOfCall : List Rec → Type 0
+AreOfCall records = (records ≡ []) ⊎ (((channel : ℕ) × (m : MessageFields) × (records ≡ message_of channel m ∷ []))
+    ⊎ ((c : ChannelDef) × (channel : ℕ) × AreAdded c channel records))
+
+-- Before the last call a buffer of these records was below the limit: before its last record where that is a message, else
+-- before a Channel, or before a Schema and the Channel that has it.
+pub record HadRoom (limit : ℕ) (records : List Rec) : Type 0 where
+  pub front : List Rec
+  pub call : List Rec
+  pub added : AreOfCall call
+  pub whole : records ≡ front ++ call
+  pub room : length (history_bytes front) < limit
 
 -- ---- a pass
 
@@ -79,7 +90,7 @@ pub record HeldThere (limit : ℕ) (history : List Rec) (swaps : List ℕ) (full
   pub held : full.held ≡ length (history_bytes (records_between full.from full.to history))
   pub begun : Has (0 ∷ swaps) full.from
   pub unswapped : Each (λ s. (s ≤ full.from) ⊎ (full.to ≤ s)) swaps
-  pub room : bytes_before_call (records_between full.from full.to history) < limit
+  pub room : HadRoom limit (records_between full.from full.to history)
 
 -- The numbers with which the intake was found are those of the history so far: the bytes that its buffer held, and how many
 -- ids were given.

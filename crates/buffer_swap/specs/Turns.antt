@@ -16,7 +16,7 @@ use Rattle.record_core.specs.declared.answers.Found.{Found}
 use Rattle.feed_lane.specs.Pass.{PassState, with_places}
 use Rattle.feed_lane.specs.PassCalls.{no_calls, IsLater}
 use Rattle.buffer_swap.specs.Weights.{total, one_if, below}
-use Rattle.buffer_swap.specs.Shown.{NameStands, IdsLackAt, bytes_before_call, HeldThere, FoundThere}
+use Rattle.buffer_swap.specs.Shown.{NameStands, IdsLackAt, HadRoom, HeldThere, FoundThere}
 use Rattle.buffer_swap.specs.Posts.{Gathered, Post, no_post}
 use Rattle.buffer_swap.specs.declared.view.View.{View}
 
@@ -106,7 +106,7 @@ pub record BufferFits (swaps : List ℕ) (d : DeskView) : Type 0 where
   pub rise : AllPairs (λ a b. a < b) (0 ∷ swaps)
   pub begun : Has (0 ∷ swaps) d.taken
   pub before : Each (λ s. s ≤ d.taken) swaps
-  pub room : bytes_before_call d.primary < d.limit
+  pub room : HadRoom d.limit d.primary
 
 -- the words and the slot of a table: where no seat holds the turn, the desk is at home
 pub record Wired (words : List ℕ) (homes : List (mathlib.Core.Option.Option DeskView)) (d : DeskView) : Type 0 where
