@@ -7,3 +7,4 @@ mod LineWords
 mod ScriptLines
 mod Scripts
 mod GoingOn
+mod BadLines

@@ -1,6 +1,7 @@
 -- A script line by line.
-use Rattle.std.proofs.Common.{◌≡◌, ℕ, zero, suc, ◌+◌, ◌<◌, ◌≤◌, List, [], ◌∷◌, ◌++◌, length, take, drop, get_or, refl, sym, ap, subst, inl, inr, ◌∙◌, append-nil, append_assoc, arith}
-use Rattle.std.specs.Prelude.{AllPairs}
+use Rattle.std.proofs.Common.{◌≡◌, ℕ, zero, suc, ◌+◌, ◌<◌, ◌≤◌, List, [], ◌∷◌, ◌++◌, length, take, drop, get_or, Option, Some, refl, sym, ap, subst, inl, inr, ◌∙◌, append-nil, append_assoc, arith}
+use Rattle.std.specs.Prelude.{AllPairs, IfSome, Vec}
+use Rattle.std.specs.Global.{Global}
 use Rattle.std.specs.List.{AllZip, flat_map}
 use Rattle.std.proofs.lemmas.Bool.{cases_lt}
 use Rattle.std.proofs.lemmas.List.{length-append, length-drop, take_all, take-append-drop, get_or_at, get_or_append_left}
@@ -91,6 +92,25 @@ read_on bytes at next lines moment line word rest was split is le next_is =
         ∙ ap (λ (l : List ℕ). take at bytes ++ take (length (ended word)) l) (split ∙ sym (append_assoc word (10 ∷ []) rest))
         ∙ ap (λ (l : List ℕ). take at bytes ++ l) (take-append_seam (ended word) rest)
 
+-- ---- lines that are judged and kept
+
+-- so many bytes are lines, which are those that are kept, if any are; the next one has that number
+pub record Judged (bytes : List ℕ) (at number moment : ℕ) (kept : Option (Vec Line Global)) : Type 0 where
+  pub lines : List Line
+  pub so_far : ReadSoFar bytes at lines moment
+  pub number_is : number ≡ length lines + 1
+  pub keeps : IfSome kept (λ (v : Vec Line Global). v.items ≡ lines)
+
+pub judged_on : (bytes : List ℕ) (at next number moment : ℕ) (kept later : Option (Vec Line Global)) (line : Line) (word rest : List ℕ) → Judged bytes at number moment kept → drop at bytes ≡ word ++ 10 ∷ rest → IsWordOf word line
+    → moment ≤ line.moment → next ≡ at + length word + 1 → ((all : List Line) → IfSome kept (λ (v : Vec Line Global). v.items ≡ all) → IfSome later (λ (v : Vec Line Global). v.items ≡ all ++ line ∷ []))
+    → Judged bytes next (number + 1) line.moment later
+judged_on bytes at next number moment kept later line word rest was split is le next_is keeps = record {
+  lines = was.lines ++ line ∷ [];
+  so_far = read_on bytes at next was.lines moment line word rest was.so_far split is le next_is;
+  number_is = let number_is = was.number_is in omega (arith, number_is, length-append was.lines (line ∷ []));
+  keeps = keeps was.lines was.keeps;
+}
+
 -- all were read
 pub read_all : (bytes : List ℕ) (at : ℕ) (lines : List Line) (moment : ℕ) → newlines bytes ≤ 1000000 → ReadSoFar bytes at lines moment → length bytes ≤ at → IsScript bytes lines
 read_all bytes at lines moment few was end = record {
@@ -98,6 +118,18 @@ read_all bytes at lines moment few was end = record {
   lines_are = subst (λ (l : List ℕ). AreLines l lines) (take_all at bytes end) was.lines_are;
   rise = was.rise;
 }
+
+pub judged_all : (bytes : List ℕ) (at number moment : ℕ) (kept : Option (Vec Line Global)) → newlines bytes ≤ 1000000 → (was : Judged bytes at number moment kept) → length bytes ≤ at → IsScript bytes was.lines
+judged_all bytes at number moment kept few was end = read_all bytes at was.lines moment few was.so_far end
+
+-- the lines that are kept are the script
+pub judged_script : (bytes : List ℕ) (at number moment : ℕ) (kept : Option (Vec Line Global)) (v : Vec Line Global) → newlines bytes ≤ 1000000 → Judged bytes at number moment kept → length bytes ≤ at → kept ≡ Some v → IsScript bytes v.items
+judged_script bytes at number moment kept v few was end is =
+    let same : v.items ≡ was.lines = subst (λ (o : Option (Vec Line Global)). IfSome o (λ (w : Vec Line Global). w.items ≡ was.lines)) is was.keeps in
+    subst (IsScript bytes) (sym same) (judged_all bytes at number moment kept few was end)
+
+pub judged_none : (kept : Option (Vec Line Global)) → IfSome kept (λ (v : Vec Line Global). v.items ≡ []) → (bytes : List ℕ) → Judged bytes 0 1 0 kept
+judged_none kept none bytes = record { lines = []; so_far = read_none bytes; number_is = refl; keeps = none }
 
 -- ---- a bad line
 

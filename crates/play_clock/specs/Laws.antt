@@ -8,6 +8,7 @@ use Rattle.mcap_model.specs.Showing.{Shows}
 use Rattle.play_clock.specs.declared.line.Line.{Line}
 use Rattle.time_player.specs.declared.timed_lines.Stretch.{Stretch}
 use Rattle.play_clock.specs.Times.{times_of, TimesRise}
+use Rattle.play_clock.specs.Script.{IsScript, IsBadLine}
 use Rattle.play_clock.specs.Played.{IsValue, HasValue, IsShown, PlaysScript, is_seek}
 
 -- a line has one value
@@ -51,3 +52,8 @@ ScriptsGoOn = (times : List ℕ) (lines : List Line) (stretches : List Stretch) 
 abbrev pub ReplaysRise : Type 0
 ReplaysRise = (range : Range) (topic : Option (List ℕ)) (messages shown : List Seen) (all : Replayed)
     → Replay range topic messages shown → Shows all shown → TimesRise (times_of all.shown.items)
+
+-- bytes that are a script have no line that is bad
+abbrev pub ScriptsHaveNoBadLine : Type 0
+ScriptsHaveNoBadLine = (bytes : List ℕ) (lines : List Line) (number : ℕ) → IsScript bytes lines
+    → IsBadLine bytes number → ⊥

@@ -85,8 +85,8 @@ pub record IsBadLine (bytes : List ℕ) (number : ℕ) : Type 0 where
   pub bad : (word rest : List ℕ) (line : Line) → after ≡ ended word ++ rest → IsWordOf word line
       → MomentsRise (lines ++ line ∷ []) → ⊥
 
--- why bytes aren't read as a script
+-- Why bytes aren't read as a script. All of them are judged first: memory lacks only for the lines of one.
 abbrev pub RefusesScript : List ℕ → ScriptRefused → Type 0
 RefusesScript bytes (refusals.BadLine line) = IsBadLine bytes line
 RefusesScript bytes refusals.TooMany = script_limit < newlines bytes
-RefusesScript bytes refusals.Memory = Unit {0}
+RefusesScript bytes refusals.Memory = (lines : List Line) × IsScript bytes lines

@@ -1,5 +1,5 @@
 //! What holds of scripts and replays, whatever the code does.
-ghost use Rattle.play_clock.specs.Laws.{ValuesAreOne, LinesHaveValues, ShownWhenDue, ShownOnce, ScriptsGoOn, ReplaysRise};
+ghost use Rattle.play_clock.specs.Laws.{ValuesAreOne, LinesHaveValues, ShownWhenDue, ShownOnce, ScriptsGoOn, ReplaysRise, ScriptsHaveNoBadLine};
 
 /// A line of a script has no two values.
 pub fn values_are_one()
@@ -29,4 +29,9 @@ pub fn scripts_go_on()
 /// The log times of a replay rise, as a player asks of them.
 pub fn replays_rise()
     ensures { ReplaysRise }
+{}
+
+/// Bytes that are a script have no bad line.
+pub fn scripts_have_no_bad_line()
+    ensures { ScriptsHaveNoBadLine }
 {}

@@ -13,7 +13,7 @@ mod timeline;
 
 pub use laws::{
     due_messages_are_shown_once, lines_have_values, messages_are_shown_when_due, replays_rise,
-    scripts_go_on, values_are_one,
+    scripts_go_on, scripts_have_no_bad_line, values_are_one,
 };
 pub use line::{Kind, Line};
 pub use player::{Due, Player};

@@ -1,5 +1,5 @@
 //! Reading a script.
-ghost use Rattle.std.specs.Prelude.{◌≡◌, ◌↔◌, ◌==◌, [], IsTrue, IfOk, IfErr, codes, count_by};
+ghost use Rattle.std.specs.Prelude.{◌≡◌, ◌↔◌, ◌==◌, ◌++◌, ◌∷◌, [], List, IsTrue, IfSome, IfOk, IfErr, codes, count_by};
 ghost use Rattle.mcap_model.specs.Places.{Each};
 ghost use Rattle.play_clock.specs.declared.line.Line.{Line as Step};
 ghost use Rattle.play_clock.specs.Played.{RateFits};
@@ -23,6 +23,7 @@ pub enum ScriptRefused {
     BadLine { line: u64 },
     /// There are too many lines.
     TooMany,
+    /// The bytes are a script, but memory lacked for its lines.
     Memory,
 }
 
@@ -133,8 +134,24 @@ fn newlines_in(bytes: &[u8]) -> usize
     bytes.iter().filter(|b| **b == b'\n').count()
 }
 
+// The lines with one more, unless memory lacked for them or lacks for it.
+fn kept_with(kept: Option<Vec<Line>>, line: Line) -> Option<Vec<Line>>
+    ensures { (all : List Step) → IfSome kept (λ lines. lines.items ≡ all)
+        → IfSome result (λ lines. lines.items ≡ all ++ line ∷ []) }
+{
+    let mut lines = match kept {
+        Some(lines) => lines,
+        None => return None,
+    };
+    match lines.push(line) {
+        Ok(()) => return Some(lines),
+        Err(_) => return None,
+    }
+}
+
 /// The lines of a script: `at M`, `pause M`, `resume M`, `rate M P Q` and `seek M T`, each with a newline after it, M and T being
-/// numbers of 1 to 20 digits below 2^64, P and Q such from 1 to 1,000,000; no moment comes before an earlier one.
+/// numbers of 1 to 20 digits below 2^64, P and Q such from 1 to 1,000,000; no moment comes before an earlier one. Where memory lacks
+/// for the lines they are judged nevertheless, so that a bad one is told as such.
 pub fn read_script(alloc: Global, bytes: &[u8]) -> Result<Vec<Line>, ScriptRefused>
     ensures script { IfOk result (λ lines. IsScript bytes.now lines.items) }
     ensures fit { IfOk result (λ lines. Each (λ (l : Step). RateFits l.kind) lines.items) }
@@ -143,11 +160,11 @@ pub fn read_script(alloc: Global, bytes: &[u8]) -> Result<Vec<Line>, ScriptRefus
     if newlines_in(bytes) > SCRIPT_LIMIT {
         return Err(ScriptRefused::TooMany);
     }
-    let mut lines = Vec::new(alloc);
+    let mut kept = Some(Vec::new(alloc));
+    let mut number: u64 = 1;
     let mut moment: u64 = 0;
     let mut at: usize = 0;
     'lines: while at < bytes.len() {
-        let number = lines.len() as u64 + 1;
         let word = match cut_at(&bytes[at..], b'\n') {
             Some((word, _)) => word,
             None => return Err(ScriptRefused::BadLine { line: number }),
@@ -161,10 +178,11 @@ pub fn read_script(alloc: Global, bytes: &[u8]) -> Result<Vec<Line>, ScriptRefus
         }
         moment = line.moment;
         at = at + word.len() + 1;
-        match lines.push(line) {
-            Ok(()) => {}
-            Err(_) => return Err(ScriptRefused::Memory),
-        }
+        number = number + 1;
+        kept = kept_with(kept, line);
     }
-    return Ok(lines);
+    match kept {
+        Some(lines) => return Ok(lines),
+        None => return Err(ScriptRefused::Memory),
+    }
 }
