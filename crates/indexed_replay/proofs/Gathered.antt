@@ -95,28 +95,28 @@ from_more file request tops i k t f old mid new at is shows meets apart first se
 -- ---- what they cost
 
 -- the chunk of a Chunk Index that meets the range costs so much; and where a replay doesn't end there, the others behind it
-pub record IndexMet (file : List ℕ) (range : Range) (f : ChunkIndexFields) (others : List Top) (all : ℕ) : Type 0 where
+pub record IndexMet (file : List ℕ) (range : Range) (chosen : ℕ → Bool) (f : ChunkIndexFields) (others : List Top) (all : ℕ) : Type 0 where
   pub cost : ℕ
   pub ends : Bool
-  pub is : ChunkCost file range f cost ends
+  pub is : ChunkCost file range chosen f cost ends
   pub within : cost ≤ all
-  pub behind : ends ≡ false → (rest : ℕ) × IndexesCost file range others rest × (cost + rest ≤ all)
+  pub behind : ends ≡ false → (rest : ℕ) × IndexesCost file range chosen others rest × (cost + rest ≤ all)
 
 -- the first Chunk Index, and those behind it
-pub record OneIndex (file : List ℕ) (range : Range) (f : ChunkIndexFields) (others : List Top) (all : ℕ) : Type 0 where
-  pub missed : (Meets range f → ⊥) → (rest : ℕ) × IndexesCost file range others rest × (rest ≤ all)
-  pub met : Meets range f → IndexMet file range f others all
+pub record OneIndex (file : List ℕ) (range : Range) (chosen : ℕ → Bool) (f : ChunkIndexFields) (others : List Top) (all : ℕ) : Type 0 where
+  pub missed : (Meets range f → ⊥) → (rest : ℕ) × IndexesCost file range chosen others rest × (rest ≤ all)
+  pub met : Meets range f → IndexMet file range chosen f others all
 
-pub one_index : (file : List ℕ) (range : Range) (t : Top) (f : ChunkIndexFields) (others : List Top) (all : ℕ) → IsChunkIndex t f → IndexesCost file range (t ∷ others) all → OneIndex file range f others all
-one_index file range t f others all is (next_index u us cost rest costs more) = record {
+pub one_index : (file : List ℕ) (range : Range) (chosen : ℕ → Bool) (t : Top) (f : ChunkIndexFields) (others : List Top) (all : ℕ) → IsChunkIndex t f → IndexesCost file range chosen (t ∷ others) all → OneIndex file range chosen f others all
+one_index file range chosen t f others all is (next_index u us cost rest costs more) = record {
   missed = λ none. (rest, more, omega arith);
   met = λ meets.
       let (n, own, few) = costs f is meets in
       record { cost = n; ends = false; is = own; within = omega (arith, few); behind = λ e. (rest, more, omega (arith, few)) };
 }
-one_index file range t f others all is (last_index u us g cost shows meets own) =
+one_index file range chosen t f others all is (last_index u us g cost shows meets own) =
     let same = chunk_index_once t g f shows is in
     record {
       missed = λ none. absurd (none (subst (λ (h : ChunkIndexFields). Meets range h) same meets));
-      met = λ here. record { cost = cost; ends = true; is = subst (λ (h : ChunkIndexFields). ChunkCost file range h cost true) same own; within = omega arith; behind = λ e. absurd (both_ways false refl (sym e)) };
+      met = λ here. record { cost = cost; ends = true; is = subst (λ (h : ChunkIndexFields). ChunkCost file range chosen h cost true) same own; within = omega arith; behind = λ e. absurd (both_ways false refl (sym e)) };
     }

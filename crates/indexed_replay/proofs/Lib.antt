@@ -14,6 +14,7 @@ pub mod Standing
 pub mod Gathered
 pub mod Firsts
 pub mod Summed
+pub mod Choosing
 pub mod Playing
 pub mod Counted
 pub mod Telling

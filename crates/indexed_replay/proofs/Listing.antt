@@ -21,7 +21,7 @@ use Rattle.indexed_replay.specs.declared.spots.Request.{Request}
 use Rattle.indexed_replay.specs.Reaching.{NamesOffset, LeadsTo, LacksIndex, LacksMessage, no_index, IsTooLong, at_index, at_message, head_length}
 use Rattle.indexed_replay.specs.Replaying.{IsReason}
 use Rattle.indexed_replay.specs.Steps.{FrontStands, AddsEachOnce, IsLedInRange, EntryRefused, EntriesShown, ListAsked}
-use Rattle.indexed_replay.specs.Costs.{entries_cost, ListCost, own_list, other_list, no_list}
+use Rattle.indexed_replay.specs.Costs.{chosen_cost, ListCost, own_list, other_list, no_list}
 use Rattle.indexed_replay.specs.Lists.{IsWantedChannel, Undeclared, KnowsSummaryChannels, HasTimely, IsShownBy, ContentRefused, at_entry, no_channel, too_much, ContentShown, IsLedBy, IsLedOnChannel, ListRefused, ListShown, IsListFound}
 use Rattle.indexed_replay.specs.HoldingSteps.{OverfullAt}
 use Rattle.indexed_replay.proofs.Headed.{there_begun}
@@ -153,18 +153,18 @@ whole_asked file out at op len before now front seven few = record {
 }
 
 -- no message of it was asked for
-pub cost_front : (file : List ℕ) (range : Range) (spot : Spot) (cost before now : ℕ) → ListCost file range spot cost → ListAsked file spot.list before now → now ≤ before + cost
-cost_front file range spot cost before now (own_list list entries there is) asked = let few = asked.there in omega (arith, few list there is.kind)
-cost_front file range spot cost before now (other_list list there seven lacks) asked = let few = asked.there in few list there seven
-cost_front file range spot cost before now (no_list lacks) asked = let few = asked.none in few lacks
+pub cost_front : (file : List ℕ) (range : Range) (chosen : ℕ → Bool) (spot : Spot) (cost before now : ℕ) → ListCost file range chosen spot cost → ListAsked file spot.list before now → now ≤ before + cost
+cost_front file range chosen spot cost before now (own_list list entries there is) asked = let few = asked.there in omega (arith, few list there is.kind)
+cost_front file range chosen spot cost before now (other_list list there seven lacks) asked = let few = asked.there in few list there seven
+cost_front file range chosen spot cost before now (no_list lacks) asked = let few = asked.none in few lacks
 
 -- its messages were asked for too
-pub cost_content : (file : List ℕ) (range : Range) (spot : Spot) (content : List ℕ) (entries : List (ℕ × ℕ)) (cost before mid now : ℕ) → ListCost file range spot cost → IsThere file spot.list (top 7 content) → ShowsMessageIndex content spot.channel entries → ListAsked file spot.list before mid
-    → ((own : List (ℕ × ℕ)) → ShowsMessageIndex content spot.channel own → now ≤ mid + entries_cost file range spot.chunk own) → now ≤ before + cost
-cost_content file range spot content entries cost before mid now (own_list list own there is) here shows asked more =
+pub cost_content : (file : List ℕ) (range : Range) (chosen : ℕ → Bool) (spot : Spot) (content : List ℕ) (entries : List (ℕ × ℕ)) (cost before mid now : ℕ) → ListCost file range chosen spot cost → IsThere file spot.list (top 7 content) → ShowsMessageIndex content spot.channel entries → ListAsked file spot.list before mid
+    → ((own : List (ℕ × ℕ)) → ShowsMessageIndex content spot.channel own → now ≤ mid + chosen_cost file range chosen spot own) → now ≤ before + cost
+cost_content file range chosen spot content entries cost before mid now (own_list list own there is) here shows asked more =
     let few = asked.there in
     let same = same_there file spot.list list (top 7 content) there here in
     let shown = subst (λ (t : Top). IsMessageIndex t spot.channel own) same is in
     omega (arith, few list there is.kind, more own shown.layout)
-cost_content file range spot content entries cost before mid now (other_list list there seven lacks) here shows asked more = absurd (lacks (top 7 content) entries here (record { kind = refl; layout = shows }))
-cost_content file range spot content entries cost before mid now (no_list lacks) here shows asked more = absurd (lacks (top 7 content) here refl)
+cost_content file range chosen spot content entries cost before mid now (other_list list there seven lacks) here shows asked more = absurd (lacks (top 7 content) entries here (record { kind = refl; layout = shows }))
+cost_content file range chosen spot content entries cost before mid now (no_list lacks) here shows asked more = absurd (lacks (top 7 content) here refl)

@@ -136,31 +136,31 @@ chunk_reason file request at f refusals.Memory refused reached = tt
 -- ---- what is asked for
 
 -- the first of those that are named costs so much; and where it is there, the others behind it
-pub record OneName (file : List ℕ) (range : Range) (chunk : ℕ) (named : ℕ × ℕ) (others : List (ℕ × ℕ)) (all : ℕ × Bool) : Type 0 where
+pub record OneName (file : List ℕ) (range : Range) (chosen : ℕ → Bool) (chunk : ℕ) (named : ℕ × ℕ) (others : List (ℕ × ℕ)) (all : ℕ × Bool) : Type 0 where
   pub cost : ℕ
-  pub is : ListCost file range (spot_of chunk named) cost
+  pub is : ListCost file range chosen (spot_of chunk named) cost
   pub within : cost ≤ all.0
-  pub behind : (LacksIndex file named.0 named.1 → ⊥) → (rest : ℕ) × NamesCost file range chunk others rest all.1 × (cost + rest ≤ all.0)
+  pub behind : (LacksIndex file named.0 named.1 → ⊥) → (rest : ℕ) × NamesCost file range chosen chunk others rest all.1 × (cost + rest ≤ all.0)
 
-pub one_name : (file : List ℕ) (range : Range) (chunk : ℕ) (named : ℕ × ℕ) (others : List (ℕ × ℕ)) (all : ℕ) (ends : Bool) → NamesCost file range chunk (named ∷ others) all ends → OneName file range chunk named others (all, ends)
-one_name file range chunk named others all ends (next_name x xs cost rest last is more) = record { cost = cost; is = is; within = omega arith; behind = λ found. (rest, more, omega arith) }
-one_name file range chunk named others all ends (last_name x xs cost is lacks) = record { cost = cost; is = is; within = omega arith; behind = λ found. absurd (found lacks) }
+pub one_name : (file : List ℕ) (range : Range) (chosen : ℕ → Bool) (chunk : ℕ) (named : ℕ × ℕ) (others : List (ℕ × ℕ)) (all : ℕ) (ends : Bool) → NamesCost file range chosen chunk (named ∷ others) all ends → OneName file range chosen chunk named others (all, ends)
+one_name file range chosen chunk named others all ends (next_name x xs cost rest last is more) = record { cost = cost; is = is; within = omega arith; behind = λ found. (rest, more, omega arith) }
+one_name file range chosen chunk named others all ends (last_name x xs cost is lacks) = record { cost = cost; is = is; within = omega arith; behind = λ found. absurd (found lacks) }
 
 -- behind none of them a replay ends
-pub no_name_ends : (file : List ℕ) (range : Range) (chunk : ℕ) (names : List (ℕ × ℕ)) (cost : ℕ) (ends : Bool) → length names ≡ 0 → NamesCost file range chunk names cost ends → ends ≡ false
-no_name_ends file range chunk names cost ends none no_name = refl
-no_name_ends file range chunk names cost ends none (next_name named others own rest more is are) = absurd (omega (arith, none))
-no_name_ends file range chunk names cost ends none (last_name named others own is lacks) = absurd (omega (arith, none))
+pub no_name_ends : (file : List ℕ) (range : Range) (chosen : ℕ → Bool) (chunk : ℕ) (names : List (ℕ × ℕ)) (cost : ℕ) (ends : Bool) → length names ≡ 0 → NamesCost file range chosen chunk names cost ends → ends ≡ false
+no_name_ends file range chosen chunk names cost ends none no_name = refl
+no_name_ends file range chosen chunk names cost ends none (next_name named others own rest more is are) = absurd (omega (arith, none))
+no_name_ends file range chosen chunk names cost ends none (last_name named others own is lacks) = absurd (omega (arith, none))
 
 no_names : (names : List (ℕ × ℕ)) → length names ≡ 0 → Rattle.std.proofs.Common.◌≡◌ {A = List (ℕ × ℕ)} names []
 no_names [] none = refl
 no_names (x ∷ xs) none = absurd (omega (arith, none))
 
-pub empty_goes_on : (file : List ℕ) (range : Range) (f : ChunkIndexFields) (cost : ℕ) (ends : Bool) → length f.indexes ≡ 0 → ChunkCost file range f cost ends → ends ≡ false
-empty_goes_on file range f cost ends none (empty_map is) = refl
-empty_goes_on file range f cost ends none (plain_chunk end names last stands are) = no_name_ends file range f.offset f.indexes names last none are
-empty_goes_on file range f cost ends none (compressed_chunk size some is) = absurd (some (no_names f.indexes none))
-empty_goes_on file range f cost ends none (lacking_chunk some no_end no_pack) = absurd (some (no_names f.indexes none))
+pub empty_goes_on : (file : List ℕ) (range : Range) (chosen : ℕ → Bool) (f : ChunkIndexFields) (cost : ℕ) (ends : Bool) → length f.indexes ≡ 0 → ChunkCost file range chosen f cost ends → ends ≡ false
+empty_goes_on file range chosen f cost ends none (empty_map is) = refl
+empty_goes_on file range chosen f cost ends none (plain_chunk end names last stands are) = no_name_ends file range chosen f.offset f.indexes names last none are
+empty_goes_on file range chosen f cost ends none (compressed_chunk size some is) = absurd (some (no_names f.indexes none))
+empty_goes_on file range chosen f cost ends none (lacking_chunk some no_end no_pack) = absurd (some (no_names f.indexes none))
 
 -- no chunk is packed and isn't
 plain_once : (file : List ℕ) (at end size : ℕ) → ChunkEndsAt file at end → IsPackedAs file at size → ⊥
@@ -170,25 +170,25 @@ plain_once file at end size ends is =
     some (sym is.named ∙ sym (ap (λ (t : Top). text_length t.content 28) same) ∙ ends.unpacked)
 
 -- what was asked for of a chunk's front is within what it costs
-pub front_enough : (file : List ℕ) (range : Range) (f : ChunkIndexFields) (cost : ℕ) (ends : Bool) (before now : ℕ) → (length f.indexes ≡ 0 → ⊥) → ChunkCost file range f cost ends → FrontAsked file f.offset before now → now ≤ before + cost
-front_enough file range f cost ends before now some (empty_map is) asked = absurd (some (ap (λ (l : List (ℕ × ℕ)). length l) is))
-front_enough file range f cost ends before now some (plain_chunk end names last stands are) asked = let few = asked.plain in omega (arith, few (λ size is. plain_once file f.offset end size stands is))
-front_enough file range f cost ends before now some (compressed_chunk size more is) asked = let few = asked.packed in few size is
-front_enough file range f cost ends before now some (lacking_chunk more no_end no_pack) asked = let few = asked.plain in few no_pack
+pub front_enough : (file : List ℕ) (range : Range) (chosen : ℕ → Bool) (f : ChunkIndexFields) (cost : ℕ) (ends : Bool) (before now : ℕ) → (length f.indexes ≡ 0 → ⊥) → ChunkCost file range chosen f cost ends → FrontAsked file f.offset before now → now ≤ before + cost
+front_enough file range chosen f cost ends before now some (empty_map is) asked = absurd (some (ap (λ (l : List (ℕ × ℕ)). length l) is))
+front_enough file range chosen f cost ends before now some (plain_chunk end names last stands are) asked = let few = asked.plain in omega (arith, few (λ size is. plain_once file f.offset end size stands is))
+front_enough file range chosen f cost ends before now some (compressed_chunk size more is) asked = let few = asked.packed in few size is
+front_enough file range chosen f cost ends before now some (lacking_chunk more no_end no_pack) asked = let few = asked.plain in few no_pack
 
 -- what was asked for of a chunk's front, and then of its Message Indexes
 asked_chunk : (file : List ℕ) (request : Request) (at : ℕ) (f : ChunkIndexFields) (names : ℕ) (ends : Bool) (before mid now : ℕ) (result : Result Unit IndexedRefused) → mid ≤ before + plain_length → ChunkAsked file request at f (names, ends) (mid, now) result → ChunkAsked file request at f (plain_length + names, ends) (before, now) result
 asked_chunk file request at f names ends before mid now (Ok it) first more = (omega (arith, first, more.0), more.1)
 asked_chunk file request at f names ends before mid now (Err why) first more = λ knows reached. let (beside, is, few) = more knows reached in (beside, is, omega (arith, first, few))
 
-pub names_enough : (file : List ℕ) (request : Request) (at : ℕ) (f : ChunkIndexFields) (end cost : ℕ) (ends : Bool) (before mid now : ℕ) (result : Result Unit IndexedRefused) → (length f.indexes ≡ 0 → ⊥) → ChunkEndsAt file f.offset end → FrontAsked file f.offset before mid
-    → ((names : ℕ) (last : Bool) → NamesCost file request.range f.offset f.indexes names last → ChunkAsked file request at f (names, last) (mid, now) result) → ChunkCost file request.range f cost ends → ChunkAsked file request at f (cost, ends) (before, now) result
-names_enough file request at f end cost ends before mid now result some stands asked more (empty_map is) = absurd (some (ap (λ (l : List (ℕ × ℕ)). length l) is))
-names_enough file request at f end cost ends before mid now result some stands asked more (plain_chunk other names last there are) =
+pub names_enough : (file : List ℕ) (request : Request) (chosen : ℕ → Bool) (at : ℕ) (f : ChunkIndexFields) (end cost : ℕ) (ends : Bool) (before mid now : ℕ) (result : Result Unit IndexedRefused) → (length f.indexes ≡ 0 → ⊥) → ChunkEndsAt file f.offset end → FrontAsked file f.offset before mid
+    → ((names : ℕ) (last : Bool) → NamesCost file request.range chosen f.offset f.indexes names last → ChunkAsked file request at f (names, last) (mid, now) result) → ChunkCost file request.range chosen f cost ends → ChunkAsked file request at f (cost, ends) (before, now) result
+names_enough file request chosen at f end cost ends before mid now result some stands asked more (empty_map is) = absurd (some (ap (λ (l : List (ℕ × ℕ)). length l) is))
+names_enough file request chosen at f end cost ends before mid now result some stands asked more (plain_chunk other names last there are) =
     let few = asked.plain in
     asked_chunk file request at f names last before mid now result (few (λ size is. plain_once file f.offset end size stands is)) (more names last are)
-names_enough file request at f end cost ends before mid now result some stands asked more (compressed_chunk size nonempty is) = absurd (plain_once file f.offset end size stands is)
-names_enough file request at f end cost ends before mid now result some stands asked more (lacking_chunk nonempty no_end no_pack) = absurd (no_end end stands)
+names_enough file request chosen at f end cost ends before mid now result some stands asked more (compressed_chunk size nonempty is) = absurd (plain_once file f.offset end size stands is)
+names_enough file request chosen at f end cost ends before mid now result some stands asked more (lacking_chunk nonempty no_end no_pack) = absurd (no_end end stands)
 
 -- the same of one among several
 pub asked_among : (file : List ℕ) (range : Range) (before mid now last all rest : ℕ) → mid + rest ≤ before + all → last ≤ rest → AskedBeside file range mid now last → AskedBeside file range before now all

@@ -19,7 +19,7 @@ use Rattle.indexed_replay.specs.Reaching.{IsReached, ChunkEndsAt, LacksChunk, Is
 use Rattle.indexed_replay.specs.Replaying.{IsReason}
 use Rattle.indexed_replay.specs.Steps.{AddsEachOnce}
 use Rattle.indexed_replay.specs.HoldingSteps.{OverfullAt}
-use Rattle.indexed_replay.specs.Lists.{KnowsSummaryChannels, IsLedBy, IsLedOnChannel}
+use Rattle.indexed_replay.specs.Lists.{KnowsSummaryChannels, Chooses, IsLedBy, IsLedOnChannel}
 use Rattle.indexed_replay.specs.Costs.{front_length, plain_length, IsPackedAs, spot_of, NamesCost, ChunkCost}
 
 -- ---- the front of a chunk
@@ -122,12 +122,14 @@ ChunkAsked file request at f cost asked (Err why) = KnowsSummaryChannels file re
 -- the same where the chunk ends at that offset
 abbrev pub AsksNames : Request → ℕ → ℕ → ChunkIndexFields → StoreState → StoreState → Result Unit IndexedRefused
     → Type 0
-AsksNames request at end f old new result = (file : List ℕ) (cost : ℕ) (ends : Bool) → old.bytes ≡ Some file
+AsksNames request at end f old new result = (file : List ℕ) (chosen : ℕ → Bool) (cost : ℕ) (ends : Bool)
+    → old.bytes ≡ Some file → Chooses request chosen
     → length file ≡ request.len → ChunkEndsAt file f.offset end
-    → NamesCost file request.range f.offset f.indexes cost ends
+    → NamesCost file request.range chosen f.offset f.indexes cost ends
     → ChunkAsked file request at f (cost, ends) (old.asked, new.asked) result
 
 abbrev pub AsksChunk : Request → ℕ → ChunkIndexFields → StoreState → StoreState → Result Unit IndexedRefused → Type 0
-AsksChunk request at f old new result = (file : List ℕ) (cost : ℕ) (ends : Bool) → old.bytes ≡ Some file
-    → length file ≡ request.len → ChunkCost file request.range f cost ends
+AsksChunk request at f old new result = (file : List ℕ) (chosen : ℕ → Bool) (cost : ℕ) (ends : Bool)
+    → old.bytes ≡ Some file → Chooses request chosen → length file ≡ request.len
+    → ChunkCost file request.range chosen f cost ends
     → ChunkAsked file request at f (cost, ends) (old.asked, new.asked) result

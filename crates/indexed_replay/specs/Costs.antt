@@ -1,14 +1,29 @@
 -- How many bytes a replay by the index asks for, of what its summary leads to.
-use Rattle.std.specs.Prelude.{◌≡◌, ◌≢◌, ℕ, ◌+◌, ◌≤◌, List, [], ◌∷◌, length, Bool, true, false, ◌-◌, drop, sum_by, if◌then◌else◌}
+use Rattle.std.specs.Prelude.{◌≡◌, ◌≢◌, ℕ, ◌+◌, ◌≤◌, List, [], ◌∷◌, length, Bool, true, false, Option, ◌-◌, drop, sum_by, if◌then◌else◌}
 use Rattle.mcap_wire.specs.Layout.{text_length}
 use Rattle.rec_index.specs.Records.{chunk_opcode, message_index_opcode}
 use Rattle.mcap_model.specs.declared.replay.Range.{Range}
 use Rattle.mcap_model.specs.Tops.{Top, top_bytes, declared_length, is_whole}
 use Rattle.mcap_model.specs.Fields.{ChunkIndexFields, IsChunkIndex, IsMessageIndex}
-use Rattle.mcap_model.specs.Led.{IsThere, Meets}
+use Rattle.mcap_model.specs.Led.{HasSummary, FirstTopic, IsThere, Meets}
 use Rattle.indexed_replay.specs.declared.spots.Spot.{Spot}
 use Rattle.indexed_replay.specs.Reaching.{ChunkEndsAt, LacksIndex, head_length}
-use Rattle.mcap_model.specs.Scan.{is_within}
+use Rattle.mcap_model.specs.Scan.{is_within, OnTopic}
+
+-- ---- channels
+
+-- the first Channel of that id in the summary has the topic that is asked for, if one is
+pub record IsOnTopic (file : List ℕ) (topic : Option (List ℕ)) (channel : ℕ) : Type 0 where
+  pub start : ℕ
+  pub summary : List Top
+  pub has : HasSummary file start summary
+  pub name : List ℕ
+  pub first : FirstTopic summary channel name
+  pub on : OnTopic topic name
+
+-- a choice of channels has all of those
+abbrev pub HasChannelsOn : List ℕ → Option (List ℕ) → (ℕ → Bool) → Type 0
+HasChannelsOn file topic chosen = (channel : ℕ) → IsOnTopic file topic channel → chosen channel ≡ true
 
 -- ---- a message
 
@@ -25,21 +40,26 @@ entry_cost file range chunk entry = if is_within range entry.0 then message_cost
 abbrev pub entries_cost : List ℕ → Range → ℕ → List (ℕ × ℕ) → ℕ
 entries_cost file range chunk entries = sum_by (entry_cost file range chunk) entries
 
+-- the same, where its channel is one of those that are asked for
+abbrev pub chosen_cost : List ℕ → Range → (ℕ → Bool) → Spot → List (ℕ × ℕ) → ℕ
+chosen_cost file range chosen spot entries =
+    if chosen spot.channel then entries_cost file range spot.chunk entries else 0
+
 -- ---- a Message Index
 
 -- no Message Index stands there, of whatever channel
 abbrev pub LacksList : List ℕ → ℕ → Type 0
 LacksList file at = (t : Top) → IsThere file at t → t.op ≡ message_index_opcode → ⊥
 
--- What its reading asks for: all of it and the messages in the range; or all of what stands there as a Message Index, which
--- isn't one of that channel; or the head of what else stands there.
-pub data ListCost (file : List ℕ) (range : Range) (spot : Spot) : ℕ → Type 0 where
+-- What its reading asks for: all of it and the messages in the range, where its channel is asked for; or all of what stands
+-- there as a Message Index, which isn't one of that channel; or the head of what else stands there.
+pub data ListCost (file : List ℕ) (range : Range) (chosen : ℕ → Bool) (spot : Spot) : ℕ → Type 0 where
   own_list : (list : Top) (entries : List (ℕ × ℕ)) → IsThere file spot.list list
       → IsMessageIndex list spot.channel entries
-      → ListCost file range spot (length (top_bytes list) + entries_cost file range spot.chunk entries)
+      → ListCost file range chosen spot (length (top_bytes list) + chosen_cost file range chosen spot entries)
   other_list : (list : Top) → IsThere file spot.list list → list.op ≡ message_index_opcode
-      → LacksIndex file spot.channel spot.list → ListCost file range spot (length (top_bytes list))
-  no_list : LacksList file spot.list → ListCost file range spot head_length
+      → LacksIndex file spot.channel spot.list → ListCost file range chosen spot (length (top_bytes list))
+  no_list : LacksList file spot.list → ListCost file range chosen spot head_length
 
 -- ---- what is asked for of it
 
@@ -69,35 +89,39 @@ spot_of chunk named = record { chunk = chunk; list = named.1; channel = named.0 
 
 -- What the Message Indexes that are named cost one after the other, up to the first that isn't there; and whether there is
 -- such a one, at which a replay ends.
-pub data NamesCost (file : List ℕ) (range : Range) (chunk : ℕ) : List (ℕ × ℕ) → ℕ → Bool → Type 0 where
-  no_name : NamesCost file range chunk [] 0 false
+pub data NamesCost (file : List ℕ) (range : Range) (chosen : ℕ → Bool) (chunk : ℕ)
+    : List (ℕ × ℕ) → ℕ → Bool → Type 0 where
+  no_name : NamesCost file range chosen chunk [] 0 false
   next_name : (named : ℕ × ℕ) (others : List (ℕ × ℕ)) (cost rest : ℕ) (ends : Bool)
-      → ListCost file range (spot_of chunk named) cost → NamesCost file range chunk others rest ends
-      → NamesCost file range chunk (named ∷ others) (cost + rest) ends
-  last_name : (named : ℕ × ℕ) (others : List (ℕ × ℕ)) (cost : ℕ) → ListCost file range (spot_of chunk named) cost
-      → LacksIndex file named.0 named.1 → NamesCost file range chunk (named ∷ others) cost true
+      → ListCost file range chosen (spot_of chunk named) cost → NamesCost file range chosen chunk others rest ends
+      → NamesCost file range chosen chunk (named ∷ others) (cost + rest) ends
+  last_name : (named : ℕ × ℕ) (others : List (ℕ × ℕ)) (cost : ℕ)
+      → ListCost file range chosen (spot_of chunk named) cost → LacksIndex file named.0 named.1
+      → NamesCost file range chosen chunk (named ∷ others) cost true
 
 -- What a Chunk Index costs, and whether a replay ends there. An empty map costs nothing. Of a chunk without a compression it is
 -- what stands in front of its records, and what its Message Indexes cost; of one that names a compression its front with that
 -- name besides; and of what is no chunk as much as such a front has.
-pub data ChunkCost (file : List ℕ) (range : Range) (f : ChunkIndexFields) : ℕ → Bool → Type 0 where
-  empty_map : f.indexes ≡ [] → ChunkCost file range f 0 false
+pub data ChunkCost (file : List ℕ) (range : Range) (chosen : ℕ → Bool) (f : ChunkIndexFields) : ℕ → Bool → Type 0 where
+  empty_map : f.indexes ≡ [] → ChunkCost file range chosen f 0 false
   plain_chunk : (end cost : ℕ) (ends : Bool) → ChunkEndsAt file f.offset end
-      → NamesCost file range f.offset f.indexes cost ends → ChunkCost file range f (plain_length + cost) ends
+      → NamesCost file range chosen f.offset f.indexes cost ends
+      → ChunkCost file range chosen f (plain_length + cost) ends
   compressed_chunk : (size : ℕ) → f.indexes ≢ [] → IsPackedAs file f.offset size
-      → ChunkCost file range f (plain_length + (front_length + size)) true
+      → ChunkCost file range chosen f (plain_length + (front_length + size)) true
   lacking_chunk : f.indexes ≢ [] → ((end : ℕ) → ChunkEndsAt file f.offset end → ⊥)
-      → ((size : ℕ) → IsPackedAs file f.offset size → ⊥) → ChunkCost file range f plain_length true
+      → ((size : ℕ) → IsPackedAs file f.offset size → ⊥) → ChunkCost file range chosen f plain_length true
 
 -- At most so much of the chunk of that Chunk Index, where it meets the range; and a replay doesn't end there.
-abbrev pub CostsUpTo : List ℕ → Range → Top → ℕ → Type 0
-CostsUpTo file range t cost =
-    (f : ChunkIndexFields) → IsChunkIndex t f → Meets range f → (n : ℕ) × ChunkCost file range f n false × (n ≤ cost)
+abbrev pub CostsUpTo : List ℕ → Range → (ℕ → Bool) → Top → ℕ → Type 0
+CostsUpTo file range chosen t cost =
+    (f : ChunkIndexFields) → IsChunkIndex t f → Meets range f
+    → (n : ℕ) × ChunkCost file range chosen f n false × (n ≤ cost)
 
 -- what the Chunk Indexes cost one after the other, up to the first that meets the range and at which a replay ends
-pub data IndexesCost (file : List ℕ) (range : Range) : List Top → ℕ → Type 0 where
-  no_index : IndexesCost file range [] 0
-  next_index : (t : Top) (others : List Top) (cost rest : ℕ) → CostsUpTo file range t cost
-      → IndexesCost file range others rest → IndexesCost file range (t ∷ others) (cost + rest)
+pub data IndexesCost (file : List ℕ) (range : Range) (chosen : ℕ → Bool) : List Top → ℕ → Type 0 where
+  no_index : IndexesCost file range chosen [] 0
+  next_index : (t : Top) (others : List Top) (cost rest : ℕ) → CostsUpTo file range chosen t cost
+      → IndexesCost file range chosen others rest → IndexesCost file range chosen (t ∷ others) (cost + rest)
   last_index : (t : Top) (others : List Top) (f : ChunkIndexFields) (cost : ℕ) → IsChunkIndex t f → Meets range f
-      → ChunkCost file range f cost true → IndexesCost file range (t ∷ others) cost
+      → ChunkCost file range chosen f cost true → IndexesCost file range chosen (t ∷ others) cost

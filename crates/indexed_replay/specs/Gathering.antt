@@ -1,5 +1,5 @@
 -- What the Chunk Indexes of a summary add to a replay, and the Channels that are known.
-use Rattle.std.specs.Prelude.{◌≡◌, ◌⊎◌, ℕ, ◌+◌, ◌<◌, ◌≤◌, List, length, Option, Some, Result, Ok, Err}
+use Rattle.std.specs.Prelude.{◌≡◌, ◌⊎◌, ℕ, ◌+◌, ◌<◌, ◌≤◌, List, length, Bool, Option, Some, Result, Ok, Err}
 use Rattle.mcap_io.specs.Stores.{StoreState}
 use Rattle.rec_data.specs.Records.{channel_opcode}
 use Rattle.mcap_model.specs.declared.replay.Shown.{Shown}
@@ -16,7 +16,7 @@ use Rattle.indexed_replay.specs.Reaching.{HasChunkIndex, AskedBeside}
 use Rattle.indexed_replay.specs.Replaying.{IsReason}
 use Rattle.indexed_replay.specs.Steps.{AddsEachOnce}
 use Rattle.indexed_replay.specs.HoldingSteps.{OverfullAt}
-use Rattle.indexed_replay.specs.Lists.{KnowsSummaryChannels, IsLedOnChannel}
+use Rattle.indexed_replay.specs.Lists.{KnowsSummaryChannels, Chooses, IsLedOnChannel}
 use Rattle.indexed_replay.specs.Costs.{spot_of, IndexesCost}
 use Rattle.indexed_replay.specs.Chunks.{IsLedAmong}
 
@@ -101,6 +101,7 @@ AllAsked file request tops offsets cost asked (Err why) = KnowsSummaryChannels f
     → AreIndexed file tops offsets → AskedBeside file request.range asked.0 asked.1 cost
 
 abbrev pub AsksAll : Request → List Top → List ℕ → StoreState → StoreState → Result Unit IndexedRefused → Type 0
-AsksAll request tops offsets old new result = (file : List ℕ) (cost : ℕ) → old.bytes ≡ Some file
-    → length file ≡ request.len → IndexesCost file request.range tops cost
+AsksAll request tops offsets old new result = (file : List ℕ) (chosen : ℕ → Bool) (cost : ℕ)
+    → old.bytes ≡ Some file → Chooses request chosen → length file ≡ request.len
+    → IndexesCost file request.range chosen tops cost
     → AllAsked file request tops offsets cost (old.asked, new.asked) result

@@ -1,6 +1,7 @@
 -- What `Runs` of mcap_app reaches, in the order to read it.
 pub mod Reaching
 pub mod Costs
+pub mod Bounds
 pub mod Holding
 pub mod Played
 pub mod Replaying

@@ -24,7 +24,7 @@ use Rattle.indexed_replay.specs.Replaying.{IsReason}
 use Rattle.time_player.specs.Ordering.{led_as}
 use Rattle.indexed_replay.specs.HoldingSteps.{OverfullAt}
 use Rattle.indexed_replay.specs.Steps.{AddsEachOnce, IsLedInRange, LacksListed, EntriesRefused}
-use Rattle.indexed_replay.specs.Costs.{entries_cost, ListCost}
+use Rattle.indexed_replay.specs.Costs.{chosen_cost, ListCost}
 
 -- ---- channels
 
@@ -37,6 +37,12 @@ pub record IsWantedChannel (channels : List Declared) (channel : ℕ) (topic : O
   pub id_is : declared.id ≡ channel
   pub is : IsChannel (top channel_opcode declared.content) channel shown
   pub on_topic : OnTopic topic shown.topic
+
+-- a choice of channels has all that are wanted
+pub record Chooses (request : Request) (chosen : ℕ → Bool) : Type 0 where
+  pub declare : DeclareChannels request.tables.now.channels
+  pub all : (channel : ℕ) → IsWantedChannel request.tables.now.channels channel (asked_topic request.topic)
+      → chosen channel ≡ true
 
 -- none of that id was declared
 abbrev pub Undeclared : List Declared → ℕ → Type 0
@@ -92,9 +98,10 @@ ShowsContent told request spot content shown result = (file : List ℕ) (entries
     → ShowsMessageIndex content spot.channel entries → ContentShown file request spot entries shown result
 
 abbrev pub AsksContent : Request → Spot → List ℕ → StoreState → StoreState → Type 0
-AsksContent request spot content old new = (file : List ℕ) (entries : List (ℕ × ℕ)) → old.bytes ≡ Some file
-    → length file ≡ request.len → ShowsMessageIndex content spot.channel entries
-    → new.asked ≤ old.asked + entries_cost file request.range spot.chunk entries
+AsksContent request spot content old new = (file : List ℕ) (chosen : ℕ → Bool) (entries : List (ℕ × ℕ))
+    → old.bytes ≡ Some file → Chooses request chosen → length file ≡ request.len
+    → ShowsMessageIndex content spot.channel entries
+    → new.asked ≤ old.asked + chosen_cost file request.range chosen spot entries
 
 -- ---- a Message Index
 
@@ -131,8 +138,9 @@ ShowsList told request at spot shown result = (file : List ℕ) → told ≡ Som
     → KnowsSummaryChannels file request.tables.now.channels → ListShown file request at spot shown result
 
 abbrev pub AsksList : Request → Spot → StoreState → StoreState → Type 0
-AsksList request spot old new = (file : List ℕ) (cost : ℕ) → old.bytes ≡ Some file → length file ≡ request.len
-    → ListCost file request.range spot cost → new.asked ≤ old.asked + cost
+AsksList request spot old new = (file : List ℕ) (chosen : ℕ → Bool) (cost : ℕ) → old.bytes ≡ Some file
+    → Chooses request chosen → length file ≡ request.len → ListCost file request.range chosen spot cost
+    → new.asked ≤ old.asked + cost
 
 -- it is there, unless its messages aren't shown
 abbrev pub IsListFound : List ℕ → Spot → Result Bool IndexedRefused → Type 0

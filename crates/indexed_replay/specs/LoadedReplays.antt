@@ -1,5 +1,5 @@
 -- What playing a file comes to whose parts are loaded.
-use Rattle.std.specs.Prelude.{◌≡◌, ◌≢◌, ℕ, List, length, Option, Some, None, Result, Ok, Err}
+use Rattle.std.specs.Prelude.{◌≡◌, ◌≢◌, ℕ, List, length, Bool, Option, Some, None, Result, Ok, Err}
 use Rattle.mcap_io.specs.Stores.{StoreState}
 use Rattle.mcap_model.specs.declared.replay.Range.{Range}
 use Rattle.mcap_model.specs.declared.replay.Replayed.{Replayed}
@@ -11,7 +11,7 @@ use Rattle.mcap_model.specs.declared.refusals.NotIndexed.TheVariants as lacks
 use Rattle.mcap_model.specs.declared.refusals.IndexedRefused.{IndexedRefused}
 use Rattle.indexed_replay.specs.Reaching.{AskedBeside}
 use Rattle.indexed_replay.specs.Replaying.{FileIsLed}
-use Rattle.indexed_replay.specs.Costs.{IndexesCost}
+use Rattle.indexed_replay.specs.Costs.{HasChannelsOn, IndexesCost}
 use Rattle.indexed_replay.specs.Played.{PartsAgree}
 
 -- the Statistics states another number of chunks than there are Chunk Indexes
@@ -37,6 +37,7 @@ abbrev pub PlaysLoaded : Option (List ℕ) → Parts → Range → Option (List 
 PlaysLoaded told parts range topic result =
     (file : List ℕ) → told ≡ Some file → IsLoaded file parts → FileIsLed file range topic result
 
-abbrev pub AsksLoaded : Parts → Range → StoreState → StoreState → Type 0
-AsksLoaded parts range old new = (file : List ℕ) (cost : ℕ) → old.bytes ≡ Some file → IsLoaded file parts
-    → IndexesCost file range parts.chunk_indexes cost → AskedBeside file range old.asked new.asked cost
+abbrev pub AsksLoaded : Parts → Range → Option (List ℕ) → StoreState → StoreState → Type 0
+AsksLoaded parts range topic old new = (file : List ℕ) (chosen : ℕ → Bool) (cost : ℕ) → old.bytes ≡ Some file
+    → IsLoaded file parts → HasChannelsOn file topic chosen → IndexesCost file range chosen parts.chunk_indexes cost
+    → AskedBeside file range old.asked new.asked cost

@@ -1,5 +1,5 @@
 -- What the steps of a replay come to, from the summary on.
-use Rattle.std.specs.Prelude.{◌≡◌, ℕ, ◌+◌, ◌≤◌, List, length, Some}
+use Rattle.std.specs.Prelude.{◌≡◌, ℕ, ◌+◌, ◌≤◌, List, length, Bool, Option, Some}
 use Rattle.rec_index.specs.Records.{chunk_index_opcode}
 use Rattle.mcap_io.specs.Stores.{StoreState}
 use Rattle.mcap_model.specs.declared.replay.Range.{Range}
@@ -7,11 +7,12 @@ use Rattle.mcap_model.specs.Tops.{Top, top_bytes, spelled}
 use Rattle.mcap_model.specs.Fields.{StatisticsFields, IsStatistics}
 use Rattle.mcap_model.specs.Kept.{reading_limits, at_end, Halts}
 use Rattle.mcap_model.specs.Valid.{IsFullyIndexed}
-use Rattle.mcap_model.specs.Led.{HasSummary, IsThere, AskedBound}
+use Rattle.mcap_model.specs.Led.{HasSummary, IsThere}
 use Rattle.summary_read.specs.Parts.{Parts, IsLoaded, of_kind}
 use Rattle.summary_read.specs.Loading.{AskedFor}
 use Rattle.indexed_replay.specs.Reaching.{AskedBeside}
-use Rattle.indexed_replay.specs.Costs.{IndexesCost}
+use Rattle.indexed_replay.specs.Costs.{HasChannelsOn, IndexesCost}
+use Rattle.indexed_replay.specs.Bounds.{AskedBound}
 
 -- ---- counts
 
@@ -27,11 +28,12 @@ pub record PartsAgree (parts : Parts) : Type 0 where
 
 -- Where these are the records of the summary and the Header, and this is what the Chunk Indexes cost whose times meet the
 -- range, up to the first at which a replay ends, no more is asked for than these, the magic and the Footer with the last magic,
--- and what is asked for beside.
-abbrev pub AsksIndexed : Range → StoreState → StoreState → Type 0
-AsksIndexed range old new = (file : List ℕ) (start : ℕ) (summary : List Top) (header : Top) (cost : ℕ)
-    → old.bytes ≡ Some file → HasSummary file start summary → IsThere file 8 header
-    → IndexesCost file range (of_kind chunk_index_opcode summary) cost
+-- and what is asked for beside. Of messages those alone count whose channels are on the topic that is asked for.
+abbrev pub AsksIndexed : Range → Option (List ℕ) → StoreState → StoreState → Type 0
+AsksIndexed range topic old new =
+    (file : List ℕ) (start : ℕ) (summary : List Top) (header : Top) (chosen : ℕ → Bool) (cost : ℕ)
+    → old.bytes ≡ Some file → HasSummary file start summary → IsThere file 8 header → HasChannelsOn file topic chosen
+    → IndexesCost file range chosen (of_kind chunk_index_opcode summary) cost
     → AskedBeside file range old.asked new.asked (8 + length (top_bytes header) + 37 + length (spelled summary) + cost)
 
 -- Of a file whose summary can't be loaded, or doesn't state as many chunks as it has Chunk Indexes, no more is asked for than
@@ -41,8 +43,9 @@ AsksUnloaded old new = (file : List ℕ) → old.bytes ≡ Some file → ((p : P
     → AskedFor file old.asked new.asked
 
 -- Of a fully indexed file that is read to its Data End no more is asked for than these, and of each chunk whose times meet
--- the range its first 49 bytes, its Message Indexes and its messages in the range.
-abbrev pub AsksBound : Range → StoreState → StoreState → Type 0
-AsksBound range old new = (file : List ℕ) (tops : List Top) (end bound : ℕ) → old.bytes ≡ Some file
-    → IsFullyIndexed file → Halts reading_limits file tops (at_end end) → AskedBound file range bound
-    → new.asked ≤ old.asked + bound
+-- the range its first 49 bytes, its Message Indexes and those of its messages in the range whose channels are on the topic.
+abbrev pub AsksBound : Range → Option (List ℕ) → StoreState → StoreState → Type 0
+AsksBound range topic old new =
+    (file : List ℕ) (tops : List Top) (end : ℕ) (chosen : ℕ → Bool) (bound : ℕ) → old.bytes ≡ Some file
+    → IsFullyIndexed file → Halts reading_limits file tops (at_end end) → HasChannelsOn file topic chosen
+    → AskedBound file range chosen bound → new.asked ≤ old.asked + bound

@@ -55,7 +55,7 @@ fn play<T: Store>(
     ensures room { TellsRoom (T.state store.old).bytes result }
     ensures cause { ReplayCause (T.state store.old).faults (T.state store.new).faults result }
     ensures leaves { LeavesStore (T.state store.old) (T.state store.new) }
-    ensures asks { AsksLoaded loaded.now range (T.state store.old) (T.state store.new) }
+    ensures asks { AsksLoaded loaded.now range (asked_topic topic.entry) (T.state store.old) (T.state store.new) }
 {
     let tables = match take_channels(alloc, loaded) {
         Ok(tables) => tables,
@@ -89,9 +89,9 @@ fn play<T: Store>(
 
 /// The messages of the range, and of the topic if one is given, to which the indexes of the file lead that the store
 /// holds, in the order of log time and place (MCAP specification, "Summary Section"). Of the file only the ends, the
-/// summary, and of each chunk that meets the range the front, the Message Indexes and the messages in the range are asked
-/// for. Their payloads stand in one vector, and never more of them than the store has bytes: else a limit is passed at the
-/// Message Index.
+/// summary, and of each chunk that meets the range the front, the Message Indexes and the messages in the range on channels
+/// of the topic are asked for. Their payloads are in one vector, and never more of them than the store has bytes: else a
+/// limit is passed at the Message Index.
 pub fn replay_kept<T: Store>(
     alloc: Global,
     store: &mut T,
@@ -104,9 +104,9 @@ pub fn replay_kept<T: Store>(
     ensures room { TellsRoom (T.state store.old).bytes result }
     ensures unsummed { TellsNoSummary (T.state store.old).bytes result }
     ensures scanned { PlaysScan (T.state store.old).bytes range (asked_topic topic.entry) result }
-    ensures asks { AsksIndexed range (T.state store.old) (T.state store.new) }
+    ensures asks { AsksIndexed range (asked_topic topic.entry) (T.state store.old) (T.state store.new) }
     ensures unloaded { AsksUnloaded (T.state store.old) (T.state store.new) }
-    ensures bounded { AsksBound range (T.state store.old) (T.state store.new) }
+    ensures bounded { AsksBound range (asked_topic topic.entry) (T.state store.old) (T.state store.new) }
     ensures cause { ReplayCause (T.state store.old).faults (T.state store.new).faults result }
     ensures leaves { LeavesStore (T.state store.old) (T.state store.new) }
 {
@@ -148,9 +148,9 @@ pub fn replay_indexed<T: Store>(
     ensures room { TellsRoom (T.state store.old).bytes result }
     ensures unsummed { TellsNoSummary (T.state store.old).bytes result }
     ensures scanned { PlaysScan (T.state store.old).bytes range (asked_topic topic.entry) result }
-    ensures asks { AsksIndexed range (T.state store.old) (T.state store.new) }
+    ensures asks { AsksIndexed range (asked_topic topic.entry) (T.state store.old) (T.state store.new) }
     ensures unloaded { AsksUnloaded (T.state store.old) (T.state store.new) }
-    ensures bounded { AsksBound range (T.state store.old) (T.state store.new) }
+    ensures bounded { AsksBound range (asked_topic topic.entry) (T.state store.old) (T.state store.new) }
     ensures cause { ReplayCause (T.state store.old).faults (T.state store.new).faults result }
     ensures leaves { LeavesStore (T.state store.old) (T.state store.new) }
 {

@@ -1,7 +1,7 @@
 use Rattle.std.proofs.Common.{◌≡◌, ℕ, ◌+◌, ◌≤◌, Bool, List, length, take, drop, Some}
 use Rattle.mcap_io.specs.StoreAnswers.{StoreStays}
 use Rattle.indexed_replay.specs.Steps.{AddsEachOnce}
-use Rattle.indexed_replay.specs.Lists.{KnowsSummaryChannels}
+use Rattle.indexed_replay.specs.Lists.{KnowsSummaryChannels, Chooses}
 use Rattle.indexed_replay.specs.Chunks.{IsLedAmong}
 use Rattle.indexed_replay.specs.Costs.{NamesCost}
 use Rattle.time_player.specs.Keeping.{kept_in}
@@ -17,6 +17,6 @@ invariant-names g l = record {
   shows : (file : List ℕ) → (g.T.Store.state l.fn.store).bytes ≡ Some file → length file ≡ l.request.len → KnowsSummaryChannels file l.request.tables.now.channels → AddsEachOnce (IsLedAmong file l.request l.index.chunk_start_offset (take l.i l.index.message_index_offsets)) (kept_in l.fn.shown) (kept_in l.shown);
   found : (file : List ℕ) → (g.T.Store.state l.fn.store).bytes ≡ Some file → length file ≡ l.request.len → (named : ℕ × ℕ) → Has {X = ℕ × ℕ} (take l.i l.index.message_index_offsets) named → LacksIndex file named.0 named.1 → ⊥;
   holds : HoldsExactly l.request.len l.shown;
-  asks : (file : List ℕ) (cost : ℕ) (ends : Bool) → (g.T.Store.state l.fn.store).bytes ≡ Some file → length file ≡ l.request.len → NamesCost file l.request.range l.index.chunk_start_offset l.index.message_index_offsets cost ends
-      → (rest : ℕ) × NamesCost file l.request.range l.index.chunk_start_offset (drop l.i l.index.message_index_offsets) rest ends × ((g.T.Store.state l.store).asked + rest ≤ (g.T.Store.state l.fn.store).asked + cost);
+  asks : (file : List ℕ) (chosen : ℕ → Bool) (cost : ℕ) (ends : Bool) → (g.T.Store.state l.fn.store).bytes ≡ Some file → Chooses l.request chosen → length file ≡ l.request.len → NamesCost file l.request.range chosen l.index.chunk_start_offset l.index.message_index_offsets cost ends
+      → (rest : ℕ) × NamesCost file l.request.range chosen l.index.chunk_start_offset (drop l.i l.index.message_index_offsets) rest ends × ((g.T.Store.state l.store).asked + rest ≤ (g.T.Store.state l.fn.store).asked + cost);
 }

@@ -15,7 +15,7 @@ chunks-init g c = record {
   still = refl;
   shows = λ file told size knows apart. from_none file c.args.request.now c.args.loaded.now.chunk_indexes (kept_in c.args.shown.now);
   holds = c.requires.fits;
-  asks = λ file cost told size are. (cost, are, omega arith);
+  asks = λ file chosen cost told chooses size are. (cost, are, omega arith);
 }
 
 pub chunks-preserved-then-not-meets : goal.chunks-preserved-then-not-meets
@@ -27,13 +27,13 @@ chunks-preserved-then-not-meets g c =
       still = i.still;
       holds = i.holds;
       shows = λ file told size knows apart. from_skip file c.args.request.now c.args.loaded.now.chunk_indexes c.chunks.i (c.chunks.i + 1) t (chunk_index_fields c.chunk_index-index.result) (kept_in c.args.shown.now) (kept_in c.chunks.shown) at (omega arith) is (λ m. false≢true (c.if-not-meets.ensures.1 m)) (i.shows file told size knows apart);
-      asks = λ file cost told size are.
+      asks = λ file chosen cost told chooses size are.
           let f = chunk_index_fields c.chunk_index-index.result in
           let range = c.args.request.now.range in
           let tops = c.args.loaded.now.chunk_indexes in
           let next = c.chunks.i + 1 in
-          let (rest, left, few) = i.asks file cost told size are in
-          let one = one_index file range t f (drop next tops) rest is (subst (λ (l : List Top). IndexesCost file range l rest) (dropped tops c.chunks.i next t at (omega arith)) left) in
+          let (rest, left, few) = i.asks file chosen cost told chooses size are in
+          let one = one_index file range chosen t f (drop next tops) rest is (subst (λ (l : List Top). IndexesCost file range chosen l rest) (dropped tops c.chunks.i next t at (omega arith)) left) in
           let missed = one.missed in
           let (more, are_more, enough) = missed (λ m. false≢true (c.if-not-meets.ensures.1 m)) in
           (more, are_more, omega (arith, few, enough));
@@ -51,20 +51,20 @@ returns-in-Err-clause-told g c = λ file told size knows apart.
     ]
 
 pub returns-in-Err-clause-asks : goal.returns-in-Err-clause-asks
-returns-in-Err-clause-asks g c = λ file cost told size are knows indexed.
+returns-in-Err-clause-asks g c = λ file chosen cost told chooses size are knows indexed.
     let i = c.chunks.invariant in
     let (t, at, is) = c.chunk_index-index.ensures in
     let f = chunk_index_fields c.chunk_index-index.result in
     let range = c.args.request.now.range in
     let tops = c.args.loaded.now.chunk_indexes in
     let next = c.chunks.i + 1 in
-    let (rest, left, few) = i.asks file cost told size are in
-    let one = one_index file range t f (drop next tops) rest is (subst (λ (l : List Top). IndexesCost file range l rest) (dropped tops c.chunks.i next t at (omega arith)) left) in
+    let (rest, left, few) = i.asks file chosen cost told chooses size are in
+    let one = one_index file range chosen t f (drop next tops) rest is (subst (λ (l : List Top). IndexesCost file range chosen l rest) (dropped tops c.chunks.i next t at (omega arith)) left) in
     let reached : IsReached file range c.chunk_index_offset-at.result f = record { indexed = indexed c.chunks.i t f c.chunk_index_offset-at.result at is c.chunk_index_offset-at.ensures; meets = c.if-not-meets.ensures.0 refl } in
     let met = one.met in
     let cost_of = met (c.if-not-meets.ensures.0 refl) in
     asked_among file range (g.T.Store.state c.args.store.now).asked (g.T.Store.state c.chunks.store).asked (g.T.Store.state c.show_chunk.new.store).asked cost_of.cost cost rest few cost_of.within
-    (c.in-Err.ensures.asks file cost_of.cost cost_of.ends (i.stays.bytes ∙ told) size cost_of.is knows reached)
+    (c.in-Err.ensures.asks file chosen cost_of.cost cost_of.ends (i.stays.bytes ∙ told) chooses size cost_of.is knows reached)
 
 pub chunks-preserved : goal.chunks-preserved
 chunks-preserved g c =
@@ -77,15 +77,15 @@ chunks-preserved g c =
       still = e.cause ∙ i.still;
       holds = e.holds;
       shows = λ file told size knows apart. from_more file c.args.request.now c.args.loaded.now.chunk_indexes c.chunks.i (c.chunks.i + 1) t f (kept_in c.args.shown.now) (kept_in c.chunks.shown) (kept_in c.show_chunk.new.shown) at (omega arith) is (c.if-not-meets.ensures.0 refl) apart (i.shows file told size knows apart) (e.told file (i.stays.bytes ∙ told) size knows);
-      asks = λ file cost told size are.
+      asks = λ file chosen cost told chooses size are.
           let range = c.args.request.now.range in
           let tops = c.args.loaded.now.chunk_indexes in
           let next = c.chunks.i + 1 in
-          let (rest, left, few) = i.asks file cost told size are in
-          let one = one_index file range t f (drop next tops) rest is (subst (λ (l : List Top). IndexesCost file range l rest) (dropped tops c.chunks.i next t at (omega arith)) left) in
+          let (rest, left, few) = i.asks file chosen cost told chooses size are in
+          let one = one_index file range chosen t f (drop next tops) rest is (subst (λ (l : List Top). IndexesCost file range chosen l rest) (dropped tops c.chunks.i next t at (omega arith)) left) in
           let met = one.met in
           let cost_of = met (c.if-not-meets.ensures.0 refl) in
-          let (few_here, goes_on) = e.asks file cost_of.cost cost_of.ends (i.stays.bytes ∙ told) size cost_of.is in
+          let (few_here, goes_on) = e.asks file chosen cost_of.cost cost_of.ends (i.stays.bytes ∙ told) chooses size cost_of.is in
           let behind = cost_of.behind in
           let (more, are_more, enough) = behind goes_on in
           (more, are_more, omega (arith, few, enough, few_here));

@@ -1,5 +1,5 @@
-use Rattle.std.proofs.Common.{ℕ, List, ◌≤◌, ◌+◌, Ok, Err, subst}
-use Rattle.std.proofs.lemmas.Bool.{both_ways}
+use Rattle.std.proofs.Common.{ℕ, List, ◌≤◌, ◌+◌, Ok, Err, sym, subst}
+use Rattle.std.proofs.lemmas.Bool.{both_ways, cond-true}
 use Rattle.indexed_replay.specs.Steps.{EntriesShown}
 use Rattle.indexed_replay.specs.Costs.{entries_cost}
 use Rattle.indexed_replay.specs.Lists.{ContentRefused}
@@ -18,9 +18,12 @@ returns-in-Ok-show_entries-clause-told g c = λ file entries told size declare s
     (subst (λ (l : List (ℕ × ℕ)). EntriesShown file c.args.request.now.range c.args.spot l ((kept_in c.args.shown.now), (kept_in c.show_entries.new.shown)) (Ok c.in-Ok-show_entries.all)) same (c.in-Ok-show_entries.ensures.told file told size))
 
 pub returns-in-Ok-show_entries-clause-asks : goal.returns-in-Ok-show_entries-clause-asks
-returns-in-Ok-show_entries-clause-asks g c = λ file entries told size shows.
+returns-in-Ok-show_entries-clause-asks g c = λ file chosen entries told chooses size shows.
     let same = (index_once c.args.content.now c.in-Ok.index.channel_id c.args.spot.channel c.in-Ok.index.entries entries c.in-Ok.ensures.shown shows).1 in
-    subst (λ (l : List (ℕ × ℕ)). (g.T.Store.state c.show_entries.new.store).asked ≤ (g.T.Store.state c.args.store.now).asked + entries_cost file c.args.request.now.range c.args.spot.chunk l) same (c.in-Ok-show_entries.ensures.asks file told size)
+    let on = chooses.all c.args.spot.channel ((c.is_wanted.ensures chooses.declare).0 c.if-is_wanted.true) in
+    let cost = cond-true (chosen c.args.spot.channel) (entries_cost file c.args.request.now.range c.args.spot.chunk entries) 0 on in
+    subst (λ (n : ℕ). (g.T.Store.state c.show_entries.new.store).asked ≤ (g.T.Store.state c.args.store.now).asked + n) (sym cost)
+    (subst (λ (l : List (ℕ × ℕ)). (g.T.Store.state c.show_entries.new.store).asked ≤ (g.T.Store.state c.args.store.now).asked + entries_cost file c.args.request.now.range c.args.spot.chunk l) same (c.in-Ok-show_entries.ensures.asks file told size))
 
 pub returns-in-Err-show_entries-clause-told : goal.returns-in-Err-show_entries-clause-told
 returns-in-Err-show_entries-clause-told g c = λ file entries told size declare shows.
@@ -29,9 +32,12 @@ returns-in-Err-show_entries-clause-told g c = λ file entries told size declare 
     (subst (λ (l : List (ℕ × ℕ)). EntriesShown file c.args.request.now.range c.args.spot l ((kept_in c.args.shown.now), (kept_in c.show_entries.new.shown)) (Err c.in-Err-show_entries.why)) same (c.in-Err-show_entries.ensures.told file told size))
 
 pub returns-in-Err-show_entries-clause-asks : goal.returns-in-Err-show_entries-clause-asks
-returns-in-Err-show_entries-clause-asks g c = λ file entries told size shows.
+returns-in-Err-show_entries-clause-asks g c = λ file chosen entries told chooses size shows.
     let same = (index_once c.args.content.now c.in-Ok.index.channel_id c.args.spot.channel c.in-Ok.index.entries entries c.in-Ok.ensures.shown shows).1 in
-    subst (λ (l : List (ℕ × ℕ)). (g.T.Store.state c.show_entries.new.store).asked ≤ (g.T.Store.state c.args.store.now).asked + entries_cost file c.args.request.now.range c.args.spot.chunk l) same (c.in-Err-show_entries.ensures.asks file told size)
+    let on = chooses.all c.args.spot.channel ((c.is_wanted.ensures chooses.declare).0 c.if-is_wanted.true) in
+    let cost = cond-true (chosen c.args.spot.channel) (entries_cost file c.args.request.now.range c.args.spot.chunk entries) 0 on in
+    subst (λ (n : ℕ). (g.T.Store.state c.show_entries.new.store).asked ≤ (g.T.Store.state c.args.store.now).asked + n) (sym cost)
+    (subst (λ (l : List (ℕ × ℕ)). (g.T.Store.state c.show_entries.new.store).asked ≤ (g.T.Store.state c.args.store.now).asked + entries_cost file c.args.request.now.range c.args.spot.chunk l) same (c.in-Err-show_entries.ensures.asks file told size))
 
 pub returns-in-Ok-check_channel-clause-told : goal.returns-in-Ok-check_channel-clause-told
 returns-in-Ok-check_channel-clause-told g c = λ file entries told size declare shows.

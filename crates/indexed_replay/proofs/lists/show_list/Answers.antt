@@ -22,7 +22,7 @@ pub returns-in-Err-clause-told : goal.returns-in-Err-clause-told
 returns-in-Err-clause-told g c = λ file told size knows. inl (index_reason file c.args.request.now c.args.at c.args.spot c.in-Err.why (c.in-Err.ensures.told file told size))
 
 pub returns-in-Err-clause-asks : goal.returns-in-Err-clause-asks
-returns-in-Err-clause-asks g c = λ file cost told size is. cost_front file c.args.request.now.range c.args.spot cost (g.T.Store.state c.args.store.now).asked (g.T.Store.state c.read_index.new.store).asked is (c.in-Err.ensures.asks file told size)
+returns-in-Err-clause-asks g c = λ file chosen cost told chooses size is. cost_front file c.args.request.now.range chosen c.args.spot cost (g.T.Store.state c.args.store.now).asked (g.T.Store.state c.read_index.new.store).asked is (c.in-Err.ensures.asks file told size)
 
 pub show_content-requires-clause-is : goal.show_content-requires-clause-is
 show_content-requires-clause-is g c =
@@ -40,11 +40,11 @@ returns-in-Some-clause-told g c = λ file told size knows.
     (c.show_content.ensures.told file entries told_1 size knows.declare (subst (λ (l : List ℕ). ShowsMessageIndex l c.args.spot.channel entries) (sym c.deref.ensures.value) shows))
 
 pub returns-in-Some-clause-asks : goal.returns-in-Some-clause-asks
-returns-in-Some-clause-asks g c = λ file cost told size is.
+returns-in-Some-clause-asks g c = λ file chosen cost told chooses size is.
     let here = rw c.in-Some.is at (c.in-Ok.ensures.told file told size) in
     let told_1 = c.in-Ok.ensures.stays.bytes ∙ told in
-    cost_content file c.args.request.now.range c.args.spot c.in-Some.content.items here.1.0 cost (g.T.Store.state c.args.store.now).asked (g.T.Store.state c.read_index.new.store).asked (g.T.Store.state c.show_content.new.store).asked is here.0 here.1.1 (c.in-Ok.ensures.asks file told size)
-    (λ entries shows. c.show_content.ensures.asks file entries told_1 size (subst (λ (l : List ℕ). ShowsMessageIndex l c.args.spot.channel entries) (sym c.deref.ensures.value) shows))
+    cost_content file c.args.request.now.range chosen c.args.spot c.in-Some.content.items here.1.0 cost (g.T.Store.state c.args.store.now).asked (g.T.Store.state c.read_index.new.store).asked (g.T.Store.state c.show_content.new.store).asked is here.0 here.1.1 (c.in-Ok.ensures.asks file told size)
+    (λ entries shows. c.show_content.ensures.asks file chosen entries told_1 chooses size (subst (λ (l : List ℕ). ShowsMessageIndex l c.args.spot.channel entries) (sym c.deref.ensures.value) shows))
 
 pub returns-in-Some-clause-found : goal.returns-in-Some-clause-found
 returns-in-Some-clause-found g c = λ file told size.
@@ -55,4 +55,4 @@ pub returns-in-None-clause-told : goal.returns-in-None-clause-told
 returns-in-None-clause-told g c = λ file told size knows. inl (lacks_reason file c.args.request.now c.args.at c.args.spot (rw c.in-None.is at (c.in-Ok.ensures.told file told size)))
 
 pub returns-in-None-clause-asks : goal.returns-in-None-clause-asks
-returns-in-None-clause-asks g c = λ file cost told size is. cost_front file c.args.request.now.range c.args.spot cost (g.T.Store.state c.args.store.now).asked (g.T.Store.state c.read_index.new.store).asked is (c.in-Ok.ensures.asks file told size)
+returns-in-None-clause-asks g c = λ file chosen cost told chooses size is. cost_front file c.args.request.now.range chosen c.args.spot cost (g.T.Store.state c.args.store.now).asked (g.T.Store.state c.read_index.new.store).asked is (c.in-Ok.ensures.asks file told size)

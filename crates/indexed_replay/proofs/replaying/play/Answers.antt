@@ -6,6 +6,7 @@ use Rattle.time_player.specs.Keeping.{kept_in}
 use Rattle.time_player.specs.DataOfMessages.{data_in}
 use Rattle.time_player.specs.Ordering.{IsOrdered}
 use Rattle.indexed_replay.specs.Reaching.{nothing}
+use Rattle.indexed_replay.proofs.Choosing.{chosen_on}
 use Rattle.indexed_replay.proofs.Summed.{knows, loaded_summary}
 use Rattle.indexed_replay.proofs.Playing.{are_indexed, added_led}
 use Rattle.indexed_replay.proofs.Overfull.{apart_of, fills_reason}
@@ -34,20 +35,20 @@ returns-in-Ok-topics_of_kept-clause-plays g c = λ file told loaded.
     (subst (λ (l : List Shown). IsOrdered (kept_in c.gather.new.shown) l) shown c.put_in_order_without_doubles.ensures.order) named
 
 pub returns-in-Err-clause-asks : goal.returns-in-Err-clause-asks
-returns-in-Err-clause-asks g c = λ file cost told loaded are. (0, nothing, omega arith)
+returns-in-Err-clause-asks g c = λ file chosen cost told loaded on are. (0, nothing, omega arith)
 
 pub returns-in-Err-gather-clause-asks : goal.returns-in-Err-gather-clause-asks
-returns-in-Err-gather-clause-asks g c = λ file cost told loaded are.
+returns-in-Err-gather-clause-asks g c = λ file chosen cost told loaded on are.
     let size = sym (c.requires.measured file told) in
     let known = knows file c.args.loaded.now loaded c.in-Ok.tables.channels c.in-Ok.ensures in
     let listed = loaded.listed in
-    c.in-Err-gather.ensures.asks file cost told size are known (are_indexed file ((c.args.loaded.now).footer).summary_start loaded.tops (c.args.loaded.now).chunk_indexes (c.args.loaded.now).chunk_index_offsets (loaded_summary file c.args.loaded.now loaded) listed.chunk_indexes loaded.placed)
+    c.in-Err-gather.ensures.asks file chosen cost told (chosen_on file _ chosen known on) size are known (are_indexed file ((c.args.loaded.now).footer).summary_start loaded.tops (c.args.loaded.now).chunk_indexes (c.args.loaded.now).chunk_index_offsets (loaded_summary file c.args.loaded.now loaded) listed.chunk_indexes loaded.placed)
 
 pub returns-in-Ok-topics_of_kept-clause-asks : goal.returns-in-Ok-topics_of_kept-clause-asks
-returns-in-Ok-topics_of_kept-clause-asks g c = λ file cost told loaded are. (0, nothing, omega (arith, c.in-Ok-gather.ensures.asks file cost told (sym (c.requires.measured file told)) are))
+returns-in-Ok-topics_of_kept-clause-asks g c = λ file chosen cost told loaded on are. (0, nothing, omega (arith, c.in-Ok-gather.ensures.asks file chosen cost told (chosen_on file _ chosen (knows file c.args.loaded.now loaded c.in-Ok.tables.channels c.in-Ok.ensures) on) (sym (c.requires.measured file told)) are))
 
 pub returns-in-Err-topics_of_kept-clause-asks : goal.returns-in-Err-topics_of_kept-clause-asks
-returns-in-Err-topics_of_kept-clause-asks g c = λ file cost told loaded are. (0, nothing, omega (arith, c.in-Ok-gather.ensures.asks file cost told (sym (c.requires.measured file told)) are))
+returns-in-Err-topics_of_kept-clause-asks g c = λ file chosen cost told loaded on are. (0, nothing, omega (arith, c.in-Ok-gather.ensures.asks file chosen cost told (chosen_on file _ chosen (knows file c.args.loaded.now loaded c.in-Ok.tables.channels c.in-Ok.ensures) on) (sym (c.requires.measured file told)) are))
 
 pub gather-requires-clause-fits : goal.gather-requires-clause-fits
 gather-requires-clause-fits g c = record {
