@@ -20,3 +20,4 @@ pub mod Judged
 pub mod RealLimits
 pub mod NoLimits
 pub mod Compressions
+mod Lacked

@@ -2,6 +2,7 @@
 pub mod Checking
 pub mod Halting
 pub mod CutFiles
+pub mod Lacking
 -- What the functions of this crate and its proofs say besides.
 pub mod MessageCounts
 pub mod RecordCounts

@@ -5,6 +5,7 @@ ghost use Rattle.mcap_model.specs.Tops.{Top};
 ghost use Rattle.index_check.specs.Section.{SectionOf};
 ghost use Rattle.summary_check.specs.Files.{IsOfSummary};
 ghost use Rattle.file_check.specs.Checking.{CountsSection, CheckCause, IsUnchecked};
+ghost use Rattle.file_check.specs.Lacking.{SectionLacks, LacksAsBefore, TellsLackUpTo};
 ghost use Rattle.file_check.specs.CheckSteps.{SectionReads, SectionCause, SectionAsks, AsksUpTo, TellsSectionRefused, RefusedCause, TellsJudged, TellsFile, told_by};
 
 use crate::ends::tell_flaw;
@@ -26,6 +27,7 @@ pub(crate) fn read_front<T: Store>(
     ensures reads { SectionReads (T.state store.old) end result }
     ensures cause { SectionCause (T.state store.old).faults (T.state store.new).faults result }
     ensures asks { SectionAsks (T.state store.old) end (T.state store.new).asked result }
+    ensures lacks { SectionLacks (T.state store.old) end (T.state store.new).asked result }
     ensures keeps { StoreStays (T.state store.old) (T.state store.new) }
 {
     let mut source = StoreFront::new(store, end);
@@ -42,6 +44,7 @@ fn tell_refusal<T: Store>(
     requires long { 8 ≤ end }
     ensures tells { TellsSectionRefused (T.state store.old).bytes end why result }
     ensures cause { RefusedCause (T.state store.old).faults (T.state store.new).faults why result }
+    ensures lacks { LacksAsBefore why (T.state store.old).asked (T.state store.new).asked result }
     ensures asks { (T.state store.new).asked ≤ (T.state store.old).asked + 9 }
     ensures keeps { StoreStays (T.state store.old) (T.state store.new) }
 {
@@ -162,6 +165,7 @@ pub(crate) fn check_records<T: Store>(
     requires long { 8 ≤ end }
     requires fits { end + 8 < 2 ^ 64 }
     ensures tells { TellsFile (T.state store.old).bytes end result }
+    ensures lacks { TellsLackUpTo end (T.state store.old) (T.state store.new).asked result }
     ensures cause { CheckCause (T.state store.old).faults (T.state store.new).faults result }
     ensures asks { AsksUpTo (T.state store.old) end (T.state store.new) }
     ensures keeps { StoreStays (T.state store.old) (T.state store.new) }

@@ -1,7 +1,6 @@
 //! What Statistics count of Schemas, Channels and Messages.
-ghost use Rattle.std.specs.Prelude.{◌≡◌, ◌+◌, ◌^◌, ◌<◌, ◌∷◌, ◌++◌, [], List, ℕ, length, filter, OnOk};
-ghost use Rattle.rec_data.specs.Records.{message_opcode, ShowsMessage};
-ghost use Rattle.rec_data.specs.Parsed.{message_fields};
+ghost use Rattle.std.specs.Prelude.{◌≡◌, ◌+◌, ◌^◌, ◌<◌, ◌∷◌, ◌++◌, [], List, length, filter, OnOk};
+ghost use Rattle.rec_data.specs.Records.{message_opcode};
 ghost use Rattle.mcap_model.specs.Tops.{Top, is_flat_kind};
 ghost use Rattle.mcap_model.specs.Rules.{V6};
 ghost use Rattle.mcap_model.specs.Made.{top};
@@ -11,7 +10,7 @@ use crate::message_counts::MessageCounts;
 use index_check::Ids;
 use mcap_model::{RecordView, view_record};
 use mcap_wire::Memory;
-use rec_data::Message;
+use rec_data::{MESSAGE, Message};
 use std::alloc::Global;
 
 /// What was counted of Schemas, Channels and Messages: the number of Messages, the least and the greatest of their log times
@@ -57,14 +56,19 @@ impl RecordCounts {
         }
     }
 
-    fn take_message(&mut self, message: &Message) -> Result<(), Memory>
-        ensures { OnOk result ((records : List Top) (content : List ℕ) → CountsOf records self.old
-            → ShowsMessage content message.now.channel_id (message_fields message.now)
-            → length records + 1 < 2 ^ 64 → CountsOf (records ++ top message_opcode content ∷ []) self.new) }
+    fn take_message(&mut self, content: &[u8]) -> Result<(), Memory>
+        requires { V6 (top message_opcode content.now) }
+        ensures { OnOk result ((records : List Top) → CountsOf records self.old → length records + 1 < 2 ^ 64
+            → CountsOf (records ++ top message_opcode content.now ∷ []) self.new) }
     {
-        self.by_channel.add(message.channel_id)?;
-        self.hear(message.log_time);
-        return Ok(());
+        match Message::parse(content) {
+            Ok(message) => {
+                self.by_channel.add(message.channel_id)?;
+                self.hear(message.log_time);
+                return Ok(());
+            }
+            Err(_) => unreachable!(),
+        }
     }
 
     /// Takes the next record, of the top level or of a chunk: others than Schemas, Channels and Messages aren't counted. After a
@@ -74,10 +78,13 @@ impl RecordCounts {
         ensures { OnOk result ((records : List Top) → CountsOf records self.old → length records + 1 < 2 ^ 64
             → CountsOf (records ++ filter is_flat_kind (top op content.now ∷ [])) self.new) }
     {
+        // Most are Messages, for which no view is made.
+        if op == MESSAGE {
+            return self.take_message(content);
+        }
         match view_record(op, content) {
             RecordView::Schema(schema) => return self.schemas.add_once(schema.id),
             RecordView::Channel(channel) => return self.channels.add_once(channel.id),
-            RecordView::Message(message) => return self.take_message(&message),
             _ => return Ok(()),
         }
     }

@@ -4,6 +4,7 @@ ghost use Rattle.mcap_io.specs.StoreAnswers.{StoreStays};
 ghost use Rattle.mcap_model.specs.declared.checked.Verdict.TheVariants as verdicts;
 ghost use Rattle.mcap_model.specs.declared.rules.Rule.TheVariants as rules;
 ghost use Rattle.file_check.specs.Checking.{CheckCause};
+ghost use Rattle.file_check.specs.Lacking.{LacksAsBefore, TellsLackUpTo};
 ghost use Rattle.file_check.specs.CheckSteps.{AsksUpTo, RefusedCause, TellsCutSection, TellsUnended, TellsCutRefusal, TellsCutStore};
 
 use crate::checking::read_front;
@@ -35,6 +36,7 @@ fn tell_refusal<T: Store>(
     ensures tells { TellsCutSection (T.state store.old).bytes len why result }
     ensures cut { TellsCutRefusal (T.state store.old).bytes len why result }
     ensures cause { RefusedCause (T.state store.old).faults (T.state store.new).faults why result }
+    ensures lacks { LacksAsBefore why (T.state store.old).asked (T.state store.new).asked result }
     ensures asks { (T.state store.new).asked ≤ (T.state store.old).asked + 9 }
     ensures keeps { StoreStays (T.state store.old) (T.state store.new) }
 {
@@ -74,6 +76,7 @@ pub(crate) fn check_unended<T: Store>(
     requires known { len ≤ (T.state store.old).known }
     requires fits { len < 2 ^ 64 }
     ensures tells { TellsUnended (T.state store.old).bytes len result }
+    ensures lacks { TellsLackUpTo len (T.state store.old) (T.state store.new).asked result }
     ensures cut { TellsCutStore (T.state store.old).bytes len result }
     ensures cause { CheckCause (T.state store.old).faults (T.state store.new).faults result }
     ensures asks { AsksUpTo (T.state store.old) len (T.state store.new) }

@@ -3,6 +3,7 @@ ghost use Rattle.mcap_io.specs.StoreAnswers.{LeavesStore};
 ghost use Rattle.file_check.specs.Checking.{Checks, CheckCause};
 ghost use Rattle.file_check.specs.CheckSteps.{AsksOnce};
 ghost use Rattle.file_check.specs.CutFiles.{TellsUnbegun, TellsCutFile};
+ghost use Rattle.file_check.specs.Lacking.{TellsLack};
 
 use crate::checking::check_records;
 use crate::ends::{begins_with_magic, ends_with_magic};
@@ -19,6 +20,7 @@ pub fn check<T: Store>(alloc: Global, store: &mut T) -> Result<Verdict, ReadingR
     ensures checks { Checks (T.state store.old).bytes result }
     ensures begun { TellsUnbegun (T.state store.old).bytes result }
     ensures cut { TellsCutFile (T.state store.old).bytes result }
+    ensures lacks { TellsLack (T.state store.old) (T.state store.new).asked result }
     ensures cause { CheckCause (T.state store.old).faults (T.state store.new).faults result }
     ensures asks { AsksOnce (T.state store.old) (T.state store.new) }
     ensures leaves { LeavesStore (T.state store.old) (T.state store.new) }

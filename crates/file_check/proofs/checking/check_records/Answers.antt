@@ -1,10 +1,11 @@
-use Rattle.std.proofs.Common.{Result, Ok, sym, subst, ◌∙◌, arith}
+use Rattle.std.proofs.Common.{Result, Ok, inl, sym, subst, ◌∙◌, arith}
 use Rattle.index_check.specs.declared.section.Section.{Section}
 use Rattle.file_check.specs.declared.flaws.FailedRule.{FailedRule}
 use Rattle.file_check.specs.Reading.{ReadsSection}
 use Rattle.file_check.specs.CheckSteps.{checked_front, SectionAsks}
 use Rattle.file_check.proofs.Refusing.{front_is, index_read}
 use Rattle.file_check.proofs.Fronted.{told_cause}
+use Rattle.file_check.proofs.Lacked.{section_right, refused_lack}
 use Rattle.file_check.proofs.checking.check_records.Goals as goal
 
 pub returns-in-Ok-Ok-clause-tells : goal.returns-in-Ok-Ok-clause-tells
@@ -44,3 +45,15 @@ pub returns-in-Ok-Err-clause-asks : goal.returns-in-Ok-Err-clause-asks
 returns-in-Ok-Err-clause-asks g c = λ file told long.
     let asks = subst (λ (r : Result Section FailedRule). SectionAsks (g.T.Store.state c.args.store.now) c.args.end (g.T.Store.state c.read_front.new.store).asked (Ok r)) c.in-Ok-Err.field-0-is c.in-Ok-Err.ensures.asks in
     omega (arith, asks)
+
+pub returns-in-Ok-Ok-clause-lacks : goal.returns-in-Ok-Ok-clause-lacks
+returns-in-Ok-Ok-clause-lacks g c = λ is file told long.
+    let old = g.T.Store.state c.args.store.now in
+    let reads = c.in-Ok-Ok.ensures.reads in
+    let read = subst (λ (r : Result Section FailedRule). ReadsSection (checked_front old c.args.end) reads.0 (Ok r)) c.in-Ok-Ok.field-0-is reads.1 in
+    inl (section_right file c.args.end c.in-Ok-Ok.section (front_is old reads.0 file c.args.end c.in-Ok-Ok.section told read))
+
+pub returns-in-Err-clause-lacks : goal.returns-in-Err-clause-lacks
+returns-in-Err-clause-lacks g c = λ is file told long.
+    let lacks = c.tell_refusal.ensures.lacks is in
+    refused_lack (g.T.Store.state c.args.store.now) c.args.end (g.T.Store.state c.read_front.new.store).asked (g.T.Store.state c.tell_refusal.new.store).asked file c.in-Err.why lacks.0 lacks.1 c.in-Err.ensures.lacks told long

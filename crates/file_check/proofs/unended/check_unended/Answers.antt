@@ -5,6 +5,7 @@ use Rattle.file_check.specs.Reading.{ReadsSection}
 use Rattle.file_check.specs.Checking.{IsSo}
 use Rattle.file_check.specs.CheckSteps.{checked_front, SectionAsks}
 use Rattle.file_check.proofs.Fronted.{told_cause}
+use Rattle.file_check.proofs.Lacked.{refused_lack}
 use Rattle.file_check.specs.CutFiles.{NamesCut}
 use Rattle.file_check.proofs.Refusing.{lacks_last, index_read_cut}
 use Rattle.file_check.proofs.CutTold.{end_told, index_is_told}
@@ -62,3 +63,8 @@ returns-in-Err-clause-cut g c = λ file told size.
     let reads = c.in-Err.ensures.reads in
     let keeps = c.in-Err.ensures.keeps in
     c.tell_refusal.ensures.cut (g.T.Store.state c.args.store.now) reads.0 (sym keeps.bytes) reads.1 file (keeps.bytes ∙ told) size
+
+pub returns-in-Err-clause-lacks : goal.returns-in-Err-clause-lacks
+returns-in-Err-clause-lacks g c = λ is file told long.
+    let lacks = c.tell_refusal.ensures.lacks is in
+    refused_lack (g.T.Store.state c.args.store.now) c.args.len (g.T.Store.state c.read_front.new.store).asked (g.T.Store.state c.tell_refusal.new.store).asked file c.in-Err.why lacks.0 lacks.1 c.in-Err.ensures.lacks told long

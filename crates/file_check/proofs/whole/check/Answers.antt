@@ -1,5 +1,5 @@
 -- What the first magic, the last one and the records between them say; and what was asked for.
-use Rattle.std.proofs.Common.{ℕ, Ok, subst, sym, ◌∙◌, arith}
+use Rattle.std.proofs.Common.{ℕ, ◌+◌, ◌-◌, Ok, inl, inr, subst, sym, ◌∙◌, arith}
 use Rattle.std.proofs.lemmas.Bool.{both_ways}
 use Rattle.mcap_model.specs.Valid.{Flaw, flaw_1}
 use Rattle.mcap_model.specs.declared.checked.Verdict.TheVariants as verdicts
@@ -8,6 +8,7 @@ use Rattle.file_check.specs.Checking.{CheckCause}
 use Rattle.file_check.specs.CutFiles.{NamesCut}
 use Rattle.file_check.proofs.Refusing.{too_short}
 use Rattle.file_check.proofs.CutTold.{short_told}
+use Rattle.file_check.proofs.Lacked.{lack_later}
 use Rattle.file_check.proofs.whole.check.Goals as goal
 
 pub returns-in-Ok-false-clause-checks : goal.returns-in-Ok-false-clause-checks
@@ -96,3 +97,31 @@ returns-in-Ok-false-ends_with_magic-clause-begun g c = λ file told unbegun.
 pub returns-then-len-lt16-clause-cut : goal.returns-then-len-lt16-clause-cut
 returns-then-len-lt16-clause-cut g c = λ file told v1 v2.
     subst (λ (n : ℕ). NamesCut file (Ok (verdicts.Flawed rules.V2 n))) (sym c.saturating_sub-offset.ensures) (short_told file c.in-Ok.len v1 (sym (c.in-Ok.ensures.tells file told)) c.if-len-lt16.true)
+
+-- ---- want of memory
+
+pub returns-in-Ok-true-ends_with_magic-clause-lacks : goal.returns-in-Ok-true-ends_with_magic-clause-lacks
+returns-in-Ok-true-ends_with_magic-clause-lacks g c = λ is file told.
+    let measured = c.in-Ok.ensures in
+    let first = c.in-Ok-true.ensures in
+    let last = c.in-Ok-true-ends_with_magic.ensures in
+    let size = measured.tells file told in
+    let ends = last.tells file (first.keeps.bytes ∙ measured.bytes ∙ told) (sym size) in
+    let lacks = c.check_records.ensures.lacks is file (last.keeps.bytes ∙ first.keeps.bytes ∙ measured.bytes ∙ told) (omega (arith, size)) in (
+      c.in-Ok.len - 8,
+      inl (ends.0 c.in-Ok-true-ends_with_magic.field-0-test, omega (arith, size, c.if-len-lt16.false)),
+      lack_later (c.in-Ok.len - 8) file ((g.T.Store.state c.args.store.now).asked + 16) (g.T.Store.state c.ends_with_magic.new.store).asked (g.T.Store.state c.check_records.new.store).asked (omega (arith, last.asks, first.asks, measured.asked)) lacks,
+    )
+
+pub returns-in-Ok-false-ends_with_magic-clause-lacks : goal.returns-in-Ok-false-ends_with_magic-clause-lacks
+returns-in-Ok-false-ends_with_magic-clause-lacks g c = λ is file told.
+    let measured = c.in-Ok.ensures in
+    let first = c.in-Ok-true.ensures in
+    let last = c.in-Ok-false-ends_with_magic.ensures in
+    let size = measured.tells file told in
+    let ends = last.tells file (first.keeps.bytes ∙ measured.bytes ∙ told) (sym size) in
+    let lacks = c.check_unended.ensures.lacks is file (last.keeps.bytes ∙ first.keeps.bytes ∙ measured.bytes ∙ told) (omega (arith, size)) in (
+      c.in-Ok.len,
+      inr (λ magic. both_ways c.in-Ok-false-ends_with_magic.field-0 c.in-Ok-false-ends_with_magic.field-0-test (ends.1 magic), sym size),
+      lack_later c.in-Ok.len file ((g.T.Store.state c.args.store.now).asked + 16) (g.T.Store.state c.ends_with_magic.new.store).asked (g.T.Store.state c.check_unended.new.store).asked (omega (arith, last.asks, first.asks, measured.asked)) lacks,
+    )

@@ -38,10 +38,3 @@ returns-in-Channel c =
     ok_then c.add_once-in-Channel.result c.add_once-in-Channel.ensures (λ adds records was few.
     subst (λ (n : ℕ). CountsOf (records ++ filter is_flat_kind (top n content ∷ [])) (with_ids old old.schemas c.add_once-in-Channel.new.self)) (sym four)
     (counted_channel records (top 4 content) old channel.id (channel_fields channel) c.add_once-in-Channel.new.self was (record { kind = refl; layout = c.in-Channel.ensures.1 }) adds))
-
-pub returns-in-Message : goal.returns-in-Message
-returns-in-Message c =
-    let content = c.args.content.now in
-    ok_then c.take_message.result c.take_message.ensures (λ takes records was few.
-    subst (λ (n : ℕ). CountsOf (records ++ filter is_flat_kind (top n content ∷ [])) c.take_message.new.self) (sym c.in-Message.ensures.0)
-    (takes records content was c.in-Message.ensures.1 few))

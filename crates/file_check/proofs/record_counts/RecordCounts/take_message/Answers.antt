@@ -4,8 +4,8 @@ use Rattle.mcap_model.specs.Made.{top}
 use Rattle.file_check.proofs.Counting.{counted_message}
 use Rattle.file_check.proofs.record_counts.RecordCounts.take_message.Goals as goal
 
-pub returns : goal.returns
-returns c = λ records content was shown few.
-    let message = c.args.message.now in
-    counted_message records (top 5 content) c.args.self.now c.hear.new.self c.add.new.self message.channel_id (message_fields message) was
-    (record { kind = refl; layout = shown }) few c.in_ok-add.ensures c.hear.ensures
+pub returns-in-Ok : goal.returns-in-Ok
+returns-in-Ok c = λ records was few.
+    let message = c.in-Ok.message in
+    counted_message records (top 5 c.args.content.now) c.args.self.now c.hear.new.self c.add.new.self message.channel_id (message_fields message) was
+    (record { kind = refl; layout = c.in-Ok.ensures.shown }) few c.in_ok-add-in-Ok.ensures c.hear.ensures
