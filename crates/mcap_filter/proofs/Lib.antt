@@ -7,3 +7,8 @@ mod Messages
 mod Walking
 mod Ended
 mod Written
+mod FirstOfIds
+mod HistoriesStand
+mod PicksOfScan
+mod Twice
+mod Meeting

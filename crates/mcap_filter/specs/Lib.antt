@@ -4,3 +4,4 @@ pub mod Filtering
 -- What the functions of this crate and its proofs say besides.
 pub mod Picking
 pub mod Laws
+pub mod FilteredHistories

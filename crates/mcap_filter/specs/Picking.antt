@@ -22,7 +22,7 @@ use Rattle.record_keeping.specs.declared.keeping.Keeping.{Keeping}
 use Rattle.record_keeping.specs.declared.ending.KeptCounts.{KeptCounts}
 use Rattle.record_keeping.specs.declared.ending.Over.{Over}
 use Rattle.record_keeping.specs.Ending.{EndsFile}
-use Rattle.record_keeping.specs.Keeping.{KeepingStandsFor, AddsFlatRecords, extras_of, is_declared, declared_with}
+use Rattle.record_keeping.specs.Keeping.{KeepingStandsFor, HasWritten, AddsFlatRecords, extras_of, is_declared, declared_with}
 use Rattle.record_keeping.specs.Readings.{ReadSoFar, ReadToEnd, ReadStopped}
 use Rattle.mcap_filter.specs.declared.answers.Picked.{Picked}
 use Rattle.mcap_filter.specs.declared.answers.PickRefused.{PickRefused}
@@ -186,7 +186,8 @@ PicksSoFar seen from now flat k c =
 
 -- the writer stopped at what one of the records shows or holds
 abbrev pub IsCut : {L : Type 0} → (L → LiveState) → Start → SourceState → Keeping L → Stop → Type 0
-IsCut seen from now k stop = ReadStopped (stands_written seen from k) from.options.profile from.before now
+IsCut seen from now k stop = ReadStopped (stands_written seen from k)
+    (λ first. HasWritten seen from.options from.opened k (filtered from.asking first)) from.options.profile from.before now
     × (phase_of k.scribe ≡ phases.Stopped stop)
 
 abbrev pub PicksOn : {L : Type 0} → (L → LiveState) → Start → SourceState → FlatReader → Keeping L → Choices

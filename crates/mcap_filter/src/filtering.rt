@@ -35,11 +35,12 @@ fn lacked() -> PickRefused
 
 // Why the reading was refused.
 fn refusal_of(reader: FlatReader) -> ReadingRefused
+    requires refused { (why : Refusal) × (reader.reader.stage ≡ stages.Stopped why) }
     ensures { (why : Refusal) → reader.reader.stage ≡ stages.Stopped why → result ≡ why }
 {
     match reader.into_refusal() {
         Some(why) => return why,
-        None => return ReadingRefused::Memory,
+        None => unreachable!(),
     }
 }
 
@@ -110,7 +111,9 @@ fn finish<L: LiveStore>(k: Keeping<L>) -> (L, Result<Picked, PickRefused>)
 /// source declares them first, ids and metadata as they were, in chunks of that size, in bytes; and after them its extras, contents
 /// unchanged, which wait in memory until all chunks stand. These are the Attachments, Metadata and records of applications (opcodes
 /// from 0x80) at top level, whatever the range says. The profile is that of its Header. The source is read once, to its Data End;
-/// where that reading is refused, this is, for the same reason, and the store holds a first part of the file.
+/// where that reading is refused, this is, for the same reason, and the store holds the Header and all blocks that what is written of
+/// the records up to there fills, unless memory lacked for the Header or before; so it does where the writer stops, of the records
+/// before the last one that was read.
 pub fn filter<S: Source, L: LiveStore>(
     alloc: Global,
     source: &mut S,
@@ -131,7 +134,7 @@ pub fn filter<S: Source, L: LiveStore>(
     };
     match reader.advance(source) {
         FlatStep::Record { .. } => {}
-        FlatStep::End { .. } => return (store, Err(lacked())),
+        FlatStep::End { .. } => unreachable!(),
         FlatStep::Refused => {
             let why = refusal_of(reader);
             return (store, Err(PickRefused::Refused { why }));

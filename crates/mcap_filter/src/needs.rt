@@ -6,7 +6,7 @@ ghost use Rattle.mcap_model.specs.Made.{top};
 ghost use Rattle.mcap_model.specs.Rules.{V6};
 ghost use Rattle.chunk_writer.specs.declared.phase.Phase.TheVariants as phases;
 ghost use Rattle.chunk_writer.specs.Stops.{Cause};
-ghost use Rattle.chunk_writer.specs.Scribes.{store_of, phase_of};
+ghost use Rattle.chunk_writer.specs.Scribes.{KeepsOn, store_of, phase_of};
 ghost use Rattle.record_keeping.specs.Keeping.{AddsFlatRecords, IsFrame};
 ghost use Rattle.mcap_filter.specs.Picking.{Notes, PutsNeeds, PutsSchema, PutsChannel};
 
@@ -38,6 +38,7 @@ fn put_schema<L: LiveStore>(
     ensures takes { PutsSchema L.state k.old k.new schemas.now id }
     ensures goes_on { OnOk result (phase_of k.new.scribe ≡ phases.Going) }
     ensures stopped { IfErr result (λ stop. phase_of k.new.scribe ≡ phases.Stopped stop) }
+    ensures keeps { KeepsOn (L.state (store_of k.old.scribe)).held (L.state (store_of k.new.scribe)).held }
     ensures cause { Cause (L.state (store_of k.old.scribe)).faults (L.state (store_of k.new.scribe)).faults result }
 {
     if id == 0 {
@@ -66,6 +67,7 @@ pub(crate) fn put_needs<L: LiveStore>(
         → PutsNeeds L.state k.old k.new schemas.now channel.now.schema_id content }
     ensures goes_on { OnOk result (phase_of k.new.scribe ≡ phases.Going) }
     ensures stopped { IfErr result (λ stop. phase_of k.new.scribe ≡ phases.Stopped stop) }
+    ensures keeps { KeepsOn (L.state (store_of k.old.scribe)).held (L.state (store_of k.new.scribe)).held }
     ensures cause { Cause (L.state (store_of k.old.scribe)).faults (L.state (store_of k.new.scribe)).faults result }
 {
     put_schema(alloc, k, schemas, channel.schema_id)?;
@@ -84,6 +86,7 @@ pub(crate) fn put_channel<L: LiveStore>(
     ensures takes { PutsChannel L.state k.old k.new schemas.now id content.now }
     ensures goes_on { OnOk result (phase_of k.new.scribe ≡ phases.Going) }
     ensures stopped { IfErr result (λ stop. phase_of k.new.scribe ≡ phases.Stopped stop) }
+    ensures keeps { KeepsOn (L.state (store_of k.old.scribe)).held (L.state (store_of k.new.scribe)).held }
     ensures cause { Cause (L.state (store_of k.old.scribe)).faults (L.state (store_of k.new.scribe)).faults result }
 {
     if k.channels.contains(&id) {
@@ -108,6 +111,7 @@ pub(crate) fn put_message<L: LiveStore>(
     ensures takes { AddsFlatRecords L.state k.old k.new (top message_opcode content.now ∷ []) }
     ensures goes_on { OnOk result (phase_of k.new.scribe ≡ phases.Going) }
     ensures stopped { IfErr result (λ stop. phase_of k.new.scribe ≡ phases.Stopped stop) }
+    ensures keeps { KeepsOn (L.state (store_of k.old.scribe)).held (L.state (store_of k.new.scribe)).held }
     ensures cause { Cause (L.state (store_of k.old.scribe)).faults (L.state (store_of k.new.scribe)).faults result }
 {
     match frame {

@@ -8,7 +8,7 @@ ghost use Rattle.mcap_model.specs.Plain.{asked_topic};
 ghost use Rattle.mcap_model.specs.Rules.{V6, V10};
 ghost use Rattle.chunk_writer.specs.declared.phase.Phase.TheVariants as phases;
 ghost use Rattle.chunk_writer.specs.Stops.{Cause};
-ghost use Rattle.chunk_writer.specs.Scribes.{store_of, phase_of};
+ghost use Rattle.chunk_writer.specs.Scribes.{KeepsOn, store_of, phase_of};
 ghost use Rattle.record_keeping.specs.Keeping.{IsFrame};
 ghost use Rattle.mcap_filter.specs.Picked.{Asking, asking};
 ghost use Rattle.mcap_filter.specs.Picking.{PicksOne, PicksAnywhere, picking};
@@ -36,6 +36,7 @@ fn note_schema<L: LiveStore>(
         (top schema_opcode content.now) }
     ensures goes_on { OnOk result (phase_of k.new.scribe ≡ phases.Going) }
     ensures stopped { IfErr result (λ stop. phase_of k.new.scribe ≡ phases.Stopped stop) }
+    ensures keeps { KeepsOn (L.state (store_of k.old.scribe)).held (L.state (store_of k.new.scribe)).held }
     ensures cause { Cause (L.state (store_of k.old.scribe)).faults (L.state (store_of k.new.scribe)).faults result }
 {
     match note(alloc, &mut choices.schemas, schema.id, content) {
@@ -59,6 +60,7 @@ fn note_channel<L: LiveStore>(
         (picking k.old choices.old) (picking k.new choices.new) (top channel_opcode content.now) }
     ensures goes_on { OnOk result (phase_of k.new.scribe ≡ phases.Going) }
     ensures stopped { IfErr result (λ stop. phase_of k.new.scribe ≡ phases.Stopped stop) }
+    ensures keeps { KeepsOn (L.state (store_of k.old.scribe)).held (L.state (store_of k.new.scribe)).held }
     ensures cause { Cause (L.state (store_of k.old.scribe)).faults (L.state (store_of k.new.scribe)).faults result }
 {
     match choose(alloc, choices, topic, channel, content) {
@@ -85,6 +87,7 @@ fn pick_message<L: LiveStore>(
         (picking k.new choices.now) frame.entry (top message_opcode content.now) }
     ensures goes_on { OnOk result (phase_of k.new.scribe ≡ phases.Going) }
     ensures stopped { IfErr result (λ stop. phase_of k.new.scribe ≡ phases.Stopped stop) }
+    ensures keeps { KeepsOn (L.state (store_of k.old.scribe)).held (L.state (store_of k.new.scribe)).held }
     ensures cause { Cause (L.state (store_of k.old.scribe)).faults (L.state (store_of k.new.scribe)).faults result }
 {
     if !is_within(range, message.log_time) {
@@ -117,6 +120,7 @@ pub(crate) fn pick_record<L: LiveStore>(
         (picking k.new choices.new) frame.entry (top op content.now) }
     ensures goes_on { OnOk result (phase_of k.new.scribe ≡ phases.Going) }
     ensures stopped { IfErr result (λ stop. phase_of k.new.scribe ≡ phases.Stopped stop) }
+    ensures keeps { KeepsOn (L.state (store_of k.old.scribe)).held (L.state (store_of k.new.scribe)).held }
     ensures cause { Cause (L.state (store_of k.old.scribe)).faults (L.state (store_of k.new.scribe)).faults result }
 {
     match view_record(op, content) {

@@ -1,5 +1,5 @@
 -- What a recovery leaves where it ends.
-use Rattle.std.proofs.Common.{◌≡◌, ℕ, ◌+◌, List, [], ◌++◌, length, Result, Ok, Err, refl, sym, ap, subst, inl, inr, ◌∙◌, arith}
+use Rattle.std.proofs.Common.{◌≡◌, ℕ, ◌+◌, List, [], ◌++◌, length, Result, Ok, Err, refl, sym, ap, subst, inl, inr, ◌∙◌, append-nil, arith}
 use Rattle.std.specs.Prelude.{filter}
 use Rattle.rec_data.specs.declared.owned.Rec.{Rec}
 use Rattle.mcap_io.specs.Outside.{SourceState, LiveState}
@@ -16,8 +16,8 @@ use Rattle.mcap_model.specs.declared.refusals.ReadingRefused.TheVariants as scan
 use Rattle.mcap_model.specs.declared.rules.Rule.{Rule}
 use Rattle.mcap_scan.specs.declared.reader.Reader.{Reader}
 use Rattle.mcap_scan.specs.RefusedReadings.{HaltsSo, RefusalStands}
+use Rattle.mcap_scan.specs.Sources.{ReadFromFront}
 use Rattle.mcap_scan.specs.declared.flat_reader.FlatReader.{FlatReader}
-use Rattle.chunk_writer.specs.declared.tape.Written.{Written}
 use Rattle.chunk_writer.specs.Stops.{numbers, StopsAt, StopCause}
 use Rattle.chunk_writer.specs.Scribes.{phase_of, blocks_of, planned_bytes}
 use Rattle.chunk_writer.specs.declared.phase.Phase.TheVariants as phases
@@ -26,9 +26,11 @@ use Rattle.record_keeping.specs.declared.ending.Over.{Over}
 use Rattle.record_keeping.specs.declared.ending.Over.TheVariants as overs
 use Rattle.record_keeping.specs.Keeping.{KeepingStandsFor}
 use Rattle.record_keeping.specs.Ending.{OverSo}
-use Rattle.record_keeping.specs.NewFiles.{HasMagic, recovered_options, OfBoth, StandsPart}
+use Rattle.record_keeping.specs.NewFiles.{recovered_options, OfRepaired, StandsPart, StandsRipe}
 use Rattle.record_keeping.specs.Readings.{BeginsFile}
 use Rattle.record_keeping.proofs.Reading.{good_within, begin_reading}
+use Rattle.record_keeping.proofs.Ripe.{cut_stopped, cut_over, cut_begun, first_begins}
+use Rattle.record_keeping.proofs.Given.{not_none}
 use Rattle.record_keeping.proofs.Files.{of_longer, of_exact, nothing_stands, going_part, filter_few, tops_few, history_few, all_counted}
 use Rattle.mcap_recover.specs.declared.answers.Recovered.{Recovered}
 use Rattle.mcap_recover.specs.declared.answers.Why.{Why}
@@ -36,23 +38,28 @@ use Rattle.mcap_recover.specs.declared.answers.Why.TheVariants as whys
 use Rattle.mcap_recover.specs.declared.answers.RecoverRefused.{RecoverRefused}
 use Rattle.mcap_recover.specs.declared.answers.RecoverRefused.TheVariants as refusals
 use Rattle.mcap_recover.specs.Readings.{GrammarTold, RefusalTold, HaltTold, stands_kept, Repairing, KeptOf, origin, ReadingCameToEnd, IsStopped, UnbegunSo, BeginsReading}
-use Rattle.mcap_recover.specs.Recovering.{lacks, TellsHalt, BreaksOff, StandsRipe, IsUnrecovered, Recovers}
+use Rattle.mcap_recover.specs.Recovering.{lacks, TellsHalt, BreaksOff, recovered_making, HasHalted, IsUnrecovered, Recovers}
 use Rattle.mcap_recover.specs.RecoverySteps.{FinishesFile}
 
 -- ---- where the writer stopped
 
-pub stopped_recovers : (chunk : ℕ) (before now : SourceState) (opened stored : LiveState) (stop : Stop) (written : Written) → StopCause opened.faults stored.faults stop → now.faults ≡ before.faults → HasMagic before
-    → OfBoth chunk before (λ options extras history. StopsAt options extras history opened.held stored.held stop written) → Recovers chunk before now opened stored (Err (refusals.Stopped stop))
-stopped_recovers chunk before now opened stored stop written cause still magic_is each = record { source = still; store = cause; magic = magic_is; written = written; stops = each }
-
 pub is_stopped_recovers : {L : Type 0} (seen : L → LiveState) (chunk : ℕ) (profile : List ℕ) (before now : SourceState) (opened : LiveState) (k : Keeping L) (stop : Stop)
     → StopCause opened.faults (seen k.scribe.store).faults stop → IsStopped seen (recovered_options profile chunk) before now opened k stop → Recovers chunk before now opened (seen k.scribe.store) (Err (refusals.Stopped stop))
 is_stopped_recovers seen chunk profile before now opened k stop cause (it, stopped) =
-    stopped_recovers chunk before now opened (seen k.scribe.store) stop (numbers (blocks_of k.scribe) (planned_bytes k.scribe)) cause it.still
-    (λ bytes told. let (rest, there) = it.read bytes told in (spelled it.tops ++ rest, there.split))
-    (of_longer chunk before it.tops it.extras profile it.history (λ options extras history. StopsAt options extras history opened.held (seen k.scribe.store).held stop (numbers (blocks_of k.scribe) (planned_bytes k.scribe)))
-    it.good (λ bytes told. inr (it.read bytes told)) (λ none. absurd (it.some none)) it.repairs
-    (λ others behind. (it.keeps.writes.0.stopped stop stopped others behind).stops))
+    let options = recovered_options profile chunk in
+    let at = numbers (blocks_of k.scribe) (planned_bytes k.scribe) in
+    let held = (seen k.scribe.store).held in
+    let stops : (others : List Top) (behind : List Rec) → StopsAt options others (it.history ++ behind) opened.held held stop at = λ others behind. (it.keeps.writes.0.stopped stop stopped others behind).stops in
+    record {
+      source = it.still;
+      store = cause;
+      magic = λ bytes told. let (rest, left, there) = it.read bytes told in (spelled it.tops ++ rest, there.split);
+      written = at;
+      cut = cut_stopped seen (recovered_making chunk) (HasHalted before now) (stands_kept seen options opened k) profile before now opened k stop at it
+          (subst (λ (l : List Rec). StopsAt options it.extras l opened.held held stop at) (append-nil it.history) (stops it.extras []));
+      stops = of_longer chunk before it.tops it.extras profile it.history (λ options extras history. StopsAt options extras history opened.held held stop at)
+          it.good (λ bytes told. let (rest, left, there) = it.read bytes told in inr (rest, there)) (λ none. absurd (not_none it.earlier it.last (sym it.are ∙ none))) it.repairs stops;
+    }
 
 -- ---- where the source failed, or memory lacked
 
@@ -96,7 +103,7 @@ pub nothing_recovers : (chunk : ℕ) (before : SourceState) (opened : LiveState)
 nothing_recovers chunk before opened = unbegun_recovers chunk before before opened scans.Memory (record {
   tops = [];
   good = λ n t at. absurd (at_none n t at);
-  few = omega arith;
+  few = inl refl;
   broken = record { still = refl; good = λ n t at. absurd (at_none n t at); leaves = λ bytes told. inl (refl, told) };
 })
 
@@ -118,11 +125,11 @@ over_recovers seen chunk profile before now opened reader k over refusal it told
     was : KeptOf seen (recovered_options profile chunk) before opened k
     was = it.kept
 
-    part : OfBoth chunk before (StandsPart opened (seen k.scribe.store))
+    part : OfRepaired chunk before (StandsPart opened (seen k.scribe.store))
     part = of_longer chunk before was.tops was.extras profile was.history (StandsPart opened (seen k.scribe.store)) was.good was.read was.begun was.repairs
         (going_part seen (recovered_options profile chunk) was.extras opened was.history k going was.keeps)
 
-    ripe : StandsRipe chunk was.tops opened (seen k.scribe.store)
+    ripe : StandsRipe (recovered_making chunk) was.tops opened (seen k.scribe.store)
     ripe = let writes = was.keeps.writes in record {
       text = written_of (recovered_options profile chunk) was.history;
       ripe = record { profile = profile; extras = was.extras; history = was.history; repairs = was.repairs; are = refl };
@@ -131,7 +138,7 @@ over_recovers seen chunk profile before now opened reader k over refusal it told
     }
 
     unread : (w : ReadingRefused) → BreaksOff w before now was.tops → IsUnrecovered chunk before now opened (seen k.scribe.store) w
-    unread w broken = record { tops = was.tops; good = was.good; broken = broken; still = still; keeps = inr (was.magic, ripe); part = part.of_repaired }
+    unread w broken = record { tops = was.tops; good = was.good; broken = broken; still = still; keeps = inr (was.magic, ripe); part = part }
 
     refused : (w : ReadingRefused) → RefusalStands w before now was.tops → RefusalTold w (Err refusal) → Recovers chunk before now opened (seen k.scribe.store) (Err refusal)
     refused (scans.Fault faults) stands is =
@@ -218,19 +225,32 @@ finish_recovers seen chunk profile before now opened stored reader k over at why
 finish_recovers seen chunk profile before now opened stored reader k over at why (Err (refusals.Stopped stop)) it told still finishes =
     let was = it.kept in
     let (halt, halts, tells) = over_halts reader before now was.tops over at why it.over_so told in
-    let (written, stops, cause) = finishes (recovered_options profile chunk) was.extras opened was.history was.keeps in
-    stopped_recovers chunk before now opened stored stop written (subst (λ (n : ℕ). StopCause n stored.faults stop) still cause) halts.still was.magic
-    (of_exact chunk before was.tops was.extras profile was.history (λ options extras history. StopsAt options extras history opened.held stored.held stop written) was.good (λ b known. (halts.halts b known).kept) was.repairs stops)
+    let (written, stops, cause, adds) = finishes (recovered_options profile chunk) was.extras opened was.history was.keeps in
+    record {
+      source = halts.still;
+      store = subst (λ (n : ℕ). StopCause n stored.faults stop) still cause;
+      magic = was.magic;
+      written = written;
+      cut = cut_over (recovered_making chunk) (ReadFromFront before now) (HasHalted before now) was.tops was.extras profile was.history opened.held stored.held stop written was.good (halt, halts) was.repairs stops (adds refl);
+      stops = of_exact chunk before was.tops was.extras profile was.history (λ options extras history. StopsAt options extras history opened.held stored.held stop written) (λ b known. (halts.halts b known).kept) was.repairs stops;
+    }
 
 -- ---- the begin of the new file
 
-pub begin_repairing : {L : Type 0} (seen : L → LiveState) (chunk : ℕ) (profile : List ℕ) (before now : SourceState) (opened : LiveState) (flat : FlatReader) (k : Keeping L) → BeginsFile before now flat profile
+pub begin_repairing : {L : Type 0} (seen : L → LiveState) (chunk : ℕ) (profile : List ℕ) (before now : SourceState) (opened : LiveState) (flat : FlatReader) (k : Keeping L) → BeginsFile (HasHalted before now) before now flat profile
     → KeepingStandsFor seen (recovered_options profile chunk) [] opened [] k → Repairing seen (recovered_options profile chunk) before now opened flat k
-begin_repairing seen chunk profile before now opened flat k begins keeps = begin_reading (stands_kept seen (recovered_options profile chunk) opened k) profile before now flat begins keeps
+begin_repairing seen chunk profile before now opened flat k begins keeps = begin_reading (HasHalted before now) (stands_kept seen (recovered_options profile chunk) opened k) profile before now flat begins keeps
 
-pub open_recovers : (chunk : ℕ) (profile : List ℕ) (before now : SourceState) (opened stored : LiveState) (flat : FlatReader) (stop : Stop) → BeginsFile before now flat profile
+pub open_recovers : (chunk : ℕ) (profile : List ℕ) (before now : SourceState) (opened stored : LiveState) (flat : FlatReader) (stop : Stop) → BeginsFile (HasHalted before now) before now flat profile
     → StopCause opened.faults stored.faults stop → ((extras : List Top) (history : List Rec) → StopsAt (recovered_options profile chunk) extras history opened.held stored.held stop (numbers 0 0)) → Recovers chunk before now opened stored (Err (refusals.Stopped stop))
 open_recovers chunk profile before now opened stored flat stop begins cause stops =
     let shows = begins.shows in
-    stopped_recovers chunk before now opened stored stop (numbers 0 0) cause begins.still begins.magic
-    (of_longer chunk before shows.first [] profile [] (λ options extras history. StopsAt options extras history opened.held stored.held stop (numbers 0 0)) shows.good shows.read shows.none shows.repairs (λ others behind. stops others behind))
+    record {
+      source = begins.still;
+      store = cause;
+      magic = begins.magic;
+      written = numbers 0 0;
+      cut = cut_begun (recovered_making chunk) (HasHalted before now) profile before now opened stored stop (numbers 0 0) shows (stops [] []);
+      stops = of_longer chunk before shows.first [] profile [] (λ options extras history. StopsAt options extras history opened.held stored.held stop (numbers 0 0)) shows.good (first_begins (HasHalted before now) before now profile shows) shows.none shows.repairs
+          (λ others behind. stops others behind);
+    }

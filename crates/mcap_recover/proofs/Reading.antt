@@ -1,5 +1,7 @@
 -- What is kept with a record of a source more, and how the reading of a first record is answered.
-use Rattle.std.proofs.Common.{◌≡◌, ℕ, ◌≤◌, Bool, true, false, List, [], ◌∷◌, length, Option, Result, Ok, Err, refl, sym, ap, subst, inl, arith}
+use Rattle.std.proofs.Common.{◌≡◌, ℕ, List, [], ◌∷◌, length, Option, Result, Ok, Err, refl, sym, ap, subst, inl, inr, arith}
+use Rattle.rec_data.specs.Fields.{HeaderFields}
+use Rattle.rec_data.specs.Records.{ShowsHeader}
 use Rattle.mcap_io.specs.Outside.{SourceState, LiveState}
 use Rattle.mcap_model.specs.declared.options.FileOptions.{FileOptions}
 use Rattle.mcap_model.specs.declared.ends.Stop.{Stop}
@@ -21,19 +23,20 @@ use Rattle.mcap_scan.specs.RefusedReadings.{RefusalStands}
 use Rattle.mcap_scan.proofs.Scanning.{good_stand, lacks_behind}
 use Rattle.mcap_scan.specs.declared.flat_reader.FlatReader.{FlatReader}
 use Rattle.mcap_scan.specs.Walking.{flat_content, IsHeldFrame, ahead_of, FlatStands, FlatGives, FlatFinds, FlatRefuses, IsFlatDone}
-use Rattle.chunk_writer.specs.Scribes.{phase_of}
+use Rattle.chunk_writer.specs.Scribes.{KeepsOn, phase_of}
 use Rattle.chunk_writer.specs.declared.phase.Phase.TheVariants as phases
 use Rattle.record_keeping.specs.declared.keeping.Keeping.{Keeping}
 use Rattle.record_keeping.specs.declared.ending.Over.TheVariants as overs
-use Rattle.record_keeping.specs.Keeping.{AddsOneRecord}
+use Rattle.record_keeping.specs.Keeping.{AddsOneRecord, HasWritten}
 use Rattle.record_keeping.specs.NewFiles.{HasMagic}
 use Rattle.record_keeping.specs.Readings.{RepairsGiven, KeepsNone}
 use Rattle.record_keeping.proofs.Keepings.{stopped_more}
-use Rattle.record_keeping.proofs.Reading.{ended_some, reading_on, stopped_reading, ended_reading, refused_reading}
+use Rattle.record_keeping.proofs.Reading.{ended_some, header_alone, reading_on, stopped_reading, ended_reading, refused_reading}
+use Rattle.record_keeping.proofs.Ripe.{wrote_first}
 use Rattle.mcap_recover.specs.declared.answers.RecoverRefused.{RecoverRefused}
 use Rattle.mcap_recover.specs.declared.answers.RecoverRefused.TheVariants as refusals
-use Rattle.mcap_recover.specs.Readings.{stands_kept, Repairing, origin, ReadingCameToEnd, IsStopped, BeginsReading, StartsSo, HaltsStart}
-use Rattle.mcap_recover.specs.Recovering.{lacks, IsUnbegun, BreaksOff}
+use Rattle.mcap_recover.specs.Readings.{stands_kept, Repairing, origin, ReadingCameToEnd, IsStopped, BeginsReading, StartsSo, IsBreak, HaltsStart}
+use Rattle.mcap_recover.specs.Recovering.{lacks, BreaksOff, HasHalted}
 use denote.Ref.{Bor}
 
 -- one record more was read, and kept
@@ -47,11 +50,12 @@ repairing_on seen options before mid now opened flat next k after op place frame
 -- it was read, and the writer stopped at what it shows: it stands for the records of the chunk too that weren't given
 pub stopped_on_it : {L : Type 0} (seen : L → LiveState) (options : FileOptions) (before mid now : SourceState) (opened : LiveState) (flat next : FlatReader) (k after : Keeping L) (op : ℕ) (place : Place) (frame : Option (Bor (List ℕ))) (stop : Stop)
     → (was : Repairing seen options before mid opened flat k) → (IsFlatDone flat → ⊥) → FlatGives next before now was.tops was.given op place → IsHeldFrame next frame → AddsOneRecord seen k after frame (top op (flat_content next))
-    → phase_of after.scribe ≡ phases.Stopped stop → IsStopped seen options before now opened after stop
-stopped_on_it seen options before mid now opened flat next k after op place frame stop was undone gives held takes stopped = (
-  stopped_reading (stands_kept seen options opened k) (stands_kept seen options opened after) (stands_kept seen options opened after) options.profile before mid now flat next op place frame was undone gives held
+    → phase_of k.scribe ≡ phases.Going → KeepsOn (seen k.scribe.store).held (seen after.scribe.store).held → phase_of after.scribe ≡ phases.Stopped stop → IsStopped seen options before now opened after stop
+stopped_on_it seen options before mid now opened flat next k after op place frame stop was undone gives held takes going on stopped = (
+  stopped_reading (stands_kept seen options opened k) (stands_kept seen options opened after) (stands_kept seen options opened after) (HasWritten seen options opened after) options.profile before mid now flat next op place frame was undone gives held
       (λ rs zip keeps. takes rs zip options was.extras opened was.history keeps)
-      (λ later ss. stopped_more seen options later.extras opened later.history ss after stop stopped later.keeps),
+      (λ later ss. stopped_more seen options later.extras opened later.history ss after stop stopped later.keeps)
+      (λ earlier others first more good repairs is. wrote_first seen options was.extras opened was.history first more k after was.keeps going on is),
   stopped,
 )
 
@@ -77,7 +81,7 @@ magic_by bytes halt (at_data_end rest stands ended) other = (rest, stands.split)
 magic_by bytes halt (behind_kept rest stands unended it there) other = (rest, stands.split)
 
 -- the reading was refused for what breaks it off
-breaks_off : (why : ReadingRefused) (before now : SourceState) (tops : List Top) → RefusalStands why before now tops → IsUnbegun why tops → BreaksOff why before now tops
+breaks_off : (why : ReadingRefused) (before now : SourceState) (tops : List Top) → RefusalStands why before now tops → IsBreak why → BreaksOff why before now tops
 breaks_off (scans.Fault faults) before now tops it few = it
 breaks_off (scans.Grammar offset rule) before now tops it few = absurd few
 breaks_off (scans.Compressed offset name) before now tops it few = absurd few
@@ -97,7 +101,7 @@ begun_refused flat before now why (Ok profile) was done stands (none, halts) = r
   shows = record {
     first = [];
     good = λ n t at. absurd (at_none n t at);
-    read = λ bytes told. inl refl;
+    stopped = inr (refl, halted why stands halts);
     none = λ same. keeps_none why stands halts;
     repairs = subst (λ (l : List ℕ). Repairs [] l [] []) (sym none) (record { profile_is = refl; extras_are = refl; flattened = []; are_flattened = tt; history_is = refl });
   };
@@ -111,6 +115,13 @@ begun_refused flat before now why (Ok profile) was done stands (none, halts) = r
     start_still (scans.Compressed at name) it start = it.still
     start_still (scans.Limit at) it start = it.still
     start_still scans.Memory it start = absurd start
+
+    halted : (w : ReadingRefused) → RefusalStands w before now [] → HaltsStart w → HasHalted before now []
+    halted (scans.Fault faults) it start = absurd start
+    halted (scans.Grammar at rule) it start = (grammar at rule, it)
+    halted (scans.Compressed at name) it start = (compressed at name, it)
+    halted (scans.Limit at) it start = (beyond at, it)
+    halted scans.Memory it start = absurd start
 
     has_magic : (w : ReadingRefused) → RefusalStands w before now [] → HaltsStart w → HasMagic before
     has_magic (scans.Fault faults) it start = absurd start
@@ -126,31 +137,22 @@ begun_refused flat before now why (Ok profile) was done stands (none, halts) = r
     keeps_none (scans.Limit at) it start = λ bytes told. (it.halts bytes told).kept
     keeps_none scans.Memory it start = absurd start
 begun_refused flat before now why (Err refusals.NoMagic) was done stands (rule, is) = (rule, subst (λ w. RefusalStands w before now []) is stands)
-begun_refused flat before now why (Err (refusals.Refused told)) was done stands (same, few) = record {
+begun_refused flat before now why (Err (refusals.Refused told)) was done stands (same, breaks) = record {
   tops = [];
   good = λ n t at. absurd (at_none n t at);
-  few = few;
-  broken = breaks_off told before now [] (subst (λ w. RefusalStands w before now []) same stands) few;
+  few = inl refl;
+  broken = breaks_off told before now [] (subst (λ w. RefusalStands w before now []) same stands) breaks;
 }
 begun_refused flat before now why (Err (refusals.Stopped stop)) was done stands is = absurd is
 
-few_more : (flat : FlatReader) (more : List Top) (t : Top) → (flat.inside ≡ true → more ≡ []) → (flat.inside ≡ false → more ≡ t ∷ []) → length more ≤ 1
-few_more flat more t within alone = by flat.inside refl
-  where
-    by : (b : Bool) → flat.inside ≡ b → length more ≤ 1
-    by true inside = let none = ap (λ (l : List Top). length l) (within inside) in omega (arith, none)
-    by false outside = let one = ap (λ (l : List Top). length l) (alone outside) in omega (arith, one)
-
 -- the Header was read, and memory lacked for its profile
-pub begun_lacks : (flat : FlatReader) (before now : SourceState) (op : ℕ) (place : Place) → FlatGives flat before now [] [] op place → BeginsReading before now flat (Err lacks)
-begun_lacks flat before now op place gives =
+pub begun_lacks : (flat : FlatReader) (before now : SourceState) (op : ℕ) (place : Place) → FlatGives flat before now [] [] op place → ((f : HeaderFields) → ShowsHeader (flat_content flat) f → f.profile ≡ [] → ⊥) → BeginsReading before now flat (Err lacks)
+begun_lacks flat before now op place gives named =
     let stands = gives.stands in
-    let few = few_more flat gives.more (top op (flat_content flat)) gives.within gives.alone in
-    let same = ap (λ (l : List Top). length l) gives.grown in
     record {
       tops = gives.tops;
       good = good_stand flat.reader before now gives.tops gives.going stands.stands;
-      few = omega (arith, few, same);
+      few = inr (refl, header_alone flat before now op place gives named);
       broken = lacks_behind flat.reader before now gives.tops gives.going stands.stands;
     }
 

@@ -13,19 +13,21 @@ use Rattle.mcap_model.specs.declared.rules.Rule.TheVariants as rules
 use Rattle.mcap_scan.specs.declared.reader.Reader.{Reader}
 use Rattle.mcap_scan.specs.declared.reader.Stage.TheVariants as stages
 use Rattle.mcap_scan.specs.RefusedReadings.{HaltsSo}
+use Rattle.mcap_scan.specs.Sources.{ReadFromFront}
 use Rattle.mcap_scan.specs.declared.flat_reader.FlatReader.{FlatReader}
 use Rattle.chunk_writer.specs.declared.phase.Phase.TheVariants as phases
 use Rattle.chunk_writer.specs.Scribes.{phase_of}
 use Rattle.record_keeping.specs.declared.keeping.Keeping.{Keeping}
 use Rattle.record_keeping.specs.declared.ending.Over.{Over}
 use Rattle.record_keeping.specs.declared.ending.Over.TheVariants as overs
-use Rattle.record_keeping.specs.Keeping.{KeepingStandsFor}
+use Rattle.record_keeping.specs.Keeping.{KeepingStandsFor, HasWritten}
+use Rattle.record_keeping.specs.NewFiles.{IsUnbegun}
 use Rattle.record_keeping.specs.Readings.{ReadSoFar, ReadWhole, ReadToEnd, ReadStopped, BeginsFile}
 use Rattle.mcap_recover.specs.declared.answers.Why.{Why}
 use Rattle.mcap_recover.specs.declared.answers.Why.TheVariants as whys
 use Rattle.mcap_recover.specs.declared.answers.RecoverRefused.{RecoverRefused}
 use Rattle.mcap_recover.specs.declared.answers.RecoverRefused.TheVariants as refusals
-use Rattle.mcap_recover.specs.Recovering.{lacks, IsUnbegun, BreaksOff}
+use Rattle.mcap_recover.specs.Recovering.{lacks, BreaksOff, HasHalted}
 
 -- ---- how a reading ended
 
@@ -81,7 +83,7 @@ ReadingCameToEnd seen from now reader k over =
 abbrev pub IsStopped : {L : Type 0} → (L → LiveState) → FileOptions → SourceState → SourceState → LiveState
     → Keeping L → Stop → Type 0
 IsStopped seen options before now opened k stop =
-    ReadStopped (stands_kept seen options opened k) options.profile before now
+    ReadStopped (stands_kept seen options opened k) (HasWritten seen options opened k) options.profile before now
     × (phase_of k.scribe ≡ phases.Stopped stop)
 
 abbrev pub ReadsOn : {L : Type 0} → (L → LiveState) → Origin → SourceState → FlatReader → Keeping L → Result Over Stop
@@ -99,23 +101,31 @@ HaltsStart (scans.Compressed offset name) = Unit {0}
 HaltsStart (scans.Limit offset) = Unit {0}
 HaltsStart scans.Memory = ⊥
 
+-- it broke off
+abbrev pub IsBreak : ReadingRefused → Type 0
+IsBreak (scans.Fault faults) = Unit {0}
+IsBreak (scans.Grammar offset rule) = ⊥
+IsBreak (scans.Compressed offset name) = ⊥
+IsBreak (scans.Limit offset) = ⊥
+IsBreak scans.Memory = Unit {0}
+
 -- why the first record was refused, and what begins then
 abbrev pub StartsSo : ReadingRefused → Result (List ℕ) RecoverRefused → Type 0
 StartsSo why (Ok profile) = (profile ≡ []) × HaltsStart why
 StartsSo why (Err refusals.NoMagic) = (rule : Rule) × (why ≡ scans.Grammar 0 rule)
-StartsSo why (Err (refusals.Refused told)) = (why ≡ told) × IsUnbegun told []
+StartsSo why (Err (refusals.Refused told)) = (why ≡ told) × IsBreak told
 StartsSo why (Err (refusals.Stopped stop)) = ⊥
 
 -- nothing is written, since the reading broke off
 pub record UnbegunSo (before now : SourceState) (why : ReadingRefused) : Type 0 where
   pub tops : List Top
   pub good : Good reading_limits tops
-  pub few : IsUnbegun why tops
+  pub few : IsUnbegun why (ReadFromFront before now) tops
   pub broken : BreaksOff why before now tops
 
 -- That; or the source doesn't begin with the magic.
 abbrev pub BeginsReading : SourceState → SourceState → FlatReader → Result (List ℕ) RecoverRefused → Type 0
-BeginsReading before now flat (Ok profile) = BeginsFile before now flat profile
+BeginsReading before now flat (Ok profile) = BeginsFile (HasHalted before now) before now flat profile
 BeginsReading before now flat (Err refusals.NoMagic) = (rule : Rule) × HaltsSo before now [] (grammar 0 rule)
 BeginsReading before now flat (Err (refusals.Refused why)) = UnbegunSo before now why
 BeginsReading before now flat (Err (refusals.Stopped stop)) = ⊥

@@ -1,5 +1,5 @@
 -- What a recovery leaves, and what it answers.
-use Rattle.std.specs.Prelude.{◌≡◌, ◌⊎◌, ◌≤◌, ℕ, List, [], Option, Some, length, filter, None, Result, Ok, Err}
+use Rattle.std.specs.Prelude.{◌≡◌, ◌⊎◌, ℕ, List, Option, Some, length, filter, None, Result, Ok, Err}
 use Rattle.mcap_io.specs.Outside.{SourceState, LiveState, Adds}
 use Rattle.mcap_model.specs.declared.refusals.ReadingRefused.TheVariants as scans
 use Rattle.mcap_recover.specs.declared.answers.RecoverRefused.{RecoverRefused}
@@ -8,20 +8,19 @@ use Rattle.rec_data.specs.declared.owned.Rec.{Rec}
 use Rattle.mcap_model.specs.declared.ends.Stop.{Stop}
 use Rattle.mcap_model.specs.declared.refusals.ReadingRefused.{ReadingRefused}
 use Rattle.mcap_model.specs.Tops.{Top}
-use Rattle.mcap_model.specs.Kept.{Good, reading_limits, Halt, at_end, grammar, compressed, beyond}
+use Rattle.mcap_model.specs.Kept.{Good, reading_limits, Halt, Halts, at_end, grammar, compressed, beyond}
 use Rattle.mcap_model.specs.History.{is_message}
 use Rattle.mcap_model.specs.Blocks.{pieces_of, blocks_in}
 use Rattle.mcap_model.specs.File.{file_of}
-use Rattle.mcap_model.specs.Histories.{written_of}
 use Rattle.mcap_model.specs.Repaired.{Repairs}
 use Rattle.mcap_model.specs.declared.rules.Rule.{Rule}
 use Rattle.mcap_model.specs.declared.rules.Rule.TheVariants as rules
 use Rattle.mcap_scan.specs.RefusedReadings.{HaltsSo, FaultStands, MemoryStands}
-use Rattle.mcap_scan.specs.Sources.{FaultLeaves, MemoryLeaves}
-use Rattle.chunk_writer.specs.Limits.{Holds}
+use Rattle.mcap_scan.specs.Sources.{ReadFromFront, HaltLeaves, FaultLeaves, MemoryLeaves}
+use Rattle.chunk_writer.specs.Limits.{FileHolds}
 use Rattle.chunk_writer.specs.declared.tape.Written.{Written}
 use Rattle.chunk_writer.specs.Stops.{StopsAt, StopCause}
-use Rattle.record_keeping.specs.NewFiles.{HasMagic, LacksMagic, recovered_options, OfRepaired, OfBoth, StandsPart, FaultsStill}
+use Rattle.record_keeping.specs.NewFiles.{HasMagic, LacksMagic, recovered_options, OfRepaired, StandsPart, FaultsStill, IsUnbegun, Making, making, StandsRipe, CutShort}
 use Rattle.mcap_recover.specs.declared.answers.Why.{Why}
 use Rattle.mcap_recover.specs.declared.answers.Why.TheVariants as whys
 use Rattle.mcap_recover.specs.declared.answers.Recovered.{Recovered}
@@ -53,7 +52,7 @@ pub record IsRecovered (chunk : ℕ) (before now : SourceState) (opened stored :
   pub history : List Rec
   pub repairs : Repairs tops profile extras history
   pub file : Adds opened.held stored.held (file_of (recovered_options profile chunk) extras history)
-  pub within : Holds (length (blocks_in (pieces_of (Some chunk) None history))) (length
+  pub within : FileHolds profile (blocks_in (pieces_of (Some chunk) None history)) (length
       (file_of (recovered_options profile chunk) extras history))
   pub messages : r.messages ≡ length (filter is_message history)
   pub records : r.records ≡ length history
@@ -79,30 +78,15 @@ BreaksOffLeaving (scans.Compressed offset name) bytes tops left = ⊥
 BreaksOffLeaving (scans.Limit offset) bytes tops left = ⊥
 BreaksOffLeaving scans.Memory bytes tops left = MemoryLeaves bytes tops left
 
--- nothing was written: the source failed within its first record; or memory lacked for that, or for its profile
-abbrev pub IsUnbegun : ReadingRefused → List Top → Type 0
-IsUnbegun (scans.Fault faults) tops = tops ≡ []
-IsUnbegun (scans.Grammar offset rule) tops = ⊥
-IsUnbegun (scans.Compressed offset name) tops = ⊥
-IsUnbegun (scans.Limit offset) tops = ⊥
-IsUnbegun scans.Memory tops = length tops ≤ 1
+-- all of a history is written
+abbrev pub all_of : List Rec → List Rec
+all_of history = history
 
--- the bytes are the magic, the Header and all ripe blocks of what repairing makes of these records
-pub record AreRipe (chunk : ℕ) (tops : List Top) (text : List ℕ) : Type 0 where
-  pub profile : List ℕ
-  pub extras : List Top
-  pub history : List Rec
-  pub repairs : Repairs tops profile extras history
-  pub are : text ≡ written_of (recovered_options profile chunk) history
+-- a recovery's file, in chunks of that size
+abbrev pub recovered_making : ℕ → Making
+recovered_making chunk = making chunk all_of
 
--- such bytes stand behind what the store held, and are with the system
-pub record StandsRipe (chunk : ℕ) (tops : List Top) (opened stored : LiveState) : Type 0 where
-  pub text : List ℕ
-  pub ripe : AreRipe chunk tops text
-  pub adds : Adds opened.held stored.held text
-  pub through : stored.waiting ≡ 0
-
--- The reading broke off behind these good records, and the front and all ripe blocks of them stand in the store, if anything was
+-- The reading broke off after these good records, and the front and all ripe blocks of them stand in the store, if anything was
 -- written. They are a first part of the file that repairing makes of all bytes. The count of the store stands still.
 pub record IsUnrecovered (chunk : ℕ) (before now : SourceState) (opened stored : LiveState) (why : ReadingRefused)
     : Type 0 where
@@ -110,18 +94,29 @@ pub record IsUnrecovered (chunk : ℕ) (before now : SourceState) (opened stored
   pub good : Good reading_limits tops
   pub broken : BreaksOff why before now tops
   pub still : stored.faults ≡ opened.faults
-  pub keeps : (IsUnbegun why tops × (stored ≡ opened)) ⊎ (HasMagic before × StandsRipe chunk tops opened stored)
+  pub keeps : (IsUnbegun why (ReadFromFront before now) tops × (stored ≡ opened))
+      ⊎ (HasMagic before × StandsRipe (recovered_making chunk) tops opened stored)
   pub part : OfRepaired chunk before (StandsPart opened stored)
 
--- The writer stopped at a piece of the file: the count of the store rose by one where it failed, and is the one which is told, and
--- stands still else. That of the source stands still.
+-- a reading of the source halts after these records
+abbrev pub HasHalted : SourceState → SourceState → List Top → Type 0
+HasHalted before now tops = (halt : Halt) × HaltsSo before now tops halt
+
+-- the same of its bytes, where they are told: a reading halts after these records, and this is left
+abbrev pub HaltedBytes : List ℕ → Option (List ℕ) → List Top → Type 0
+HaltedBytes bytes left tops = (halt : Halt) × Halts reading_limits bytes tops halt × HaltLeaves bytes tops halt left
+
+-- The writer stopped at a piece of the file, after all that is ripe of the records before the one at hand: the count of the store
+-- rose by one where it failed, and is the one which is told, and stands still else. That of the source stands still.
 pub record IsUnwritten (chunk : ℕ) (before now : SourceState) (opened stored : LiveState) (stop : Stop) : Type 0 where
   pub source : now.faults ≡ before.faults
   pub store : StopCause opened.faults stored.faults stop
   pub magic : HasMagic before
   pub written : Written
-  pub stops : OfBoth chunk before (λ options extras history. StopsAt options extras history opened.held stored.held stop
-      written)
+  pub cut : CutShort (recovered_making chunk) (ReadFromFront before now) (HasHalted before now) opened.held stored.held stop
+      written
+  pub stops : OfRepaired chunk before (λ options extras history. StopsAt options extras history opened.held
+      stored.held stop written)
 
 abbrev pub Recovers : ℕ → SourceState → SourceState → LiveState → LiveState → Result Recovered RecoverRefused → Type 0
 Recovers chunk before now opened stored (Ok r) = IsRecovered chunk before now opened stored r

@@ -175,7 +175,7 @@ fn finish<L: LiveStore>(k: Keeping<L>, at: u64, why: Why) -> (L, Result<Recovere
 /// from 0x80) at top level; they wait in memory until all chunks stand. The other records are dropped, and those of applications
 /// inside chunks. The source is read once. A source that doesn't begin with the magic is refused, and the store is as it was; after
 /// other refusals the store holds a first part of the file: where the source fails, or memory lacks, the Header and all blocks that
-/// the records up to there fill.
+/// the records up to there fill; and where the writer stops, those of the records before the last one that was read.
 pub fn recover<S: Source, L: LiveStore>(
     alloc: Global,
     source: &mut S,

@@ -29,7 +29,7 @@ use Rattle.chunk_writer.proofs.Stopping.{put_lacks}
 use Rattle.record_keeping.specs.declared.keeping.Keeping.{Keeping}
 use Rattle.record_keeping.specs.Keeping.{KeepingStandsFor, counted}
 use Rattle.record_keeping.specs.Readings.{KeepsNone}
-use Rattle.record_keeping.specs.NewFiles.{recovered_options, OfBoth, StandsPart}
+use Rattle.record_keeping.specs.NewFiles.{recovered_options, OfRepaired, StandsPart}
 
 -- ---- the first ones of some records
 
@@ -51,46 +51,18 @@ goes_on tops more extras others profile other history later none one two =
 -- what is said of each longer history of the same options is said of what repairing makes of the bytes
 pub of_longer : (chunk : ℕ) (before : SourceState) (tops extras : List Top) (profile : List ℕ) (history : List Rec) (holds : FileOptions → List Top → List Rec → Type 0)
     → Good reading_limits tops → ((bytes : List ℕ) → before.left ≡ Some bytes → Begins bytes tops) → (tops ≡ [] → KeepsNone before)
-    → Repairs tops profile extras history → ((others : List Top) (behind : List Rec) → holds (recovered_options profile chunk) others (history ++ behind)) → OfBoth chunk before holds
-of_longer chunk before tops extras profile history holds good read none repairs each = record {
-  of_read = record {
-    tops = tops;
-    good = good;
-    read = read;
-    profile = profile;
-    extras = extras;
-    history = history;
-    repairs = repairs;
-    stands = subst (λ (l : List Rec). holds (recovered_options profile chunk) extras l) (append-nil history) (each extras []);
-  };
-  of_repaired = λ bytes told other others later repaired.
-      let (more, longer, nothing) = found bytes told repaired.tops repaired.kept (read bytes told) in
-      let on = goes_on tops more extras others profile other history later nothing repairs (subst (λ (l : List Top). Repairs l other others later) longer repaired.repairs) in
-      subst (λ (l : List Rec). holds (recovered_options other chunk) others l) (sym on.longer)
-      (subst (λ (p : List ℕ). holds (recovered_options p chunk) others (history ++ on.behind)) on.same (each others on.behind));
-}
+    → Repairs tops profile extras history → ((others : List Top) (behind : List Rec) → holds (recovered_options profile chunk) others (history ++ behind)) → OfRepaired chunk before holds
+of_longer chunk before tops extras profile history holds good read none repairs each bytes told other others later repaired =
+    let (more, longer, nothing) = found bytes told repaired.tops repaired.kept (read bytes told) in
+    let on = goes_on tops more extras others profile other history later nothing repairs (subst (λ (l : List Top). Repairs l other others later) longer repaired.repairs) in
+    subst (λ (l : List Rec). holds (recovered_options other chunk) others l) (sym on.longer)
+    (subst (λ (p : List ℕ). holds (recovered_options p chunk) others (history ++ on.behind)) on.same (each others on.behind))
   where
     found : (bytes : List ℕ) → before.left ≡ Some bytes → (kept : List Top) → Kept reading_limits bytes kept → Begins bytes tops → (more : List Top) × (kept ≡ tops ++ more) × (tops ≡ [] → more ≡ [])
     found bytes told kept it (inl is) = ([], kept_once bytes kept [] it (none is bytes told) ∙ sym (append-nil tops ∙ is), λ e. refl)
     found bytes told kept it (inr (rest, there)) =
         let (more, is) = good_records_are_kept bytes tops kept rest there good it in
         (more, sym is, λ empty. let all = kept_once bytes kept [] it (none empty bytes told) in ap (λ (l : List Top). l ++ more) (sym empty) ∙ is ∙ all)
-
--- of no record
-pub of_none : (chunk : ℕ) (before : SourceState) (holds : FileOptions → List Top → List Rec → Type 0) → ((options : FileOptions) (extras : List Top) (history : List Rec) → holds options extras history) → OfBoth chunk before holds
-of_none chunk before holds each = record {
-  of_read = record {
-    tops = [];
-    good = λ n t at. absurd (at_none n t at);
-    read = λ bytes told. inl refl;
-    profile = [];
-    extras = [];
-    history = [];
-    repairs = record { profile_is = refl; extras_are = refl; flattened = []; are_flattened = tt; history_is = refl };
-    stands = each (recovered_options [] chunk) [] [];
-  };
-  of_repaired = λ bytes told profile extras history repaired. each (recovered_options profile chunk) extras history;
-}
 
 -- ---- first parts of files
 
@@ -192,23 +164,11 @@ all_counted n few = omega (arith, few)
 -- ---- the end of the new file
 
 pub of_exact : (chunk : ℕ) (before : SourceState) (tops extras : List Top) (profile : List ℕ) (history : List Rec) (holds : FileOptions → List Top → List Rec → Type 0)
-    → Good reading_limits tops → ((bytes : List ℕ) → before.left ≡ Some bytes → Kept reading_limits bytes tops)
-    → Repairs tops profile extras history → holds (recovered_options profile chunk) extras history → OfBoth chunk before holds
-of_exact chunk before tops extras profile history holds good keeps repairs it = record {
-  of_read = record {
-    tops = tops;
-    good = good;
-    read = λ bytes told. (keeps bytes told).stands;
-    profile = profile;
-    extras = extras;
-    history = history;
-    repairs = repairs;
-    stands = it;
-  };
-  of_repaired = λ bytes told other others later repaired.
-      let same = kept_once bytes repaired.tops tops repaired.kept (keeps bytes told) in
-      let (p, e, h) = repairs_once tops extras others profile other history later repairs (subst (λ (l : List Top). Repairs l other others later) same repaired.repairs) in
-      subst (λ (l : List Rec). holds (recovered_options other chunk) others l) h
-      (subst (λ (l : List Top). holds (recovered_options other chunk) l history) e
-      (subst (λ (q : List ℕ). holds (recovered_options q chunk) extras history) p it));
-}
+    → ((bytes : List ℕ) → before.left ≡ Some bytes → Kept reading_limits bytes tops)
+    → Repairs tops profile extras history → holds (recovered_options profile chunk) extras history → OfRepaired chunk before holds
+of_exact chunk before tops extras profile history holds keeps repairs it bytes told other others later repaired =
+    let same = kept_once bytes repaired.tops tops repaired.kept (keeps bytes told) in
+    let (p, e, h) = repairs_once tops extras others profile other history later repairs (subst (λ (l : List Top). Repairs l other others later) same repaired.repairs) in
+    subst (λ (l : List Rec). holds (recovered_options other chunk) others l) h
+    (subst (λ (l : List Top). holds (recovered_options other chunk) l history) e
+    (subst (λ (q : List ℕ). holds (recovered_options q chunk) extras history) p it))

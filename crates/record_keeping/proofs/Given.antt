@@ -9,10 +9,10 @@ use Rattle.mcap_model.specs.Places.{Each}
 use Rattle.mcap_model.specs.Tops.{Top, Placed, flat, is_flat_kind}
 use Rattle.mcap_model.specs.WalkedRecords.{walked}
 use Rattle.mcap_model.specs.Rules.{V6}
-use Rattle.mcap_model.specs.History.{kept_with, schema_of, channel_of, message_of}
+use Rattle.mcap_model.specs.History.{kept_with, without_repeats, schema_of, channel_of, message_of}
 use Rattle.mcap_model.specs.Written.{IsRec}
 use Rattle.mcap_model.specs.Repaired.{is_extra, ProfileIs, Repairs}
-use Rattle.mcap_model.proofs.Repairs.{fold_more, zip_join}
+use Rattle.mcap_model.proofs.Repairs.{fold_more, fold_grows, zip_parts, zip_join}
 use Rattle.mcap_scan.proofs.Walked.{walked_flat_tops}
 use Rattle.record_keeping.specs.Keeping.{tops_at}
 use Rattle.record_keeping.specs.Readings.{RepairsGiven}
@@ -101,6 +101,41 @@ profile_given tops given ahead profile all some is =
     profile_walked tops profile
     (subst (λ (l : List Top). ProfileIs l profile) (sym (tops_joined given ahead) ∙ ap tops_at (sym all))
     (profile_front (tops_at given) (tops_at ahead) profile (λ none. some (tops_none given none)) is))
+
+-- ---- the first ones
+
+-- What repairing makes of the first ones of the records that were given, which with those inside them were given in front.
+front_repairs : (front tops : List Top) (given behind : List Placed) (profile : List ℕ) (extras : List Top) (history : List Rec) → (front ≡ [] → ⊥) → given ≡ walked front ++ behind → RepairsGiven tops given profile extras history
+    → (first : List Rec) × (more : List Rec) × Repairs front profile (filter is_extra front) first × (history ≡ first ++ more)
+front_repairs [] tops given behind profile extras history some split was = absurd (some refl)
+front_repairs (t ∷ ts) tops given behind profile extras history some split was =
+    let front = t ∷ ts in
+    let later = filter is_flat_kind (tops_at behind) in
+    let parts : filter is_flat_kind (tops_at given) ≡ flat front ++ later =
+    ap (λ (l : List Placed). filter is_flat_kind (tops_at l)) split ∙ ap (filter is_flat_kind) (tops_joined (walked front) behind) ∙ filter-append is_flat_kind (tops_at (walked front)) (tops_at behind)
+    ∙ ap (λ (l : List Top). l ++ later) (flat_walked front) in
+    let (ys, vs, is, one, two) = zip_parts IsRec (flat front) later was.flattened (subst (λ (l : List Top). AllZip IsRec l was.flattened) parts was.are_flattened) in
+    let grown = fold_grows (without_repeats ys) vs in (
+      without_repeats ys,
+      grown.0,
+      record {
+        profile_is = subst (λ (l : List Placed). ProfileIs (tops_at l) profile) split was.profile_is;
+        extras_are = refl;
+        flattened = ys;
+        are_flattened = one;
+        history_is = refl;
+      },
+      was.history_is ∙ ap without_repeats is ∙ fold_more [] ys vs ∙ sym grown.1,
+    )
+
+-- what holds of each first part of a history holds of theirs, if there are any
+pub first_part : (holds : List Rec → Type 0) (front tops : List Top) (given behind : List Placed) (profile : List ℕ) (extras : List Top) (history : List Rec) → given ≡ walked front ++ behind → RepairsGiven tops given profile extras history
+    → ((others : List Top) (first more : List Rec) → Repairs front profile others first → history ≡ first ++ more → holds first)
+    → (front ≡ []) ⊎ ((others : List Top) × (first : List Rec) × Repairs front profile others first × holds first)
+first_part holds [] tops given behind profile extras history split was each = inl refl
+first_part holds (t ∷ ts) tops given behind profile extras history split was each =
+    let (first, more, repairs, is) = front_repairs (t ∷ ts) tops given behind profile extras history (λ none. cc) split was in
+    inr (filter is_extra (t ∷ ts), first, repairs, each (filter is_extra (t ∷ ts)) first more repairs is)
 
 -- ---- a record more, and all of them
 

@@ -84,6 +84,7 @@ schema_left seen old new content id f shown going known same schemas channels me
       messages = messages ∙ c.messages;
       records = records ∙ c.records;
       extras_are = others ∙ c.extras_are;
+      inner = c.inner;
     }))
 
 -- ---- channels
@@ -112,6 +113,7 @@ channel_left seen old new content id f shown going known same channels schemas m
       messages = messages ∙ c.messages;
       records = records ∙ c.records;
       extras_are = others ∙ c.extras_are;
+      inner = c.inner;
     }))
 
 -- ---- one record

@@ -1,5 +1,5 @@
 -- What is kept with a record more.
-use Rattle.std.proofs.Common.{◌≡◌, ℕ, ◌+◌, Bool, true, false, ◌||◌, eqb, List, [], ◌∷◌, ◌++◌, length, map, not, refl, sym, ap, subst, ◌∙◌, arith}
+use Rattle.std.proofs.Common.{◌≡◌, ℕ, ◌+◌, Bool, true, false, ◌||◌, eqb, List, [], ◌∷◌, ◌++◌, length, map, not, Some, refl, sym, ap, subst, ◌∙◌, arith}
 use Rattle.std.specs.Prelude.{filter, fold, if◌then◌else◌}
 use Rattle.std.specs.List.{list_any}
 use Rattle.std.proofs.lemmas.List.{append-nil, map-append, length-append}
@@ -10,14 +10,17 @@ use Rattle.rec_data.proofs.OwnedReading.{shown_once}
 use Rattle.mcap_io.specs.Outside.{LiveState}
 use Rattle.mcap_model.specs.declared.ends.Stop.{Stop}
 use Rattle.mcap_model.specs.declared.options.FileOptions.{FileOptions}
+use Rattle.mcap_model.specs.Places.{Each}
 use Rattle.mcap_model.specs.Tops.{Top}
 use Rattle.mcap_model.specs.Fields.{SchemaFields, ChannelFields, MessageFields}
-use Rattle.mcap_model.specs.History.{is_schema, is_channel, is_message, declare_same, kept_with, schema_of, channel_of, message_of}
+use Rattle.mcap_model.specs.History.{is_schema, is_channel, is_message, is_inner, declare_same, kept_with, schema_of, channel_of, message_of}
 use Rattle.mcap_model.specs.Written.{IsRec}
+use Rattle.mcap_model.proofs.Places.{at_none}
+use Rattle.mcap_model.proofs.Lists.{each_cons, each_joined}
 use Rattle.mcap_model.proofs.Repairs.{kept_new, kept_old, fold_grows}
 use Rattle.chunk_writer.specs.declared.phase.Phase.{Phase}
 use Rattle.chunk_writer.specs.declared.phase.Phase.TheVariants as phases
-use Rattle.chunk_writer.specs.Scribes.{WritesHistory, ScribeGrows, GathersExtra, phase_of}
+use Rattle.chunk_writer.specs.Scribes.{WritesHistory, ScribeGrows, GathersExtra, KeepsOn, phase_of}
 use Rattle.chunk_writer.proofs.Taking.{stopped_on}
 use Rattle.record_keeping.specs.declared.keeping.Keeping.{Keeping}
 use Rattle.record_keeping.specs.Keeping.{is_declared, declared_with, record_id, counted, CountsSo, KeepingStandsFor, AddsRecords, AddsFlatRecords}
@@ -35,6 +38,10 @@ not_so false is = refl
 pub so : (b : Bool) → false ≡ not b → b ≡ true
 so true is = refl
 so false is = absurd (let same : false ≡ true = is in cc)
+
+-- a store that wasn't touched keeps what it held
+pub keeps_same : {L : Type 0} (seen : L → LiveState) (old new : L) → new ≡ old → KeepsOn (seen old).held (seen new).held
+keeps_same {L} seen old new same before told = ([], ap (λ (s : L). (seen s).held) same ∙ told ∙ ap Some (sym (append-nil before)))
 
 -- ---- what was declared before
 
@@ -107,6 +114,11 @@ stopped_more seen options extras opened history ss k stop stopped keeps =
       counts = λ going. absurd (going_apart (phase_of k.scribe) stop stopped going);
     })
 
+-- ---- what is in a history with a record more
+
+inner_on : (history : List Rec) (r : Rec) → Each (λ x. is_inner x ≡ true) history → is_inner r ≡ true → Each (λ x. is_inner x ≡ true) (history ++ r ∷ [])
+inner_on history r each is = each_joined (λ (x : Rec). is_inner x ≡ true) history (r ∷ []) each (each_cons (λ (x : Rec). is_inner x ≡ true) r [] is (λ n x at. absurd (at_none n x at)))
+
 -- ---- the counts with a record more
 
 more_of : (test : Rec → Bool) (history : List Rec) (r : Rec) → test r ≡ true → filter test (history ++ r ∷ []) ≡ filter test history ++ r ∷ []
@@ -136,6 +148,7 @@ schema_counts extras history id f old new c fresh schemas channels messages othe
       messages = messages ∙ c.messages ∙ ap (λ (l : List Rec). counted (length l)) (sym (same_of is_message history r refl));
       records = count_on (length history) old.records new.records c.records records ∙ ap counted (sym (longer history r));
       extras_are = others ∙ c.extras_are;
+      inner = inner_on history r c.inner refl;
     }
 
 pub channel_counts : {L : Type 0} (extras : List Top) (history : List Rec) (id : ℕ) (f : ChannelFields) (old new : Keeping L) → CountsSo extras history old → is_declared old.channels.keys id ≡ false
@@ -150,6 +163,7 @@ channel_counts extras history id f old new c fresh channels schemas messages oth
       messages = messages ∙ c.messages ∙ ap (λ (l : List Rec). counted (length l)) (sym (same_of is_message history r refl));
       records = count_on (length history) old.records new.records c.records records ∙ ap counted (sym (longer history r));
       extras_are = others ∙ c.extras_are;
+      inner = inner_on history r c.inner refl;
     }
 
 pub message_counts : {L : Type 0} (extras : List Top) (history : List Rec) (channel : ℕ) (m : MessageFields) (old new : Keeping L) → CountsSo extras history old
@@ -164,6 +178,7 @@ message_counts extras history channel m old new c schemas channels messages othe
       messages = count_on (length (filter is_message history)) old.messages new.messages c.messages messages ∙ ap counted (sym more);
       records = count_on (length history) old.records new.records c.records records ∙ ap counted (sym (longer history r));
       extras_are = others ∙ c.extras_are;
+      inner = inner_on history r c.inner refl;
     }
 
 -- an extra more
@@ -181,5 +196,6 @@ extra_adds seen old new t going gathers same options extras opened history keeps
         messages = messages ∙ c.messages;
         records = records ∙ c.records;
         extras_are = count_on (length extras) old.extras new.extras c.extras_are more ∙ ap counted (sym (length-append extras (t ∷ [])));
+        inner = c.inner;
       };
 }

@@ -3,3 +3,4 @@ pub mod Inners
 pub mod Given
 pub mod Reading
 pub mod Files
+pub mod Ripe

@@ -1,20 +1,20 @@
 -- What stands for the records of a source with a record more, and where its reading ended.
-use Rattle.std.proofs.Common.{◌≡◌, ℕ, zero, suc, ◌+◌, ◌-◌, ◌≤◌, Bool, true, false, ◌||◌, List, [], ◌∷◌, ◌++◌, length, Option, Some, None, refl, sym, ap, subst, inr, ◌∙◌, append_assoc, append-nil, arith}
+use Rattle.std.proofs.Common.{◌≡◌, ℕ, zero, suc, ◌+◌, ◌-◌, ◌≤◌, Bool, true, false, ◌||◌, List, [], ◌∷◌, ◌++◌, length, Option, Some, None, refl, sym, ap, subst, inl, inr, ◌∙◌, arith}
 use Rattle.std.specs.Prelude.{filter, fold, nat_lt, if◌then◌else◌}
 use Rattle.std.specs.List.{AllZip}
 use Rattle.std.proofs.lemmas.Bool.{both_ways, ltb-false}
 use Rattle.std.proofs.lemmas.List.{length-append}
 use Rattle.std.proofs.lemmas.Grind.{flat_map-append}
 use Rattle.mcap_wire.proofs.Framing.{length-framed, length-string}
-use Rattle.mcap_wire.specs.Layout.{string, framed, magic, part}
+use Rattle.mcap_wire.specs.Layout.{string, framed, part}
 use Rattle.rec_data.specs.declared.owned.Rec.{Rec}
 use Rattle.rec_data.specs.Fields.{HeaderFields}
 use Rattle.rec_data.specs.Records.{ShowsHeader}
 use Rattle.mcap_io.specs.Outside.{SourceState}
 use Rattle.mcap_model.specs.Places.{Each}
-use Rattle.mcap_model.proofs.Places.{each_at, at_none}
+use Rattle.mcap_model.proofs.Places.{each_at, each_front, at_none}
 use Rattle.mcap_model.proofs.Lists.{at_second}
-use Rattle.mcap_model.specs.Tops.{Top, Placed, Tops, Begins, top_bytes, spelled, offset_behind, flat, is_flat_kind}
+use Rattle.mcap_model.specs.Tops.{Top, Placed, Tops, top_bytes, spelled, offset_behind, flat, is_flat_kind}
 use Rattle.mcap_model.specs.WalkedRecords.{walked}
 use Rattle.mcap_model.specs.declared.replay.Place.{Place}
 use Rattle.mcap_model.specs.Fields.{IsHeader}
@@ -23,21 +23,23 @@ use Rattle.mcap_model.specs.Kept.{Fits, Good, reading_limits}
 use Rattle.mcap_model.specs.History.{kept_with}
 use Rattle.mcap_model.specs.Made.{top}
 use Rattle.mcap_model.specs.Written.{IsRec}
-use Rattle.mcap_model.specs.Repaired.{is_extra, Repairs}
+use Rattle.mcap_model.specs.Repaired.{is_extra, ProfileIs, Repairs}
 use Rattle.mcap_model.proofs.Repairs.{fold_more, zip_join}
 use Rattle.mcap_scan.specs.declared.reader.Reader.{Reader}
 use Rattle.mcap_scan.specs.declared.reader.Stage.TheVariants as stages
 use Rattle.mcap_scan.specs.declared.reader.Stage.{Stage}
 use Rattle.mcap_scan.specs.Scanning.{content_of, Stands, StageStands, IsGoing}
 use Rattle.mcap_scan.specs.RefusedReadings.{RefusalStands}
+use Rattle.mcap_scan.specs.Sources.{ReadFromFront}
 use Rattle.mcap_scan.proofs.Scanning.{good_stand, lacks_behind}
 use Rattle.mcap_scan.specs.declared.flat_reader.FlatReader.{FlatReader}
 use Rattle.mcap_scan.specs.Walking.{flat_content, flat_frame, IsHeldFrame, ahead_of, placed_at, FlatGives, FlatFinds, FlatRefuses, IsFlatDone}
 use Rattle.mcap_scan.proofs.Walked.{walked_v6}
 use Rattle.record_keeping.specs.declared.ending.Over.TheVariants as overs
 use Rattle.record_keeping.specs.Keeping.{extras_of, IsFrame, tops_at}
+use Rattle.record_keeping.specs.NewFiles.{HeaderAlone}
 use Rattle.record_keeping.specs.Readings.{RepairsGiven, ReadSoFar, StandsOn, ReadToEnd, ReadStopped, BeginsFile}
-use Rattle.record_keeping.proofs.Given.{flat_given, repairs_whole, profile_given, given_none, tops_some, recs_ahead, recs_one, repairs_more, not_none}
+use Rattle.record_keeping.proofs.Given.{first_part, flat_given, repairs_whole, profile_given, given_none, tops_some, recs_ahead, recs_one, repairs_more, not_none}
 use denote.Ref.{Bor}
 
 -- ---- a record of a good list
@@ -140,12 +142,13 @@ ended_some [] ended none = ended
 ended_some (t ∷ ts) ended none = cc
 
 -- It was read, and the writer stopped at what it shows: what stands for the records then stands for those of the chunk too that
--- weren't given.
-pub stopped_reading : (old new stopped : List Top → List Rec → Type 0) (profile : List ℕ) (before mid now : SourceState) (flat next : FlatReader) (op : ℕ) (place : Place) (frame : Option (Bor (List ℕ)))
+-- weren't given. What was written of the records before the last one at top level is handed in.
+pub stopped_reading : (old new stopped : List Top → List Rec → Type 0) (wrote : List Rec → Type 0) (profile : List ℕ) (before mid now : SourceState) (flat next : FlatReader) (op : ℕ) (place : Place) (frame : Option (Bor (List ℕ)))
     → (was : ReadSoFar old profile before mid flat) → (IsFlatDone flat → ⊥) → FlatGives next before now was.tops was.given op place → IsHeldFrame next frame → StandsOn old new was.extras was.history frame (top op (flat_content next))
-    → ((later : ReadSoFar new profile before now next) (ss : List Rec) → stopped later.extras (fold kept_with later.history ss)) → ReadStopped stopped profile before now
+    → ((later : ReadSoFar new profile before now next) (ss : List Rec) → stopped later.extras (fold kept_with later.history ss))
+    → ((earlier others : List Top) (first more : List Rec) → Good reading_limits earlier → Repairs earlier profile others first → was.history ≡ first ++ more → wrote first) → ReadStopped stopped wrote profile before now
 unfolding reading_on
-stopped_reading old new stopped profile before mid now flat next op place frame was undone gives held takes each =
+stopped_reading old new stopped wrote profile before mid now flat next op place frame was undone gives held takes each written =
     let p = placed_at place op (flat_content next) in
     let later = reading_on old new profile before mid now flat next op place frame was undone gives held takes in
     let given = was.given ++ p ∷ [] in
@@ -156,11 +159,12 @@ stopped_reading old new stopped profile before mid now flat next op place frame 
     let meets : Each (λ (q : Placed). V6 q.top) ahead = λ n q at. subst (λ (l : List Placed). Each (λ (r : Placed). V6 r.top) l) stands.all (walked_v6 gives.tops good) (length given + n) q (at_second given ahead n q at) in
     let (ss, more) = recs_ahead ahead meets in
     let repairs = later.repairs in
+    let reaches = gives.last in
+    let earlier_good = each_front (Fits reading_limits) reaches.earlier (reaches.last ∷ []) (subst (Good reading_limits) reaches.are good) in
     record {
       tops = gives.tops;
       good = good;
-      some = some;
-      read = λ bytes told. let (rest, left, there) = read_stand next.reader before now gives.tops gives.going stands.stands some bytes told in (rest, there);
+      read = read_stand next.reader before now gives.tops gives.going stands.stands some;
       still = (lacks_behind next.reader before now gives.tops gives.going stands.stands).still;
       extras = filter is_extra gives.tops;
       history = fold kept_with later.history ss;
@@ -172,8 +176,13 @@ stopped_reading old new stopped profile before mid now flat next op place frame 
             (zip_join IsRec (filter is_flat_kind (tops_at given)) (filter is_flat_kind (tops_at ahead)) repairs.flattened ss repairs.are_flattened more);
         history_is = ap (λ (l : List Rec). fold kept_with l ss) repairs.history_is ∙ sym (fold_more [] repairs.flattened ss);
       };
-      earlier = later.extras;
+      gathered = later.extras;
       keeps = each later ss;
+      earlier = reaches.earlier;
+      last = reaches.last;
+      are = reaches.are;
+      ripe = first_part wrote reaches.earlier was.tops was.given reaches.behind profile was.extras was.history reaches.split was.repairs
+          (λ others first later_ones made is. written reaches.earlier others first later_ones earlier_good made is);
     }
 
 -- the Data End was given
@@ -267,17 +276,9 @@ one_good : (t : Top) (ts : List Top) → Good reading_limits (t ∷ ts) → Good
 one_good t ts good zero u at = good zero u at
 one_good t ts good (suc n) u at = absurd (at_none n u at)
 
-one_begins : (bytes : List ℕ) (t : Top) (ts : List Top) (rest : List ℕ) → Tops bytes (t ∷ ts) rest → Begins bytes (t ∷ [])
-one_begins bytes t ts rest stands = inr (
-  spelled ts ++ rest,
-  record {
-    split = stands.split ∙ ap (λ (l : List ℕ). magic ++ l) (append_assoc (top_bytes t) (spelled ts) rest ∙ ap (λ (l : List ℕ). l ++ (spelled ts ++ rest)) (sym (append-nil (top_bytes t))));
-  },
-)
-
-pub begun_header : (flat : FlatReader) (before now : SourceState) (op : ℕ) (place : Place) (profile : List ℕ) → FlatGives flat before now [] [] op place → ((f : HeaderFields) → ShowsHeader (flat_content flat) f → profile ≡ f.profile)
-    → BeginsFile before now flat profile
-begun_header flat before now op place profile gives reads =
+pub begun_header : (over : List Top → Type 0) (flat : FlatReader) (before now : SourceState) (op : ℕ) (place : Place) (profile : List ℕ) → FlatGives flat before now [] [] op place → ((f : HeaderFields) → ShowsHeader (flat_content flat) f → profile ≡ f.profile)
+    → BeginsFile over before now flat profile
+begun_header over flat before now op place profile gives reads =
     let p = placed_at place op (flat_content flat) in
     let t = p.top in
     let stands = gives.stands in
@@ -287,6 +288,7 @@ begun_header flat before now op place profile gives reads =
     let header = first_header t one in
     let same = reads (record { profile = header.profile; library = header.library }) header.layout in
     let some = tops_some gives.tops [] (ahead_of flat) p stands.all in
+    let alone = first_alone flat gives.tops gives.more t gives.grown some gives.within gives.alone in
     record {
       tops = gives.tops;
       given = p ∷ [];
@@ -295,13 +297,11 @@ begun_header flat before now op place profile gives reads =
       read = λ bytes told. let (rest, left, there) = read_stand flat.reader before now gives.tops gives.going stands.stands some bytes told in inr (rest, there);
       magic = λ bytes told. let (rest, left, there) = read_stand flat.reader before now gives.tops gives.going stands.stands some bytes told in (spelled gives.tops ++ rest, there.split);
       begun = λ none. absurd (not_none [] p none);
-      repairs = subst (λ (l : List ℕ). RepairsGiven gives.tops (p ∷ []) l [] []) (sym same) (header_given gives.tops p header (first_alone flat gives.tops gives.more t gives.grown some gives.within gives.alone));
+      repairs = subst (λ (l : List ℕ). RepairsGiven gives.tops (p ∷ []) l [] []) (sym same) (header_given gives.tops p header alone);
       shows = record {
         first = t ∷ [];
         good = one;
-        read = λ bytes told.
-            let (rest, left, there) = read_stand flat.reader before now gives.tops gives.going stands.stands some bytes told in
-            one_begins bytes t ts rest (subst (λ (l : List Top). Tops bytes l rest) are there);
+        stopped = inl (t, refl, subst (ReadFromFront before now) alone (read_stand flat.reader before now gives.tops gives.going stands.stands some));
         none = λ none. absurd (not_none [] t none);
         repairs = subst (λ (l : List ℕ). Repairs (t ∷ []) l [] []) (sym same) (header_repairs t header);
       };
@@ -309,9 +309,29 @@ begun_header flat before now op place profile gives reads =
       still = (lacks_behind flat.reader before now gives.tops gives.going stands.stands).still;
     }
 
+-- it was read alone, and its profile isn't empty
+pub header_alone : (flat : FlatReader) (before now : SourceState) (op : ℕ) (place : Place) (gives : FlatGives flat before now [] [] op place) → ((f : HeaderFields) → ShowsHeader (flat_content flat) f → f.profile ≡ [] → ⊥)
+    → HeaderAlone (ReadFromFront before now) gives.tops
+header_alone flat before now op place gives named =
+    let p = placed_at place op (flat_content flat) in
+    let t = p.top in
+    let stands = gives.stands in
+    let good = good_stand flat.reader before now gives.tops gives.going stands.stands in
+    let some = tops_some gives.tops [] (ahead_of flat) p stands.all in
+    let alone = first_alone flat gives.tops gives.more t gives.grown some gives.within gives.alone in
+    let header = first_header t (subst (Good reading_limits) alone good) in
+    record {
+      header = t;
+      alone = alone;
+      just_read = read_stand flat.reader before now gives.tops gives.going stands.stands some;
+      profile = header.profile;
+      profile_is = subst (λ (l : List Top). ProfileIs l header.profile) (sym alone) (header, refl);
+      named = named (record { profile = header.profile; library = header.library }) header.layout;
+    }
+
 -- behind a profile nothing is kept yet
-pub begin_reading : (stands_for : List Top → List Rec → Type 0) (profile : List ℕ) (before now : SourceState) (flat : FlatReader) → BeginsFile before now flat profile → stands_for [] [] → ReadSoFar stands_for profile before now flat
-begin_reading stands_for profile before now flat begins keeps = record {
+pub begin_reading : (over : List Top → Type 0) (stands_for : List Top → List Rec → Type 0) (profile : List ℕ) (before now : SourceState) (flat : FlatReader) → BeginsFile over before now flat profile → stands_for [] [] → ReadSoFar stands_for profile before now flat
+begin_reading over stands_for profile before now flat begins keeps = record {
   tops = begins.tops;
   given = begins.given;
   stands = begins.stands;

@@ -1,13 +1,15 @@
 -- What is kept of records as they are read, in a new file that is being written.
-use Rattle.std.specs.Prelude.{◌≡◌, ℕ, ◌^◌, ◌-◌, List, [], ◌∷◌, ◌++◌, length, filter, map, fold, min, Bool, ◌==◌, if◌then◌else◌, Option, Some, None}
+use Rattle.std.specs.Prelude.{◌≡◌, ℕ, ◌^◌, ◌-◌, List, [], ◌∷◌, ◌++◌, length, filter, map, fold, min, Bool, true, ◌==◌, if◌then◌else◌, Option, Some, None}
 use Rattle.std.specs.List.{AllZip, list_any}
 use Rattle.rec_data.specs.declared.owned.Rec.{Rec}
 use Rattle.rec_data.specs.declared.owned.Rec.TheVariants.{Schema, Channel, Message, Extra}
 use Rattle.mcap_io.specs.Outside.{LiveState}
 use Rattle.mcap_model.specs.declared.options.FileOptions.{FileOptions}
 use Rattle.mcap_wire.specs.Layout.{framed}
+use Rattle.mcap_model.specs.Places.{Each}
 use Rattle.mcap_model.specs.Tops.{Top, Placed, is_flat_kind}
-use Rattle.mcap_model.specs.History.{is_schema, is_channel, is_message, kept_with}
+use Rattle.mcap_model.specs.History.{is_schema, is_channel, is_message, is_inner, kept_with}
+use Rattle.mcap_model.specs.Histories.{written_of}
 use Rattle.mcap_model.specs.Written.{IsRec}
 use Rattle.mcap_model.specs.Repaired.{is_extra}
 use Rattle.chunk_writer.specs.declared.phase.Phase.TheVariants as phases
@@ -44,6 +46,8 @@ pub record CountsSo {L : Type 0} (extras : List Top) (history : List Rec) (k : K
   pub messages : k.messages ≡ counted (length (filter is_message history))
   pub records : k.records ≡ counted (length history)
   pub extras_are : k.extras ≡ counted (length extras)
+  -- and each of its records stands in a block
+  pub inner : Each (λ r. is_inner r ≡ true) history
 
 -- The scribe stands for these extras and this history; while it goes on, so do the ids and the counts.
 pub record KeepingStandsFor {L : Type 0} (seen : L → LiveState) (options : FileOptions) (extras : List Top)
@@ -73,6 +77,16 @@ abbrev pub AddsOneRecord : {L : Type 0} → (L → LiveState) → Keeping L → 
     → Type 0
 AddsOneRecord seen before after frame t = (records : List Rec) → AllZip IsRec (filter is_flat_kind (t ∷ [])) records
     → AddsRecords seen before after (extras_of frame t) records
+
+-- at least these bytes stand after what a store held
+abbrev pub AddsAtLeast : Option (List ℕ) → Option (List ℕ) → List ℕ → Type 0
+AddsAtLeast opened now bytes =
+    (start : List ℕ) → opened ≡ Some start → (more : List ℕ) × (now ≡ Some (start ++ (bytes ++ more)))
+
+-- all pieces of this history that are sure stand after what the store of a keeping held
+abbrev pub HasWritten : {L : Type 0} → (L → LiveState) → FileOptions → LiveState → Keeping L → List Rec → Type 0
+HasWritten seen options opened k history =
+    AddsAtLeast opened.held (seen k.scribe.store).held (written_of options history)
 
 -- ---- records that are given
 

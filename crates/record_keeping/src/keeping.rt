@@ -14,7 +14,7 @@ ghost use Rattle.mcap_model.specs.Rules.{V6, V10};
 ghost use Rattle.chunk_build.specs.Chunker.{AreFramed, AreInner};
 ghost use Rattle.chunk_writer.specs.declared.phase.Phase.TheVariants as phases;
 ghost use Rattle.chunk_writer.specs.Stops.{Cause};
-ghost use Rattle.chunk_writer.specs.Scribes.{ScribeGrows, GathersExtra, store_of, phase_of};
+ghost use Rattle.chunk_writer.specs.Scribes.{ScribeGrows, GathersExtra, KeepsOn, store_of, phase_of};
 ghost use Rattle.record_keeping.specs.Keeping.{AddsFlatRecords, AddsOneRecord, AddsRecords, CountsSo, IsFrame, counted, extras_of};
 
 use crate::ids::declare;
@@ -63,6 +63,7 @@ fn put<L: LiveStore>(k: &mut Keeping<L>, framed: &[u8]) -> Result<(), Stop>
         × (k.new.messages ≡ k.old.messages) × (k.new.extras ≡ k.old.extras) }
     ensures goes_on { OnOk result (phase_of k.new.scribe ≡ phases.Going) }
     ensures stopped { IfErr result (λ stop. phase_of k.new.scribe ≡ phases.Stopped stop) }
+    ensures keeps { KeepsOn (L.state (store_of k.old.scribe)).held (L.state (store_of k.new.scribe)).held }
     ensures cause { Cause (L.state (store_of k.old.scribe)).faults (L.state (store_of k.new.scribe)).faults result }
 {
     k.scribe.put_bytes(framed)?;
@@ -82,6 +83,7 @@ pub fn keep_message<L: LiveStore>(
     ensures takes { AddsFlatRecords L.state k.old k.new (top message_opcode content.now ∷ []) }
     ensures goes_on { OnOk result (phase_of k.new.scribe ≡ phases.Going) }
     ensures stopped { IfErr result (λ stop. phase_of k.new.scribe ≡ phases.Stopped stop) }
+    ensures keeps { KeepsOn (L.state (store_of k.old.scribe)).held (L.state (store_of k.new.scribe)).held }
     ensures cause { Cause (L.state (store_of k.old.scribe)).faults (L.state (store_of k.new.scribe)).faults result }
 {
     match put(k, bytes) {
@@ -103,6 +105,7 @@ pub fn keep_lone_message<L: LiveStore>(
     ensures takes { AddsFlatRecords L.state k.old k.new (top message_opcode content.now ∷ []) }
     ensures goes_on { OnOk result (phase_of k.new.scribe ≡ phases.Going) }
     ensures stopped { IfErr result (λ stop. phase_of k.new.scribe ≡ phases.Stopped stop) }
+    ensures keeps { KeepsOn (L.state (store_of k.old.scribe)).held (L.state (store_of k.new.scribe)).held }
     ensures cause { Cause (L.state (store_of k.old.scribe)).faults (L.state (store_of k.new.scribe)).faults result }
 {
     let mut bytes = Vec::new(alloc);
@@ -127,6 +130,7 @@ pub fn keep_schema<L: LiveStore>(
         → AddsFlatRecords L.state k.old k.new (top schema_opcode content ∷ []) }
     ensures goes_on { OnOk result (phase_of k.new.scribe ≡ phases.Going) }
     ensures stopped { IfErr result (λ stop. phase_of k.new.scribe ≡ phases.Stopped stop) }
+    ensures keeps { KeepsOn (L.state (store_of k.old.scribe)).held (L.state (store_of k.new.scribe)).held }
     ensures cause { Cause (L.state (store_of k.old.scribe)).faults (L.state (store_of k.new.scribe)).faults result }
 {
     match declare(&mut k.schemas, schema.id) {
@@ -154,6 +158,7 @@ pub fn keep_channel<L: LiveStore>(
         → AddsFlatRecords L.state k.old k.new (top channel_opcode content ∷ []) }
     ensures goes_on { OnOk result (phase_of k.new.scribe ≡ phases.Going) }
     ensures stopped { IfErr result (λ stop. phase_of k.new.scribe ≡ phases.Stopped stop) }
+    ensures keeps { KeepsOn (L.state (store_of k.old.scribe)).held (L.state (store_of k.new.scribe)).held }
     ensures cause { Cause (L.state (store_of k.old.scribe)).faults (L.state (store_of k.new.scribe)).faults result }
 {
     match declare(&mut k.channels, channel.id) {
@@ -186,6 +191,7 @@ fn keep_extra<L: LiveStore>(k: &mut Keeping<L>, op: u8, content: &[u8]) -> Resul
         × (k.new.messages ≡ k.old.messages) × (k.new.records ≡ k.old.records) }
     ensures goes_on { OnOk result (phase_of k.new.scribe ≡ phases.Going) }
     ensures stopped { IfErr result (λ stop. phase_of k.new.scribe ≡ phases.Stopped stop) }
+    ensures keeps { KeepsOn (L.state (store_of k.old.scribe)).held (L.state (store_of k.new.scribe)).held }
     ensures cause { Cause (L.state (store_of k.old.scribe)).faults (L.state (store_of k.new.scribe)).faults result }
 {
     k.scribe.add_extra(op, content)?;
@@ -206,6 +212,7 @@ pub fn keep_other<L: LiveStore>(
     ensures takes { AddsRecords L.state k.old k.new (extras_of frame.entry (top op content.now)) [] }
     ensures goes_on { OnOk result (phase_of k.new.scribe ≡ phases.Going) }
     ensures stopped { IfErr result (λ stop. phase_of k.new.scribe ≡ phases.Stopped stop) }
+    ensures keeps { KeepsOn (L.state (store_of k.old.scribe)).held (L.state (store_of k.new.scribe)).held }
     ensures cause { Cause (L.state (store_of k.old.scribe)).faults (L.state (store_of k.new.scribe)).faults result }
 {
     match frame {
@@ -236,13 +243,18 @@ pub fn keep_record<L: LiveStore>(
     ensures takes { AddsOneRecord L.state k.old k.new frame.entry (top op content.now) }
     ensures goes_on { OnOk result (phase_of k.new.scribe ≡ phases.Going) }
     ensures stopped { IfErr result (λ stop. phase_of k.new.scribe ≡ phases.Stopped stop) }
+    ensures keeps { KeepsOn (L.state (store_of k.old.scribe)).held (L.state (store_of k.new.scribe)).held }
     ensures cause { Cause (L.state (store_of k.old.scribe)).faults (L.state (store_of k.new.scribe)).faults result }
 {
-    match view_record(op, content) {
-        RecordView::Message(_) => match frame {
+    // Most records are Messages, whose fields aren't looked at.
+    if op == MESSAGE {
+        match frame {
             Some(bytes) => return keep_message(k, bytes, content),
             None => return keep_lone_message(alloc, k, content),
-        },
+        }
+    }
+    match view_record(op, content) {
+        RecordView::Message(_) => unreachable!(),
         RecordView::Schema(schema) => return keep_schema(alloc, k, &schema),
         RecordView::Channel(channel) => return keep_channel(alloc, k, &channel),
         RecordView::Header(_)

@@ -62,7 +62,7 @@ returns-in-Err-clause-picks g c =
     let undone : IsFlatDone c.records.reader → ⊥ = λ done. (c.in-Record.ensures.over done).2 in
     let takes = subst (λ (l : List ℕ). PicksOne seen a (picking c.records.k c.records.choices) (picking c.pick_record.new.k c.pick_record.new.choices) c.frame.result (top c.in-Record.op l)) c.content.ensures c.in-Err.ensures.takes in
     λ o b l first. let later = each o b l first in
-    cut_on_it seen (start a o b l) _ _ c.records.reader c.advance.new.self c.records.k c.pick_record.new.k c.records.choices c.pick_record.new.choices c.in-Record.op c.in-Record.place c.frame.result c.in-Err.stop later undone (c.in-Record.ensures.steps b later.tops later.given later.stands) c.frame.ensures takes c.in-Err.ensures.stopped
+    cut_on_it seen (start a o b l) _ _ c.records.reader c.advance.new.self c.records.k c.pick_record.new.k c.records.choices c.pick_record.new.choices c.in-Record.op c.in-Record.place c.frame.result c.in-Err.stop later undone (c.in-Record.ensures.steps b later.tops later.given later.stands) c.frame.ensures takes going c.in-Err.ensures.keeps c.in-Err.ensures.stopped
 
 pub returns-in-Err-clause-cause : goal.returns-in-Err-clause-cause
 returns-in-Err-clause-cause g c =

@@ -1,6 +1,7 @@
 use Rattle.std.proofs.Common.{[], ◌∷◌, inl, inr, refl}
 use Rattle.mcap_model.specs.Made.{top}
 use Rattle.mcap_filter.proofs.Messages.{declared_schema, no_schema_put, takes_none}
+use Rattle.record_keeping.proofs.Keepings.{keeps_same}
 use Rattle.mcap_filter.proofs.needs.put_schema.Goals as goal
 
 pub returns-then-id-eq0-clause-takes : goal.returns-then-id-eq0-clause-takes
@@ -14,3 +15,12 @@ returns-in-Ok-clause-takes g c = (top 3 c.in-Some.content.now ∷ [], declared_s
 
 pub returns-in-Err-clause-takes : goal.returns-in-Err-clause-takes
 returns-in-Err-clause-takes g c = (top 3 c.in-Some.content.now ∷ [], declared_schema c.args.schemas.now c.args.id c.in-Some.content.now c.if-id-eq0.false c.in-Some.ensures, no_schema_put g.L.LiveStore.state c.args.k.now c.in-Some.content.now c.in-Err.ensures.none)
+
+pub returns-then-id-eq0-clause-keeps : goal.returns-then-id-eq0-clause-keeps
+returns-then-id-eq0-clause-keeps g c = keeps_same g.L.LiveStore.state c.args.k.now.scribe.store _ refl
+
+pub returns-in-None-clause-keeps : goal.returns-in-None-clause-keeps
+returns-in-None-clause-keeps g c = keeps_same g.L.LiveStore.state c.args.k.now.scribe.store _ refl
+
+pub returns-in-Err-clause-keeps : goal.returns-in-Err-clause-keeps
+returns-in-Err-clause-keeps g c = keeps_same g.L.LiveStore.state c.args.k.now.scribe.store _ refl

@@ -1,8 +1,10 @@
 -- The Message was put after what it needs, or it isn't asked for.
-use Rattle.std.proofs.Common.{sym, ◌∙◌}
+use Rattle.std.proofs.Common.{sym, ◌∙◌, refl}
 use Rattle.rec_data.specs.Parsed.{message_fields}
 use Rattle.mcap_filter.specs.Picked.{asking}
 use Rattle.mcap_filter.proofs.Messages.{message_left, message_put, message_stopped, untimely, unwanted}
+use Rattle.record_keeping.proofs.Keepings.{keeps_same}
+use Rattle.chunk_writer.proofs.Taking.{keeps_more}
 use Rattle.mcap_filter.proofs.picking.pick_message.Goals as goal
 
 pub returns-then-not-is_within-clause-takes : goal.returns-then-not-is_within-clause-takes
@@ -30,3 +32,12 @@ returns-clause-takes g c = λ asked.
     let m = c.args.message.now in
     message_put g.L.LiveStore.state (asking c.args.range asked) c.args.k.now c.put_channel.new.k c.put_message.new.k c.args.choices.now c.args.frame c.args.content.now m.channel_id (message_fields m) c.in-Some.channel.now c.requires.going c.requires.shown
     c.in-Some.ensures (sym c.is_within.ensures ∙ c.if-not-is_within.false) c.in_ok-put_channel.ensures.takes c.put_message.ensures.takes
+
+pub returns-then-not-is_within-clause-keeps : goal.returns-then-not-is_within-clause-keeps
+returns-then-not-is_within-clause-keeps g c = keeps_same g.L.LiveStore.state c.args.k.now.scribe.store _ refl
+
+pub returns-in-None-clause-keeps : goal.returns-in-None-clause-keeps
+returns-in-None-clause-keeps g c = keeps_same g.L.LiveStore.state c.args.k.now.scribe.store _ refl
+
+pub returns-clause-keeps : goal.returns-clause-keeps
+returns-clause-keeps g c = keeps_more (g.L.LiveStore.state c.args.k.now.scribe.store).held (g.L.LiveStore.state c.put_channel.new.k.scribe.store).held (g.L.LiveStore.state c.put_message.new.k.scribe.store).held c.in_ok-put_channel.ensures.keeps c.put_message.ensures.keeps

@@ -6,13 +6,14 @@ use Rattle.mcap_scan.specs.Walking.{FlatAdvanced}
 use Rattle.record_keeping.proofs.Reading.{begun_header}
 use Rattle.mcap_recover.specs.declared.answers.RecoverRefused.{RecoverRefused}
 use Rattle.mcap_recover.specs.Readings.{BeginsReading}
+use Rattle.mcap_recover.specs.Recovering.{HasHalted}
 use Rattle.mcap_recover.proofs.Reading.{begun_lacks, none_ended, refused_begun}
 use Rattle.mcap_recover.proofs.recovering.profile_of.Goals as goal
 
 pub returns-in-Ok : goal.returns-in-Ok
 returns-in-Ok c = λ before now step.
-    begun_header c.args.reader.now before now _ _ c.in-Ok.profile (subst (λ (s : FlatStep). FlatAdvanced c.args.reader.now before now [] [] s) c.in-Record.is step)
-    (λ f shows. c.in-Ok.ensures f (subst (λ (l : List ℕ). ShowsHeader l f) (sym c.content.ensures) shows))
+    begun_header (HasHalted before now) c.args.reader.now before now _ _ c.in-Ok.profile (subst (λ (s : FlatStep). FlatAdvanced c.args.reader.now before now [] [] s) c.in-Record.is step)
+    (λ f shows. c.in-Ok.ensures.profile f (subst (λ (l : List ℕ). ShowsHeader l f) (sym c.content.ensures) shows))
 
 pub returns-in-Some : goal.returns-in-Some
 returns-in-Some c = λ before now step.
@@ -21,7 +22,8 @@ returns-in-Some c = λ before now step.
 pub returns-in-Err : goal.returns-in-Err
 returns-in-Err c = λ before now step.
     subst (λ (r : RecoverRefused). BeginsReading before now c.args.reader.now (Err r)) (sym c.lacked.ensures)
-    (begun_lacks c.args.reader.now before now _ _ (subst (λ (s : FlatStep). FlatAdvanced c.args.reader.now before now [] [] s) c.in-Record.is step))
+    (begun_lacks c.args.reader.now before now _ _ (subst (λ (s : FlatStep). FlatAdvanced c.args.reader.now before now [] [] s) c.in-Record.is step)
+    (λ f shows. c.in-Err.ensures.lacks f (subst (λ (l : List ℕ). ShowsHeader l f) (sym c.content.ensures) shows)))
 
 pub returns-in-End : goal.returns-in-End
 returns-in-End c = λ before now step. absurd (none_ended c.args.reader.now before now _ (subst (λ (s : FlatStep). FlatAdvanced c.args.reader.now before now [] [] s) c.in-End.is step))

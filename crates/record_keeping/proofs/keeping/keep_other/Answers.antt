@@ -1,11 +1,11 @@
 -- An extra was kept, or nothing.
-use Rattle.std.proofs.Common.{◌≡◌, ◌∙◌, ◌∷◌, [], ℕ, List, Bool, true, false, Option, sym, ap, subst}
+use Rattle.std.proofs.Common.{◌≡◌, ◌∙◌, ◌∷◌, [], ℕ, List, Bool, true, false, Option, refl, sym, ap, subst}
 use Rattle.std.specs.Prelude.{filter, if◌then◌else◌}
 use Rattle.mcap_model.specs.Tops.{Top}
 use Rattle.mcap_model.specs.Made.{top}
 use Rattle.mcap_model.specs.Repaired.{is_extra}
 use Rattle.record_keeping.specs.Keeping.{extras_of, AddsRecords}
-use Rattle.record_keeping.proofs.Keepings.{adds_none, extra_adds}
+use Rattle.record_keeping.proofs.Keepings.{adds_none, extra_adds, keeps_same}
 use Rattle.record_keeping.proofs.keeping.keep_other.Goals as goal
 use denote.Ref.{Bor}
 
@@ -32,3 +32,9 @@ returns-in-None-clause-takes g c =
     let none : [] ≡ filter is_extra (t ∷ []) = sym (ap (λ (b : Bool). if b then t ∷ [] else []) is) in
     subst (λ (f : Option (Bor (List ℕ))). AddsRecords g.L.LiveStore.state c.args.k.now c.args.k.now (extras_of f t) []) (sym c.in-None.is)
     (subst (λ (l : List Top). AddsRecords g.L.LiveStore.state c.args.k.now c.args.k.now l []) none (adds_none g.L.LiveStore.state c.args.k.now))
+
+pub returns-in-Some-clause-keeps : goal.returns-in-Some-clause-keeps
+returns-in-Some-clause-keeps g c = keeps_same g.L.LiveStore.state c.args.k.now.scribe.store _ refl
+
+pub returns-in-None-clause-keeps : goal.returns-in-None-clause-keeps
+returns-in-None-clause-keeps g c = keeps_same g.L.LiveStore.state c.args.k.now.scribe.store _ refl

@@ -3,7 +3,7 @@ use Rattle.rec_data.specs.Parsed.{schema_fields}
 use Rattle.mcap_model.specs.declared.ends.Stop.TheVariants as stops
 use Rattle.mcap_model.specs.History.{schema_of}
 use Rattle.record_keeping.specs.Keeping.{is_declared}
-use Rattle.record_keeping.proofs.Keepings.{from_none, going_apart, not_so, so}
+use Rattle.record_keeping.proofs.Keepings.{from_none, going_apart, not_so, so, keeps_same}
 use Rattle.record_keeping.proofs.Inners.{schema_framed, schema_put, schema_left}
 use Rattle.record_keeping.proofs.keeping.keep_schema.Goals as goal
 
@@ -51,3 +51,12 @@ returns-clause-takes g c = λ content shown.
     (not_so (is_declared c.args.k.now.schemas.keys r.id) (sym c.in-Ok-true.field-0-test ∙ c.in-Ok-true.ensures.first))
     (c.put.ensures.grows (schema_of r.id (schema_fields r)) framed)
     (λ going. (ap (λ v. v.keys) schemas ∙ c.in-Ok-true.ensures.keys, ap (λ v. v.keys) channels, messages, others, c.put.ensures.counts going))
+
+pub returns-in-Ok-false-clause-keeps : goal.returns-in-Ok-false-clause-keeps
+returns-in-Ok-false-clause-keeps g c = keeps_same g.L.LiveStore.state c.args.k.now.scribe.store _ refl
+
+pub returns-in-Err-clause-keeps : goal.returns-in-Err-clause-keeps
+returns-in-Err-clause-keeps g c = keeps_same g.L.LiveStore.state c.args.k.now.scribe.store _ c.stop_for_memory.ensures.store
+
+pub returns-in-Err-frame-clause-keeps : goal.returns-in-Err-frame-clause-keeps
+returns-in-Err-frame-clause-keeps g c = keeps_same g.L.LiveStore.state c.args.k.now.scribe.store _ c.stop_for_memory-in-Err-frame.ensures.store
