@@ -16,7 +16,7 @@ use Rattle.chunk_build.specs.Chunker.{AreFramed, AreInner}
 use Rattle.chunk_writer.specs.declared.scribe.Scribe.{Scribe}
 use Rattle.chunk_writer.specs.declared.phase.Phase.TheVariants as phases
 use Rattle.chunk_writer.specs.Stops.{numbers, StopsAt}
-use Rattle.chunk_writer.specs.Limits.{Holds}
+use Rattle.chunk_writer.specs.Limits.{Holds, ContentsFit, FileHolds}
 use Rattle.chunk_writer.specs.Scribes.{WritesHistory, ScribeGrows, GathersExtra, phase_of}
 use Rattle.merge_walk.specs.Pieces.{InputBytes}
 use Rattle.mcap_merge.specs.declared.answers.MergeRefused.{MergeRefused}
@@ -55,8 +55,11 @@ lacks_adds seen s t stop extras records gathers is = λ options others opened hi
 
 -- ---- the file
 
-holds_same : (blocks bytes b c : ℕ) → blocks ≡ b → bytes ≡ c → Holds blocks bytes → Holds b c
-holds_same blocks bytes b c one two holds = subst (Holds b) two (subst (λ (n : ℕ). Holds n bytes) one holds)
+file_holds : (profile : List ℕ) (all : List (List Rec)) (blocks bytes size : ℕ) → blocks ≡ length all → bytes ≡ size → Holds blocks bytes → ContentsFit profile all → FileHolds profile all size
+file_holds profile all blocks bytes size one two holds fit = record {
+  holds = subst (Holds (length all)) two (subst (λ (n : ℕ). Holds n bytes) one holds);
+  contents = fit;
+}
 
 module _ {L : Type 0} (seen : L → LiveState) (options : FileOptions) (opened : LiveState) (old new : Scribe L) (begun : WritesHistory seen options [] opened [] old) where
   -- a scribe that was opened for these options stopped
@@ -72,7 +75,7 @@ module _ {L : Type 0} (seen : L → LiveState) (options : FileOptions) (opened :
   ended_there all extras history (Ok it) adds (written, ends, within) =
       let whole = ends options extras opened history (adds options [] opened [] begun) in
       let ended = whole.0 in
-      (ended.0, holds_same written.blocks written.bytes (length (blocks_in (pieces_of options.chunk options.span history))) (length (file_of options extras history)) ended.1 ended.2 within, whole.2)
+      (ended.0, file_holds options.profile (blocks_in (pieces_of options.chunk options.span history)) written.blocks written.bytes (length (file_of options extras history)) ended.1 ended.2 within ended.3, whole.2)
   ended_there all extras history (Err stop) adds (written, ends, within) = (written.blocks, written.bytes, (ends options extras opened history (adds options [] opened [] begun)).0)
 
   pub whole_filed : (start : MergeStart) (m : Merged) (end : Result Unit Stop) → EndsWhole (λ s t e r. AddsTo seen s t e r) (λ s t r. EndsWithin seen s t r) start old new m end → WholeStands (FilesAs options end) start opened (seen new.store) m

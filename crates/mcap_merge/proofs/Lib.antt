@@ -1,38 +1,38 @@
 mod Headed
-mod Marking
-mod Held
+pub mod Marking
+pub mod Held
 mod Joined
 mod Contents
-mod Merging
-mod Stores
-mod Profiles
+pub mod Merging
+pub mod Stores
+pub mod Profiles
 mod Used
 mod ReadBack
 mod Written
-mod Filing
-mod Sources
+pub mod Filing
+pub mod Sources
 mod Inserted
-mod InTurn
+pub mod InTurn
 mod FewIds
 mod MergeThere
 mod SeenContents
 mod SeenSchemas
-mod Putting
+pub mod Putting
 mod Counted
 mod Begun
-mod Sound
+pub mod Sound
 mod ListedPieces
-mod Lengths
-mod Behind
+pub mod Lengths
+pub mod Behind
 mod MergeFiled
-mod Within
+pub mod Within
 mod SpanTimes
-mod Fitting
+pub mod Fitting
 mod Laid
-mod ToldSpans
-mod ToldMessages
-mod ToldTurns
-mod Dropped
-mod FirstOfAll
-mod Told
-mod ToldStays
+pub mod ToldSpans
+pub mod ToldMessages
+pub mod ToldTurns
+pub mod Dropped
+pub mod FirstOfAll
+pub mod Told
+pub mod ToldStays

@@ -171,7 +171,7 @@ module _ (olds mids : List StoreState) (chunk : ℕ) (r : Ready) (ready : IsRead
         history = history;
         is = whole_is whole.walk whole.texts whole.given us whole.pieces whole.all_given zip;
         messages = counted.messages;
-        records = counted.records ∙ all_counted (length history) (omega (arith, history_few options extras history (inner_all us), file.1.small));
+        records = counted.records ∙ all_counted (length history) (omega (arith, history_few options extras history (inner_all us), file.1.holds.small));
         peak = subst (IsPeak (read_tops reads)) (sym whole.peak) (peak_is reads inputs whole.walk ready.gathered.hold same whole.loaded whole.stands.peak);
         most = λ tell. subst (IsMostOf (read_tops reads)) (sym whole.peak)
             (most_is reads inputs whole.walk ready.gathered.hold same whole.stands.order whole.loaded whole.stands.next (whole.stands.most (λ n p at. subst (λ (f : InputBytes). ReachesEnd f p) (sym same_files)

@@ -91,7 +91,7 @@ kind_by op false true c nine twelve high is = inr (inl (eqb-true op 12 twelve))
 kind_by op false false true nine twelve high is = inr (inr (leb-true 128 op high))
 kind_by op false false false nine twelve high is = absurd (both_ways false refl is)
 
-extra_meets : (tops : List Top) (n : ℕ) (t : Top) → Good reading_limits tops → At (filter is_extra tops) n t → IsExtra t
+pub extra_meets : (tops : List Top) (n : ℕ) (t : Top) → Good reading_limits tops → At (filter is_extra tops) n t → IsExtra t
 extra_meets tops n t good at =
     let passed = filter_passed is_extra tops n t at in
     let fits = good passed.0.0 t passed.0.1 in

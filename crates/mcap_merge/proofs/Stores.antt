@@ -26,13 +26,13 @@ use Rattle.mcap_merge.specs.ReadingSteps.{front_source, FrontReads, HasLength, I
 use Rattle.mcap_merge.proofs.Within.{halts_within}
 
 -- the first bytes of a store are all where the length is theirs
-told_left : (old : StoreState) (len : ℕ) (bytes : List ℕ) → HasLength old len → old.bytes ≡ Some bytes → (front_source old len).left ≡ Some bytes
+pub told_left : (old : StoreState) (len : ℕ) (bytes : List ℕ) → HasLength old len → old.bytes ≡ Some bytes → (front_source old len).left ≡ Some bytes
 told_left old len bytes whole is =
     let long : len ≡ length bytes = whole bytes is in
     ap (λ (o : Option (List ℕ)). front_left o 0 len) is ∙ ap (λ (l : List ℕ). Some l) (take_all len bytes (omega (arith, long)))
 
 -- where the source had no failure the store had none
-no_fault : (old new : StoreState) (next len failures : ℕ) → WasRead old new next len failures → failures ≡ 0 → new.faults ≡ old.faults
+pub no_fault : (old new : StoreState) (next len failures : ℕ) → WasRead old new next len failures → failures ≡ 0 → new.faults ≡ old.faults
 no_fault old new next len failures was none = let whole = was.whole none in whole.0
 
 pub front_whole : (old new : StoreState) (len : ℕ) (input : Input) → HasLength old len → FrontReads old len new (Ok input) → ReadsWhole old new (Ok input)

@@ -81,14 +81,14 @@ module _ (stores : List StoreState) (reads : List Read) (inputs : List Input) (p
       let rest = sents_told ts us zip.1 in
       record { sents = m ∷ rest.sents; are = (is, rest.are); used = (used, rest.used) }
 
-  sents_rise : (given : List Turn) (sents : List Sent) → AllPairs TurnBefore given → AllZip Is given sents → AllPairs MergesBefore sents
+  pub sents_rise : (given : List Turn) (sents : List Sent) → AllPairs TurnBefore given → AllZip Is given sents → AllPairs MergesBefore sents
   sents_rise given sents rise zip = pairs_from MergesBefore sents (λ i j m n less at_m at_n.
       let (t, at_t, one) = zip_back Is given sents i m zip at_m in
       let (u, at_u, other) = zip_back Is given sents j n zip at_n in
       before_merges reads t u m n one.0 other.0 (pairs_at TurnBefore given rise i j t u less at_t at_u))
 
   -- the turn of a message that was given is that of this message alone
-  sent_there : (given : List Turn) (sents : List Sent) (t : Turn) (m : Sent) → AllZip Is given sents → TurnIs reads t m → IsFrom (read_tops reads) m → Has given t → Has sents m
+  pub sent_there : (given : List Turn) (sents : List Sent) (t : Turn) (m : Sent) → AllZip Is given sents → TurnIs reads t m → IsFrom (read_tops reads) m → Has given t → Has sents m
   sent_there given sents t m zip is from has =
       let (n, at_n, other) = zip_front Is given sents has.0 t zip has.1 in
       let there = other.0 in
@@ -96,7 +96,7 @@ module _ (stores : List StoreState) (reads : List Read) (inputs : List Input) (p
       (has.0, subst (At sents has.0) same at_n)
 
   -- the turn of a message whose piece has a text is one of the texts
-  turn_there : (m : Sent) (is : MessageTold stores reads inputs pieces told.listed m) → Has some is.piece → Has (turns_of texts) is.turn
+  pub turn_there : (m : Sent) (is : MessageTold stores reads inputs pieces told.listed m) → Has some is.piece → Has (turns_of texts) is.turn
   turn_there m is has =
       let (x, at_x, text) = zip_front (IsTextOf (files_of stores)) some texts has.0 is.piece are has.1 in
       has_flat turns_in texts x is.turn (has.0, at_x) (is.given x text)
@@ -149,7 +149,7 @@ merged_told stores reads inputs pieces texts given uses profile told all are com
 
 -- ---- the first turns
 
-merges_apart : (m n : Sent) → MergesBefore m n → MergesBefore n m → ⊥
+pub merges_apart : (m n : Sent) → MergesBefore m n → MergesBefore n m → ⊥
 merges_apart m n (inl one) (inl other) = omega (arith, one, other)
 merges_apart m n (inl one) (inr other) = let same = other.0 in omega (arith, one, same)
 merges_apart m n (inr one) (inl other) = let same = one.0 in omega (arith, same, other)

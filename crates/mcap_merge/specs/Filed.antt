@@ -17,7 +17,7 @@ use Rattle.mcap_model.specs.File.{file_of}
 use Rattle.mcap_model.specs.History.{is_message}
 use Rattle.mcap_model.specs.Merged.{MergeOf, CommonProfile}
 use Rattle.mcap_model.specs.Repaired.{is_extra}
-use Rattle.chunk_writer.specs.Limits.{Holds}
+use Rattle.chunk_writer.specs.Limits.{FileHolds}
 use Rattle.chunk_writer.specs.Stops.{numbers, StopsAt, StopCause}
 use Rattle.mcap_merge.specs.declared.answers.MergeRefused.{MergeRefused}
 use Rattle.mcap_merge.specs.declared.answers.MergeRefused.TheVariants as merges
@@ -58,7 +58,7 @@ pub record MergesInto (stores news : List StoreState) (opened now : LiveState) (
   pub peak : IsPeak (read_tops is.reads) m.peak
   pub most : AllTell stores → IsMostOf (read_tops is.reads) m.peak
   pub file : Adds opened.held now.held (file_of (merged_options profile chunk) extras history)
-  pub within : Holds (length (blocks_in (pieces_of (Some chunk) None history))) (length
+  pub within : FileHolds profile (blocks_in (pieces_of (Some chunk) None history)) (length
       (file_of (merged_options profile chunk) extras history))
   pub inputs_still : AllZip FaultsStand stores news
   pub still : now.faults ≡ opened.faults
@@ -68,7 +68,7 @@ pub record MergesInto (stores news : List StoreState) (opened now : LiveState) (
 -- piece of it.
 abbrev pub FileStands : FileOptions → List Top → List Rec → LiveState → LiveState → Result Unit Stop → Type 0
 FileStands options extras history opened now (Ok it) = Adds opened.held now.held (file_of options extras history)
-    × Holds (length (blocks_in (pieces_of options.chunk options.span history)))
+    × FileHolds options.profile (blocks_in (pieces_of options.chunk options.span history))
     (length (file_of options extras history))
     × (now.waiting ≡ 0)
 FileStands options extras history opened now (Err stop) =

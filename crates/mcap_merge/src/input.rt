@@ -18,14 +18,14 @@ use std::alloc::Global;
 
 /// An Attachment, a Metadata or a record of an application, as it stands at top level of a file.
 #[derive(Drop)]
-pub(crate) struct Extra {
+pub struct Extra {
     pub op: u8,
     pub content: Bytes,
 }
 
 /// What is held of an input that was read to its Data End.
 #[derive(Drop)]
-pub(crate) struct Input {
+pub struct Input {
     pub profile: Text,
     pub tables: Tables,
     pub extras: Vec<Extra>,
@@ -69,15 +69,15 @@ fn refusal_of(reader: Reader) -> ReadingRefused
     }
 }
 
-// What is held of the records so far.
+/// What is held of the records so far.
 #[derive(Drop)]
-struct Holding {
-    profile: Text,
-    extras: Vec<Extra>,
-    spans: Vec<Span>,
-    used: Vec<bool>,
+pub struct Holding {
+    pub profile: Text,
+    pub extras: Vec<Extra>,
+    pub spans: Vec<Span>,
+    pub used: Vec<bool>,
     // The messages of the record that was held last, whose room is kept for the next.
-    heads: Vec<MessageHead>,
+    pub heads: Vec<MessageHead>,
 }
 
 // Keeps the profile of the first record.
@@ -101,8 +101,8 @@ fn keep_profile(
     }
 }
 
-// Holds what there is of the record that was read last, which stands at that offset.
-fn hold(
+/// Holds what there is of the record that was read last, which stands at that offset.
+pub fn hold(
     alloc: Global,
     held: &mut Holding,
     reader: &Reader,
@@ -134,8 +134,8 @@ fn hold(
     }
 }
 
-// Nothing is held yet.
-fn hold_nothing(alloc: Global) -> Result<Holding, Memory>
+/// Nothing is held yet.
+pub fn hold_nothing(alloc: Global) -> Result<Holding, Memory>
     ensures { IfOk result HoldsNothing }
 {
     let profile = match Text::copied(alloc, "") {
@@ -156,8 +156,8 @@ fn hold_nothing(alloc: Global) -> Result<Holding, Memory>
     }
 }
 
-// What is held at the end, with the declarations.
-fn input_of(held: Holding, reader: Reader) -> Input
+/// What is held at the end, with the declarations.
+pub fn input_of(held: Holding, reader: Reader) -> Input
     ensures { IsInputOf held (tables_of reader) result }
 {
     let Holding {

@@ -22,4 +22,7 @@ mod turns;
 mod writing;
 
 pub use answers::{MergeRefused, Merged};
+pub use input::{Extra, Holding, Input, hold, hold_nothing, input_of};
 pub use merge_stores::merge;
+pub use reading::refusal_at;
+pub use turns::message_in;

@@ -92,7 +92,7 @@ fn read_store<T: Store>(alloc: Global, store: &mut T) -> Result<Input, ReadingRe
 }
 
 /// Why files aren't merged, where the input of that number wasn't read, or not read again.
-pub(crate) fn refusal_at(input: u32, why: ReadingRefused) -> MergeRefused
+pub fn refusal_at(input: u32, why: ReadingRefused) -> MergeRefused
     ensures { IsRefusalAt input why result }
 {
     match why {

@@ -20,8 +20,8 @@ use merge_walk::{Walk, WalkRefused};
 use rec_data::Message;
 use std::alloc::Global;
 
-// The Message of that content, where it is one on a channel of the input that has messages.
-fn message_in<'a>(input: &Input, content: &'a [u8]) -> Option<Message<'a>>
+/// The Message of that content, where it is one on a channel of the input that has messages.
+pub fn message_in<'a>(input: &Input, content: &'a [u8]) -> Option<Message<'a>>
     requires { length input.now.used.items ≡ 65536 }
     ensures { IsMessageOn input.now content.now result }
 {

@@ -1,0 +1,12 @@
+mod Finding
+mod Declared
+mod Held
+mod Fronts
+mod Puts
+mod Turned
+mod Told
+mod Sorted
+mod Kept
+mod OneStore
+mod Filed
+mod Answered
