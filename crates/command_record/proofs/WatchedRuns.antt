@@ -505,6 +505,7 @@ module _ (options : RecordOptions) (range : Range) (out : List ℕ) (watches fee
             placed_holds options.file told.names now.names out there.history r.writer b.live_now.held b.live_kept h ((names_since out feeds names b told now here here_now).output h.text h.is);
         placed = λ told now here here_now. (names_since out feeds names b told now here here_now).watch_files;
         texts = texts;
+        forms = it.forms;
         unflawed = λ told here. unflawed_by tells r reports sealed it told here;
         kept_are = ap (λ (l : List Opening). map feed_entry fs ++ file ∷ l) (ap (λ (l : List Opening). map sink_entry sinks ++ l) none ∙ append-nil (map sink_entry sinks));
       }

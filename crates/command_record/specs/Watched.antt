@@ -13,7 +13,7 @@ use Rattle.live_watcher.specs.declared.report.WatchReport.{WatchReport}
 use Rattle.live_watcher.specs.declared.report.WatchEnd.{WatchEnd}
 use Rattle.live_watcher.specs.declared.report.WatchEnd.TheVariants as watch_ends
 use Rattle.live_recording.specs.Watched.{Watch, AsksViews}
-use Rattle.live_recording.specs.Files.{IsWatchedFile}
+use Rattle.live_recording.specs.Files.{IsWatchedFile, HasWatchForm}
 use Rattle.command_base.specs.Ran.{Wanted, wanted, CountsKept, has_failed}
 use Rattle.command_base.specs.Outputs.{inputs_and_output}
 use Rattle.command_record.specs.Record.{FeedKept, feed_entry, live_entry, feed_names_kept, back_sources, OutputHolds, Unreported}
@@ -175,6 +175,8 @@ pub record ReportedBeside (request : Requested) (old new : WorldState) (entries 
       → Each (SinkHolds told.names now.names) kept_sinks
   pub texts : (told : Told) → old.told ≡ Some told → AreReadable request.options.file
       → Each (IsWatchedFile request.options.file request.range recorded.history did.report.writer did.sealed) seen
+  -- which in every world has the form of a watch file: lines of fronts, and then the end that its report names
+  pub forms : Each (HasWatchForm did.report.writer did.sealed) seen
   -- there no watcher finds a flaw
   pub unflawed : (told : Told) → old.told ≡ Some told → Each (λ (w : Watch). is_flaw w.report.end ≡ false) seen
   pub kept_are : entries

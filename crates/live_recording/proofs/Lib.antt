@@ -4,6 +4,7 @@ mod Given
 mod FirstBlocks
 mod Told
 mod FilesFronts
+mod LinesTold
 mod FilesTold
 mod Seating
 mod Watchers

@@ -1,6 +1,7 @@
 -- What a recording beside a directory came to, and what was told of it.
 use Rattle.std.proofs.Common.{◌≡◌, ℕ, ◌≤◌, List, [], ◌++◌, length, Option, Some, None, Result, Ok, Err, refl, sym, ap, subst, ◌∙◌, inl, inr, append-nil, append_assoc, arith}
 use Rattle.std.specs.Prelude.{Bool, true, false}
+use Rattle.std.proofs.lemmas.Bool.{false≢true}
 use Rattle.std.proofs.lemmas.Option.{same_Some, none-some}
 use mathlib.Core.List.{IsPrefix}
 use Rattle.mcap_wire.specs.Layout.{content_limit}
@@ -28,18 +29,17 @@ use Rattle.chunk_writer.proofs.Planned.{length-front}
 use Rattle.mcap_model.specs.declared.options.RecordOptions.{RecordOptions}
 use Rattle.recorder.specs.declared.report.Report.{Report}
 use Rattle.recorder.specs.declared.report.WriterReport.{WriterReport}
-use Rattle.recorder.specs.Recorded.{answer_of, sides, WriterRecorded}
+use Rattle.recorder.specs.Recorded.{answer_of, Sides, sides, WriterRecorded}
 use Rattle.recorder.specs.Onto.{IsAll, IsReported, written_numbers}
-use Rattle.live_recording.specs.Publishing.{Board, GivesTo, TriesSeal, SealsBoard, Publishing, PublishesOn, PublishesEnd, empty_board, entries_held, gives_on}
-use Rattle.live_recording.specs.WatchedSteps.{AreBlockEntries, ShowsBlocks, RecordedBeside}
+use Rattle.live_recording.specs.Publishing.{Board, KnowsLack, GivesTo, TriesSeal, SealsBoard, Publishing, PublishesOn, PublishesEnd, empty_board, entries_held, gives_none, gives_on}
+use Rattle.live_recording.specs.WatchedSteps.{AreBlockEntries, ShowsBlocks, TriedToSeal, RecordedBeside, RecordedOver}
 use Rattle.live_recording.proofs.Follows.{held_since, unsealed_since}
-use Rattle.live_recording.proofs.Given.{board}
 use Rattle.live_recording.proofs.FirstBlocks.{first_blocks_are}
 
 -- ---- a note
 
 -- of a directory without blocks the note of a try to seal it has no blocks, and that end at most
-pub told_at_seal : {X : Type 0} (before now : DirectoryState X) (end : End) (note : List (Added X)) → before ≡ empty_directory → TriesSeal before now end note → (entries_of note ≡ []) × ((other : End) → end_of note ≡ Some other → other ≡ end)
+told_at_seal : {X : Type 0} (before now : DirectoryState X) (end : End) (note : List (Added X)) → before ≡ empty_directory → TriesSeal before now end note → (entries_of note ≡ []) × ((other : End) → end_of note ≡ Some other → other ≡ end)
 told_at_seal before now end note empty (inl seals) = (
   ap (λ (h : List (Added _)). entries_of h) seals.note_is ∙ seals.entries ∙ ap (λ (d : DirectoryState _). entries_held d) empty,
   λ other is. same_Some other end (sym is ∙ ap (λ (h : List (Added _)). end_of h) seals.note_is ∙ seals.sealed),
@@ -50,10 +50,27 @@ told_at_seal before now end note empty (inr stays) =
       λ other is. absurd (none-some other (ap (λ (h : List (Added _)). end_of h) (sym none) ∙ is)),
     )
 
--- ---- before the first record
+-- ---- a try to seal
 
-pub begun_empty : {X : Type 0} (d : DirectoryState X) → d ≡ empty_directory → board d false false ≡ empty_board
-begun_empty d is = ap (λ (x : DirectoryState _). board x false false) is
+knows_empty : {X : Type 0} → KnowsLack {X = X} empty_board
+knows_empty = record { short = refl; all = λ is. (refl, refl); some = λ is. absurd (false≢true is) }
+
+lost_short : {X : Type 0} (b : Board X) → KnowsLack b → b.lost ≡ true → (short : Bool) → b.short ≡ short → b.directory.short ≡ true
+lost_short b known lost true is = sym known.short ∙ is
+lost_short b known lost false is = absurd (false≢true (sym (known.all is).0 ∙ lost))
+
+-- without an end memory lacked
+seal_lacked : {X : Type 0} (b : Board X) (now : DirectoryState X) (end : End) (note : List (Added X)) → KnowsLack b → SealsBoard b now end note → end_of note ≡ None → now.short ≡ true
+seal_lacked b now end note known (inl (kept, inl seals)) none = absurd (none-some end (sym none ∙ ap (λ (h : List (Added _)). end_of h) seals.note_is ∙ seals.sealed))
+seal_lacked b now end note known (inl (kept, inr stays)) none = let still = stays.1 in still.short
+seal_lacked b now end note known (inr (lost, shown, same)) none = ap (λ (d : DirectoryState _). d.short) same ∙ lost_short b known lost b.short refl
+
+tried_so : {X : Type 0} (b : Board X) (given : List (Entry X)) (now : DirectoryState X) (end : End) (note : List (Added X)) → GivesTo empty_board b given → SealsBoard b now end note → TriedToSeal given end note now
+tried_so b given now end note gives seals =
+    let known = gives.known knows_empty in
+    record { board = b; gives = gives; known = known; seals = seals; lacked = seal_lacked b now end note known seals }
+
+-- ---- before the first record
 
 -- a front is within the limit of a file
 front_within : (options : FileOptions) → length options.profile ≤ content_limit → length (front options.profile ++ []) ≤ file_limit
@@ -132,28 +149,43 @@ module _ {L X : Type 0} (state : L → LiveState) (tells : X → Option (List �
     never_ended : (note : List (Added X)) → note ≡ last.board.directory.shown → end_of note ≡ None
     never_ended note is = ap (λ (h : List (Added X)). end_of h) is ∙ unsealed_since first.board last.board (grown.given ++ at_most_one ended.given) empty gives_all
 
-    shows_blocks : length options.file.profile ≤ content_limit → (after : DirectoryState X) (note : List (Added X)) → SealsBoard last.board after w.end note → ShowsBlocks tells options.file live history w note
+    abbrev all_given : List (Entry X)
+    all_given = grown.given ++ at_most_one ended.given
+
+    tries : (after : DirectoryState X) (note : List (Added X)) → SealsBoard last.board after w.end note → TriedToSeal all_given w.end note after
+    tries after note seals = tried_so last.board all_given after w.end note (subst (λ (b : Board X). GivesTo b last.board all_given) empty gives_all) seals
+
+    shows_blocks : length options.file.profile ≤ content_limit → (after : DirectoryState X) (note : List (Added X)) → SealsBoard last.board after w.end note
+        → (shows : ShowsBlocks tells options.file live history w note) × TriedToSeal shows.given w.end note after
     shows_blocks short after note (inl (kept, inl seals)) =
-        let held = held_since first.board last.board (grown.given ++ at_most_one ended.given) empty gives_all kept in
-        let all : entries_of note ≡ grown.given ++ at_most_one ended.given = ap (λ (h : List (Added X)). entries_of h) seals.note_is ∙ seals.entries ∙ held in
-        record {
-          given = grown.given ++ at_most_one ended.given;
-          blocks_are = given_blocks short;
-          first = ([], append-nil (entries_of note) ∙ all);
-          sealed = λ end is. (same_Some end w.end (sym is ∙ ap (λ (h : List (Added X)). end_of h) seals.note_is ∙ seals.sealed), all);
-        }
-    shows_blocks short after note (inl (kept, inr stays)) = record {
-      given = grown.given ++ at_most_one ended.given;
-      blocks_are = given_blocks short;
-      first = shown_first note stays.0;
-      sealed = λ end is. absurd (none-some end (sym (never_ended note stays.0) ∙ is));
-    }
-    shows_blocks short after note (inr (lost, shown, same)) = record {
-      given = grown.given ++ at_most_one ended.given;
-      blocks_are = given_blocks short;
-      first = shown_first note shown;
-      sealed = λ end is. absurd (none-some end (sym (never_ended note shown) ∙ is));
-    }
+        let held = held_since first.board last.board all_given empty gives_all kept in
+        let all : entries_of note ≡ all_given = ap (λ (h : List (Added X)). entries_of h) seals.note_is ∙ seals.entries ∙ held in (
+          record {
+            given = all_given;
+            blocks_are = given_blocks short;
+            first = ([], append-nil (entries_of note) ∙ all);
+            sealed = λ end is. (same_Some end w.end (sym is ∙ ap (λ (h : List (Added X)). end_of h) seals.note_is ∙ seals.sealed), all);
+          },
+          tries after note (inl (kept, inl seals)),
+        )
+    shows_blocks short after note (inl (kept, inr stays)) = (
+      record {
+        given = all_given;
+        blocks_are = given_blocks short;
+        first = shown_first note stays.0;
+        sealed = λ end is. absurd (none-some end (sym (never_ended note stays.0) ∙ is));
+      },
+      tries after note (inl (kept, inr stays)),
+    )
+    shows_blocks short after note (inr (lost, shown, same)) = (
+      record {
+        given = all_given;
+        blocks_are = given_blocks short;
+        first = shown_first note shown;
+        sealed = λ end is. absurd (none-some end (sym (never_ended note shown) ∙ is));
+      },
+      tries after note (inr (lost, shown, same)),
+    )
 
 module _ {L X : Type 0} (state : L → LiveState) (tells : X → Option (List ℕ)) (options : RecordOptions) (sources now : List SourceState) (live : LiveState) (store : L) (report : Report) (note : List (Added X)) where
   -- the writer took a history, and the directory told its blocks
@@ -162,27 +194,31 @@ module _ {L X : Type 0} (state : L → LiveState) (tells : X → Option (List �
       → WritesHistory state options.file [] live [] first.scribe → phase_of first.scribe ≡ phases.Going → (state (store_of first.scribe)).faults ≡ live.faults → length options.file.profile ≤ content_limit
       → IsReported options.limit options.lossless sources now history report → IsAll history report.writer → store ≡ store_of last.scribe
       → (after : DirectoryState X) → SealsBoard last.board after report.writer.end note
-      → RecordedBeside tells options (sides sources live) (sides now (state store)) report note
-  tape_beside size first mid last history given closing empty grown ended stands going still short reported all stored after seals = record {
-    recorded = record {
-      history = history;
-      feeds = reported.feeds;
-      are = reported.are;
-      assembled = reported.assembled;
-      unfull = reported.unfull;
-      kept = all.kept;
-      writer = subst (λ (l : L). WriterRecorded options.file live (state l) history report.writer) (sym stored)
-          (scribe_recorded state tells size first mid last history given closing report.writer empty grown ended options live stands going still all);
-    };
-    shows = shows_blocks state tells size first mid last history given closing report.writer empty grown ended options live stands going short after note seals;
-  }
+      → RecordedBeside tells options (sides sources live) (sides now (state store)) report note after
+  tape_beside size first mid last history given closing empty grown ended stands going still short reported all stored after seals =
+      let told = shows_blocks state tells size first mid last history given closing report.writer empty grown ended options live stands going short after note seals in
+      record {
+        recorded = record {
+          history = history;
+          feeds = reported.feeds;
+          are = reported.are;
+          assembled = reported.assembled;
+          unfull = reported.unfull;
+          kept = all.kept;
+          writer = subst (λ (l : L). WriterRecorded options.file live (state l) history report.writer) (sym stored)
+              (scribe_recorded state tells size first mid last history given closing report.writer empty grown ended options live stands going still all);
+        };
+        shows = told.0;
+        tried = told.1;
+      }
 
   -- nothing was begun, and the directory told no block
   pub nothing_beside : (stop : Stop) → length options.file.profile ≤ content_limit → IsReported options.limit options.lossless sources now [] report
       → report.writer ≡ record { records = 0; blocks = 0; bytes = 0; end = ends.Stopped stop } → StopsAt options.file [] [] live.held (state store).held stop (numbers 0 0)
-      → StopCause live.faults (state store).faults stop → (entries_of note ≡ []) × ((end : End) → end_of note ≡ Some end → end ≡ ends.Stopped stop)
-      → RecordedBeside tells options (sides sources live) (sides now (state store)) report note
-  nothing_beside stop short reported written stops cause told =
+      → StopCause live.faults (state store).faults stop → (before after : DirectoryState X) → before ≡ empty_directory → TriesSeal before after (ends.Stopped stop) note
+      → RecordedBeside tells options (sides sources live) (sides now (state store)) report note after
+  nothing_beside stop short reported written stops cause before after empty tries =
+      let told = told_at_seal before after (ends.Stopped stop) note empty tries in
       let none : WriterReport = record { records = 0; blocks = 0; bytes = 0; end = ends.Stopped stop } in
       record {
         recorded = record {
@@ -214,4 +250,12 @@ module _ {L X : Type 0} (state : L → LiveState) (tells : X → Option (List �
           first = ([], append-nil (entries_of note) ∙ told.0);
           sealed = λ end is. (told.1 end is ∙ ap (λ (w : WriterReport). w.end) (sym written), told.0);
         };
+        tried = subst (λ (w : WriterReport). TriedToSeal [] w.end note after) (sym written)
+            (tried_so empty_board [] after (ends.Stopped stop) note (gives_none empty_board) (inl (refl, subst (λ (d : DirectoryState X). TriesSeal d after (ends.Stopped stop) note) empty tries)));
       }
+
+-- the same of the store that was taken out of a tape
+pub over_store : {L X : Type 0} (state : L → LiveState) (tells : X → Option (List ℕ)) (options : RecordOptions) (before : Sides) (sources : List SourceState) (r : Report) (note : List (Added X)) (directory : DirectoryState X) (store now : L)
+    → store ≡ now → RecordedBeside tells options before (sides sources (state now)) r note directory → RecordedOver tells options before (sides sources (state store)) r note
+over_store state tells options before sources r note directory store now same it =
+    (directory, subst (λ (l : _). RecordedBeside tells options before (sides sources (state l)) r note directory) (sym same) it)

@@ -14,6 +14,7 @@ use Rattle.feed_lane.specs.Lanes.{InStep}
 use Rattle.live_directory.specs.declared.front.Added.{Added}
 use Rattle.live_directory.specs.Reading.{unread}
 use Rattle.live_directory.specs.Published.{end_of, at_most_one}
+use Rattle.live_directory.specs.Writing.{DirectoryState, empty_directory}
 use Rattle.mcap_model.specs.declared.options.RecordOptions.{RecordOptions}
 use Rattle.recorder.specs.declared.report.Report.{Report}
 use Rattle.recorder.specs.Recorded.{Sides, sides, Recorded}
@@ -24,6 +25,7 @@ use Rattle.live_watcher.proofs.Steps.{new_watched}
 use Rattle.live_recording.specs.declared.seats.Unviewed.{Unviewed}
 use Rattle.live_recording.specs.Watched.{IsUnviewed, Watch, AsksView, AsksViews}
 use Rattle.live_recording.specs.WatchedSteps.{WatchTells, IsWatched, RecordedBeside, SeenWatching, RecordedWatched, LeftState, SeatRuns, SeatEnds, SeatMade, SeatsMade, SeatsEnd}
+use Rattle.live_recording.proofs.LinesTold.{form_told}
 
 -- ---- lists
 
@@ -46,6 +48,12 @@ zip_same R same (x ∷ xs) = (same x, zip_same R same xs)
 
 pub listed_so : (listed : Bool) (report r : Report) → Some report ≡ Some r → Each (λ (f : FeedReport). ListsMessages f listed) report.feeds.items → Each (λ (f : FeedReport). ListsMessages f listed) r.feeds.items
 listed_so listed report r is it = subst (λ (x : Report). Each (λ (f : FeedReport). ListsMessages f listed) x.feeds.items) (same_some is) it
+
+-- ---- the end of a directory
+
+pub unsealed_end : (o : Option End) (sealed : Bool) → sealed ≡ is_some o → sealed ≡ false → o ≡ None
+unsealed_end None sealed is not_sealed = refl
+unsealed_end (Some end) sealed is not_sealed = absurd (cc (is, not_sealed))
 
 -- ---- one watcher
 
@@ -120,15 +128,14 @@ module _ {X K : Type 0} (tells : X → Option (List ℕ)) (state : K → SinkSta
   told_sealed None end sealed is same yes_sealed = absurd (cc (is, yes_sealed))
   told_sealed (Some other) end sealed is same yes_sealed = ap (λ (e : End). Some e) (same other refl)
 
-  told_unsealed : (o : Option End) (sealed : Bool) → sealed ≡ is_some o → sealed ≡ false → o ≡ None
-  told_unsealed None sealed is not_sealed = refl
-  told_unsealed (Some end) sealed is not_sealed = absurd (cc (is, not_sealed))
-
   pub watched_so : (options : RecordOptions) (before now : Sides) (viewed : LiveState) (sinks : List K) (seats ran : List Seat) (report r : Report) (it : SeenWatching) → Some report ≡ Some r
       → it.handed ≡ map state sinks → (sinks ≡ [] → ⊥) → SeatsMade state range before.live sinks viewed seats → InStep (SeatRuns tells) seats ran → SeatsEnd tells state told ran it.sinks it.views it.reports
-      → RecordedBeside tells options (sides before.sources viewed) now report told → it.sealed ≡ is_some (end_of told) → RecordedWatched tells options range before now r it
-  watched_so options before now viewed sinks seats ran report r it is handed some made runs ends recorded sealed =
+      → (directory : DirectoryState X) → RecordedBeside tells options (sides before.sources viewed) now report told directory → it.sealed ≡ is_some (end_of told) → RecordedWatched tells options range before now r it
+  watched_so options before now viewed sinks seats ran report r it is handed some made runs ends directory recorded sealed =
       let all : AllTold before.live sinks viewed ends.left = all_told before.live viewed sinks seats ran ends.left made (zipped (SeatRuns tells) seats ran runs) ends.each in
+      let shows = recorded.shows in
+      let was_sealed : it.sealed ≡ true → end_of told ≡ Some report.writer.end = told_sealed (end_of told) report.writer.end it.sealed sealed (λ end ends. (shows.sealed end ends).0) in
+      let not_sealed : it.sealed ≡ false → end_of told ≡ None = unsealed_end (end_of told) it.sealed sealed in
       subst (λ (x : Report). RecordedWatched tells options range before now x it) (same_some is) (record {
         watches = all.watches;
         are = record {
@@ -141,10 +148,13 @@ module _ {X K : Type 0} (tells : X → Option (List ℕ)) (state : K → SinkSta
         asked = all.asked;
         note = told;
         recorded = recorded.recorded;
-        shows = λ some. recorded.shows;
+        shows = λ some. shows;
+        directory = directory;
+        tried = λ some. recorded.tried;
         each = all.each;
-        sealed = λ is. inr (told_sealed (end_of told) report.writer.end it.sealed sealed (λ end ends. (recorded.shows.sealed end ends).0) is);
-        unsealed = λ is. (λ none. some (none_mapped state sinks (sym handed ∙ none)), told_unsealed (end_of told) it.sealed sealed is);
+        forms = λ n w at. form_told tells range report.writer told shows.given shows.first shows.sealed shows.blocks_are.many it.sealed was_sealed not_sealed w w.view (all.each n w at);
+        sealed = λ is. inr (was_sealed is);
+        unsealed = λ is. (λ none. some (none_mapped state sinks (sym handed ∙ none)), not_sealed is);
       })
 
 -- ---- a recording without watchers
@@ -161,7 +171,10 @@ module _ {X : Type 0} (tells : X → Option (List ℕ)) where
     note = [];
     recorded = recorded;
     shows = λ some. absurd (some none);
+    directory = empty_directory;
+    tried = λ some. absurd (some none);
     each = λ n w at. absurd (at_none n w at);
+    forms = λ n w at. absurd (at_none n w at);
     sealed = λ is. inl none;
     unsealed = λ is. absurd (cc (is, sealed));
   }

@@ -6,7 +6,8 @@ use Rattle.mcap_model.specs.Places.{Each}
 use Rattle.mcap_model.specs.declared.options.RecordOptions.{RecordOptions}
 use Rattle.recorder.specs.declared.report.Report.{Report}
 use Rattle.recorder.specs.Recorded.{AreReadable, Sides, sides, Recorded}
-use Rattle.live_recording.specs.Files.{IsWatchedFile}
+use Rattle.live_recording.specs.Files.{IsWatchedFile, HasWatchForm}
+use Rattle.live_recording.specs.Publishing.{Board, GivesTo, KnowsLack, SealsBoard, empty_board}
 use Rattle.std.specs.List.{AllZip, concat}
 use Rattle.rec_data.specs.declared.owned.Rec.{Rec}
 use Rattle.mcap_io.specs.Outside.{LiveState, SinkState, RisesOnce}
@@ -20,6 +21,7 @@ use Rattle.live_entry.specs.Following.{Stored, IsStored}
 use Rattle.live_directory.specs.declared.front.Added.{Added}
 use Rattle.live_directory.specs.Published.{entries_of, end_of, at_most_one}
 use Rattle.live_directory.specs.Reading.{unread}
+use Rattle.live_directory.specs.Writing.{DirectoryState}
 use Rattle.recorder.specs.declared.report.WriterReport.{WriterReport}
 use Rattle.recorder.specs.Entries.{IsEntryThere, AreFirst}
 use Rattle.live_watcher.specs.declared.report.WatchReport.{WatchReport}
@@ -50,11 +52,28 @@ pub record ShowsBlocks {X : Type 0} (tells : X → Option (List ℕ)) (options :
   pub first : IsPrefix (entries_of note) given
   pub sealed : (end : End) → end_of note ≡ Some end → (end ≡ w.end) × (entries_of note ≡ given)
 
--- What a recording beside a directory came to, and what the directory showed of it.
+-- A directory without blocks was given these entries, and then it was tried to seal it with that end. It has none only with the
+-- cause: entries were lost behind others that were pending, since memory lacked for these; or memory lacked for the seal.
+pub record TriedToSeal {X : Type 0} (given : List (Entry X)) (end : End) (note : List (Added X)) (now : DirectoryState X)
+    : Type 0 where
+  pub board : Board X
+  pub gives : GivesTo empty_board board given
+  pub known : KnowsLack board
+  pub seals : SealsBoard board now end note
+  pub lacked : end_of note ≡ None → now.short ≡ true
+
+-- What a recording beside a directory came to, what the directory showed of it in the end, and how it is now.
 pub record RecordedBeside {X : Type 0} (tells : X → Option (List ℕ)) (options : RecordOptions) (before now : Sides)
-    (r : Report) (note : List (Added X)) : Type 0 where
+    (r : Report) (note : List (Added X)) (directory : DirectoryState X) : Type 0 where
   pub recorded : Recorded options before now r
   pub shows : ShowsBlocks tells options.file before.live recorded.history r.writer note
+  pub tried : TriedToSeal shows.given r.writer.end note directory
+
+-- the same of some directory, for clauses that can't name the one that was lent
+abbrev pub RecordedOver : {X : Type 0} → (X → Option (List ℕ)) → RecordOptions → Sides → Sides → Report → List (Added X)
+    → Type 0
+RecordedOver {X} tells options before now r note =
+    (directory : DirectoryState X) × RecordedBeside tells options before now r note directory
 
 -- ---- a watcher
 
@@ -101,9 +120,13 @@ pub record SeenWatching : Type 0 where
   pub reports : List WatchReport
   pub sealed : Bool
 
+abbrev pub seen_watching : List SinkState → List SinkState → List ℕ → List WatchReport → Bool → SeenWatching
+seen_watching handed sinks views reports sealed =
+    record { handed = handed; sinks = sinks; views = views; reports = reports; sealed = sealed }
+
 -- What a recording with watchers came to: the store was asked for their views first, and what the recording did is said from
 -- there on; each watcher wrote of what the directory showed in the end. It is told as unsealed only where there are watchers and
--- no seal.
+-- no seal, for want of memory. What a watcher wrote has the form of a watch file, whatever is told of bytes.
 pub record RecordedWatched {X : Type 0} (tells : X → Option (List ℕ)) (options : RecordOptions) (range : Range)
     (before now : Sides) (r : Report) (told : SeenWatching) : Type 0 where
   pub watches : List Watch
@@ -113,7 +136,11 @@ pub record RecordedWatched {X : Type 0} (tells : X → Option (List ℕ)) (optio
   pub note : List (Added X)
   pub recorded : Recorded options (sides before.sources viewed) now r
   pub shows : (told.handed ≡ [] → ⊥) → ShowsBlocks tells options.file viewed recorded.history r.writer note
+  -- as it was when it was closed
+  pub directory : DirectoryState X
+  pub tried : (some : told.handed ≡ [] → ⊥) → TriedToSeal (shows some).given r.writer.end note directory
   pub each : Each (IsWatched tells range note) watches
+  pub forms : Each (HasWatchForm r.writer told.sealed) watches
   pub sealed : told.sealed ≡ true → (told.handed ≡ []) ⊎ (end_of note ≡ Some r.writer.end)
   pub unsealed : told.sealed ≡ false → (told.handed ≡ [] → ⊥) × (end_of note ≡ None)
 

@@ -12,7 +12,7 @@ ghost use Rattle.live_directory.specs.ReaderSteps.{AreUnread};
 ghost use Rattle.live_directory.specs.Writing.{empty_directory};
 ghost use Rattle.recorder.specs.Lanes.{AreReady, AreMessagesListed};
 ghost use Rattle.recorder.specs.Recorded.{sides};
-ghost use Rattle.live_recording.specs.WatchedSteps.{SeatRuns, RecordedBeside, RecordedWatched};
+ghost use Rattle.live_recording.specs.WatchedSteps.{SeatRuns, RecordedOver, RecordedWatched, seen_watching};
 ghost use Rattle.live_recording.specs.Publishing.{IsChunked};
 
 use crate::beside::{Wrote, write_beside};
@@ -128,6 +128,86 @@ fn is_sealed<X: Extent, J: Naming>(note: &Note<X, J>) -> bool
     note.front().end.is_some()
 }
 
+// Runs the watchers and, beside them, the lanes and the writer.
+fn run_beside<
+    't,
+    J: Naming + Send + Sync,
+    R: Threads + Wait + Sync,
+    S: Source + Drop + Send,
+    L: LiveStore<Extent: Send + Sync, View: Drop + Send> + Drop + Send,
+    K: Sink + Drop + Send,
+>(
+    rt: &'t R,
+    alloc: Global,
+    options: &RecordOptions,
+    ready: Ready<'t, R, S>,
+    feeds: Vec<S>,
+    live: L,
+    directory: &mut Directory<L::Extent, J>,
+    last: Vec<Entry<L::Extent>>,
+    seats: Vec<Result<Watcher<L::Extent, J, L::View, K>, Unviewed<K>>>,
+    listed: bool,
+) -> (
+    Vec<Result<Watcher<L::Extent, J, L::View, K>, Unviewed<K>>>,
+    (Report, Vec<S>, L, Note<L::Extent, J>),
+)
+    requires chunked { IsChunked options.now.file.chunk }
+    requires profile { length options.now.file.profile ≤ content_limit }
+    requires few { vec_len feeds ≤ 64 }
+    requires ready { AreReady ready.lanes.control.seat.me.0 ready.drain.seat.me.0 ready.spare }
+    requires same_turn { ready.drain.seat.table_id ≡ ready.lanes.control.seat.table_id }
+    requires lanes { (ready.lanes.lanes.items ≡ []) × (vec_len feeds ≤ vec_capacity ready.lanes.lanes) }
+    requires feeds { (ready.lanes.feeds.items ≡ []) × (vec_len feeds ≤ vec_capacity ready.lanes.feeds) }
+    requires reports { (ready.lanes.reports.items ≡ []) × (vec_len feeds ≤ vec_capacity ready.lanes.reports) }
+    requires limit { ready.lanes.control.seat.me.0.pass.limit ≡ options.now.limit }
+    requires lossless { ready.lanes.lossless ≡ options.now.lossless }
+    requires empty { directory.old ≡ empty_directory }
+    requires last { (last.items ≡ []) × (1 ≤ vec_capacity last) }
+    ensures ran { InStep (SeatRuns (λ e. L.Extent.tells e)) seats.items result.0.items }
+    ensures stays { AllZip S.stays feeds.items result.1.1.items }
+    ensures recorded { RecordedOver (λ e. L.Extent.tells e) options.now
+        (sides (map S.state feeds.items) (L.state live)) (sides (map S.state result.1.1.items) (L.state result.1.2))
+        result.1.0 result.1.3 }
+    ensures listed { Each (λ f. ListsMessages f listed) result.1.0.feeds.items }
+{
+    let tried = AtomicBool::new(false);
+    join(
+        rt,
+        ||
+            ensures { InStep (SeatRuns (λ e. L.Extent.tells e)) seats.items result.items }
+        { run_seats(rt, alloc, seats, &tried) },
+        || -> (Report, Vec<S>, L, Note<L::Extent, J>)
+            requires chunked { IsChunked options.now.file.chunk }
+            requires profile { length options.now.file.profile ≤ content_limit }
+            requires few { vec_len feeds ≤ 64 }
+            requires ready { AreReady ready.lanes.control.seat.me.0 ready.drain.seat.me.0 ready.spare }
+            requires same_turn { ready.drain.seat.table_id ≡ ready.lanes.control.seat.table_id }
+            requires lanes { (ready.lanes.lanes.items ≡ []) × (vec_len feeds ≤ vec_capacity ready.lanes.lanes) }
+            requires feeds { (ready.lanes.feeds.items ≡ []) × (vec_len feeds ≤ vec_capacity ready.lanes.feeds) }
+            requires reports { (ready.lanes.reports.items ≡ []) × (vec_len feeds ≤ vec_capacity ready.lanes.reports) }
+            requires limit { ready.lanes.control.seat.me.0.pass.limit ≡ options.now.limit }
+            requires lossless { ready.lanes.lossless ≡ options.now.lossless }
+            requires empty { directory.now ≡ empty_directory }
+            requires room { (last.items ≡ []) × (1 ≤ vec_capacity last) }
+            ensures stays { AllZip S.stays feeds.items result.1.items }
+            ensures recorded { RecordedOver (λ e. L.Extent.tells e) options.entry.now
+                (sides (map S.state feeds.items) (L.state live)) (sides (map S.state result.1.items) (L.state result.2))
+                result.0 result.3 }
+            ensures listed { Each (λ f. ListsMessages f listed) result.0.feeds.items }
+        {
+            let Wrote {
+                report,
+                feeds,
+                live,
+                note,
+            } = write_beside(
+                rt, alloc, options, ready, feeds, live, directory, last, &tried, listed,
+            );
+            (report, feeds, live, note)
+        },
+    )
+}
+
 // Makes the watchers, runs them beside lanes and writer, and has them finish before the directory is closed.
 fn record_beside<
     't,
@@ -173,48 +253,15 @@ fn record_beside<
     ensures recorded { (r : _) → result.report ≡ Some r
         → RecordedWatched (λ e. L.Extent.tells e) options.now range (sides (map S.state feeds.items) (L.state live))
         (sides (map S.state result.feeds.items) (L.state result.live)) r
-        (record
-        { handed = map K.state watchers.items; sinks = map K.state result.watchers.items; views = map (λ v. L.View.failures v) result.views.items; reports = result.watches.items; sealed = result.sealed }) }
+        (seen_watching (map K.state watchers.items) (map K.state result.watchers.items)
+        (map (λ v. L.View.failures v) result.views.items) result.watches.items result.sealed) }
     ensures listed { AreMessagesListed result.report listed }
 {
     let WatchRoom { seats, left, last } = room;
     let mut live = live;
     let seats = make_seats(alloc, &mut live, readers, watchers, range, seats);
-    let tried = AtomicBool::new(false);
-    let (seats, (report, feeds, live, note)) = join(
-        rt,
-        ||
-            ensures { InStep (SeatRuns (λ e. L.Extent.tells e)) seats.items result.items }
-        { run_seats(rt, alloc, seats, &tried) },
-        || -> (Report, Vec<S>, L, Note<L::Extent, J>)
-            requires chunked { IsChunked options.now.file.chunk }
-            requires profile { length options.now.file.profile ≤ content_limit }
-            requires few { vec_len feeds ≤ 64 }
-            requires ready { AreReady ready.lanes.control.seat.me.0 ready.drain.seat.me.0 ready.spare }
-            requires same_turn { ready.drain.seat.table_id ≡ ready.lanes.control.seat.table_id }
-            requires lanes { (ready.lanes.lanes.items ≡ []) × (vec_len feeds ≤ vec_capacity ready.lanes.lanes) }
-            requires feeds { (ready.lanes.feeds.items ≡ []) × (vec_len feeds ≤ vec_capacity ready.lanes.feeds) }
-            requires reports { (ready.lanes.reports.items ≡ []) × (vec_len feeds ≤ vec_capacity ready.lanes.reports) }
-            requires limit { ready.lanes.control.seat.me.0.pass.limit ≡ options.now.limit }
-            requires lossless { ready.lanes.lossless ≡ options.now.lossless }
-            requires empty { directory.now ≡ empty_directory }
-            requires room { (last.items ≡ []) × (1 ≤ vec_capacity last) }
-            ensures stays { AllZip S.stays feeds.items result.1.items }
-            ensures recorded { RecordedBeside (λ e. L.Extent.tells e) options.entry.now
-                (sides (map S.state feeds.items) (L.state live)) (sides (map S.state result.1.items) (L.state result.2))
-                result.0 result.3 }
-            ensures listed { Each (λ f. ListsMessages f listed) result.0.feeds.items }
-        {
-            let Wrote {
-                report,
-                feeds,
-                live,
-                note,
-            } = write_beside(
-                rt, alloc, options, ready, feeds, live, directory, last, &tried, listed,
-            );
-            (report, feeds, live, note)
-        },
+    let (seats, (report, feeds, live, note)) = run_beside(
+        rt, alloc, options, ready, feeds, live, directory, last, seats, listed,
     );
     let AllLeft {
         reports,
@@ -266,8 +313,8 @@ fn record_over<
     ensures recorded { (r : _) → result.report ≡ Some r
         → RecordedWatched (λ e. L.Extent.tells e) options.now range (sides (map S.state feeds.items) (L.state live))
         (sides (map S.state result.feeds.items) (L.state result.live)) r
-        (record
-        { handed = map K.state watchers.items; sinks = map K.state result.watchers.items; views = map (λ v. L.View.failures v) result.views.items; reports = result.watches.items; sealed = result.sealed }) }
+        (seen_watching (map K.state watchers.items) (map K.state result.watchers.items)
+        (map (λ v. L.View.failures v) result.views.items) result.watches.items result.sealed) }
     ensures listed { AreMessagesListed result.report listed }
 {
     let watched = match watch_room(alloc, watchers.len()) {
@@ -333,8 +380,8 @@ fn record_as<
     ensures recorded { (r : _) → result.report ≡ Some r
         → RecordedWatched (λ e. L.Extent.tells e) options.now range (sides (map S.state feeds.items) (L.state live))
         (sides (map S.state result.feeds.items) (L.state result.live)) r
-        (record
-        { handed = map K.state watchers.items; sinks = map K.state result.watchers.items; views = map (λ v. L.View.failures v) result.views.items; reports = result.watches.items; sealed = result.sealed }) }
+        (seen_watching (map K.state watchers.items) (map K.state result.watchers.items)
+        (map (λ v. L.View.failures v) result.views.items) result.watches.items result.sealed) }
     ensures listed { AreMessagesListed result.report listed }
 {
     match open_directory::<L::Extent, J, R>(alloc, rt, opened, watchers.len() as u32) {
@@ -393,8 +440,8 @@ pub fn record_watched<
     ensures recorded { (r : _) → result.report ≡ Some r
         → RecordedWatched (λ e. L.Extent.tells e) options.now range (sides (map S.state feeds.items) (L.state live))
         (sides (map S.state result.feeds.items) (L.state result.live)) r
-        (record
-        { handed = map K.state watchers.items; sinks = map K.state result.watchers.items; views = map (λ v. L.View.failures v) result.views.items; reports = result.watches.items; sealed = result.sealed }) }
+        (seen_watching (map K.state watchers.items) (map K.state result.watchers.items)
+        (map (λ v. L.View.failures v) result.views.items) result.watches.items result.sealed) }
     ensures listed { AreMessagesListed result.report listed }
 {
     if watchers.is_empty() {
