@@ -14,6 +14,7 @@ use Rattle.mcap_model.specs.declared.rules.Rule.{Rule}
 use Rattle.mcap_model.specs.Kept.{compressed as names}
 use Rattle.file_check.specs.Checking.{IsSo, HaltsBefore, MeetsReadingLimit, Checks, CheckCause, margin}
 use Rattle.file_check.specs.CutFiles.{TellsUnbegun, TellsCutFile}
+use Rattle.file_check.specs.Lacking.{TellsLack}
 use Rattle.command_base.specs.declared.file_reading.Reading.{Reading}
 use Rattle.command_base.specs.declared.file_reading.Reading.TheVariants as readings
 use Rattle.command_base.specs.declared.statuses.Status.{Status}
@@ -25,12 +26,14 @@ use Rattle.command_base.specs.Readings.{ending_of, StoreUse, IsStoreRead, ReadsF
 
 -- ---- the file
 
--- the bytes of the store, where it told them, have this answer, which says what ends them where one of the magics is missing;
--- its count says whether it failed; and it was asked for little more than its bytes
+-- the bytes of the store, where it told them, have this answer, which says what ends them where one of the magics is missing,
+-- and not that memory lacked where what was read of the data section shows another reason; its count says whether it failed;
+-- and it was asked for little more than its bytes
 pub record HasAnswer (store : StoreState) (now : StoreUse) (answer : Result Verdict ReadingRefused) : Type 0 where
   pub checks : Checks store.bytes answer
   pub begun : TellsUnbegun store.bytes answer
   pub cut : TellsCutFile store.bytes answer
+  pub lacks : TellsLack store now.asked answer
   pub cause : CheckCause store.faults now.faults answer
   pub asks : (file : List ℕ) → store.bytes ≡ Some file → now.asked ≤ store.asked + (length file + margin)
 

@@ -45,11 +45,11 @@ pub record Replays (asked : Selection) (store now : StoreState) (answer : Result
   -- the messages have no more data than the file
   pub room : TellsRoom store.bytes answer
   -- of the file no more is asked for than its ends, its summary, and what the indexes lead to
-  pub asks : AsksIndexed asked.range store now
+  pub asks : AsksIndexed asked.range asked.topic store now
   -- of one whose summary can't be loaded no more than its ends and the summary
   pub unloaded : AsksUnloaded store now
-  -- and of a fully indexed file no more than the Message Indexes and the messages in the range besides
-  pub bounded : AsksBound asked.range store now
+  -- and of a fully indexed file no more than the Message Indexes and the messages that are asked for besides
+  pub bounded : AsksBound asked.range asked.topic store now
   pub cause : ReplayCause store.faults now.faults answer
 
 -- the lines of the messages that were replayed

@@ -1,7 +1,7 @@
 -- What the playing of a file by a script did: to the names of the world, to both outputs, and how it ended.
-use Rattle.std.specs.Prelude.{◌≡◌, ◌⊎◌, ◌<◌, ◌≤◌, ◌-◌, ℕ, List, [], ◌++◌, length, map, take, drop, true, false, Some, Result, Ok, Err}
+use Rattle.std.specs.Prelude.{◌≡◌, ◌⊎◌, ◌<◌, ◌≤◌, ◌+◌, ◌-◌, ℕ, List, [], ◌++◌, length, map, take, drop, true, false, Some, Result, Ok, Err}
 use Rattle.std.specs.List.{flat_map}
-use Rattle.mcap_io.specs.Outside.{Rose, SourceState, SinkState, Opening, Told}
+use Rattle.mcap_io.specs.Outside.{RisesOnce, SourceState, SinkState, Opening, Told}
 use Rattle.mcap_model.specs.Tops.{Top}
 use Rattle.mcap_model.specs.Kept.{Halt, reading_limits, at_end, grammar as breaks, compressed as names, beyond, Halts}
 use Rattle.mcap_model.specs.Scan.{Seen, Scan, Replay}
@@ -71,25 +71,54 @@ ReplayComesTo asked before now (Err why) = IsUnprinted before now why
 abbrev pub script_bytes : ℕ
 script_bytes = 67108864
 
--- No read failed, and these are all bytes of the script.
+-- for how many bytes memory is taken before one is read
+abbrev pub script_front : ℕ
+script_front = 65536
+
+-- No read failed, and these are all bytes of the script, which was read to its end.
 pub record IsScriptRead (before now : SourceState) (bytes : List ℕ) : Type 0 where
   pub still : now.faults ≡ before.faults
   pub few : length bytes ≤ script_bytes
   pub told : (rest : List ℕ) → before.left ≡ Some rest → rest ≡ bytes
+  pub ended : (rest : List ℕ) → before.left ≡ Some rest → now.left ≡ Some []
 
--- no read failed, and the script is longer
+-- No read failed, and the script is longer: it was read by one byte more than it may have.
 pub record IsTooLong (before now : SourceState) : Type 0 where
   pub still : now.faults ≡ before.faults
   pub long : (rest : List ℕ) → before.left ≡ Some rest → script_bytes < length rest
+  pub left : (rest : List ℕ) → before.left ≡ Some rest → now.left ≡ Some (drop (script_bytes + 1) rest)
+
+-- no more bytes were read than a script may have
+abbrev pub IsReadWithin : SourceState → SourceState → Type 0
+IsReadWithin before now = (rest : List ℕ) → before.left ≡ Some rest
+    → (n : ℕ) × (n ≤ script_bytes) × (now.left ≡ Some (drop n rest))
+
+-- a read failed, once, and no other was tried
+pub record IsScriptFailed (faults : ℕ) (before now : SourceState) : Type 0 where
+  pub rises : RisesOnce before.faults now.faults
+  pub carried : faults ≡ now.faults
+  pub left : IsReadWithin before now
+
+-- memory lacked for the bytes of a script that isn't short
+pub record LacksRest (before now : SourceState) : Type 0 where
+  pub still : now.faults ≡ before.faults
+  pub long : (rest : List ℕ) → before.left ≡ Some rest → script_front ≤ length rest
+  pub left : IsReadWithin before now
+
+-- Memory lacked before a byte was read, or for the bytes of a script that isn't short, or once all were read: then they are a
+-- script, and it lacked for the lines or for what they show.
+abbrev pub LacksForScript : SourceState → SourceState → Type 0
+LacksForScript before now = (now ≡ before) ⊎ (LacksRest before now
+    ⊎ ((bytes : List ℕ) × (lines : List Line) × IsScriptRead before now bytes × IsScript bytes lines))
 
 abbrev pub IsScriptUnread : SourceState → SourceState → ScriptUnread → Type 0
-IsScriptUnread before now (unread.Fault faults) = Rose before.faults now.faults × (faults ≡ now.faults)
+IsScriptUnread before now (unread.Fault faults) = IsScriptFailed faults before now
 IsScriptUnread before now unread.TooLong = IsTooLong before now
 IsScriptUnread before now (unread.BadLine n) =
     (bytes : List ℕ) × IsScriptRead before now bytes × IsBadLine bytes n
 IsScriptUnread before now unread.TooMany =
     (bytes : List ℕ) × IsScriptRead before now bytes × (script_limit < newlines bytes)
-IsScriptUnread before now unread.Memory = now.faults ≡ before.faults
+IsScriptUnread before now unread.Memory = LacksForScript before now
 
 -- what the reading of the script came to, and what is printed by it of these messages
 abbrev pub ScriptComesTo : List Seen → SourceState → SourceState → Result (List ℕ) ScriptUnread → Type 0

@@ -1,8 +1,9 @@
 -- The steps of playing a file by a script.
 use Rattle.std.proofs.Common.{refl, inl, inr, arith}
-use Rattle.std.specs.Prelude.{◌≡◌, ◌<◌, ℕ, List, [], ◌∷◌, length, map, Result, Ok, Err, Vec}
+use Rattle.std.specs.Prelude.{◌≡◌, ◌<◌, ◌≤◌, ℕ, List, [], ◌∷◌, length, map, drop, Some, Result, Ok, Err, Vec}
 use Rattle.std.specs.Global.{Global}
-use Rattle.mcap_io.specs.Outside.{SourceState, Keeping, Opening}
+use Rattle.mcap_io.specs.Outside.{RisesOnce, SourceState, Keeping, Opening}
+use Rattle.mcap_io.specs.OutsideCalls.{TakesFront}
 use Rattle.mcap_io.specs.declared.outside.ObjectKind.TheVariants as kinds
 use Rattle.mcap_model.specs.Places.{Each}
 use Rattle.mcap_model.specs.Scan.{Seen}
@@ -22,7 +23,7 @@ use Rattle.command_base.specs.ReadingSteps.{IsRefusal}
 use Rattle.command_read.specs.declared.scripting.ScriptUnread.{ScriptUnread}
 use Rattle.command_read.specs.declared.scripting.ScriptUnread.TheVariants as unread
 use Rattle.command_read.specs.Cat.{Selection, IsUnprinted}
-use Rattle.command_read.specs.Play.{IsReplayed, IsScriptRead, IsScriptUnread, script_ending}
+use Rattle.command_read.specs.Play.{IsReplayed, script_front, IsScriptRead, IsScriptUnread, script_ending}
 
 abbrev pub times_of_lines : List TimedLine → List ℕ
 times_of_lines lines = map (λ (l : TimedLine). l.time) lines
@@ -41,6 +42,26 @@ LinesComeTo asked before now (Err why) = IsUnprinted before now why
 
 -- ---- the script
 
+-- up to so many bytes were read: fewer only where no more are left
+pub record Fronts (before now : SourceState) (len : ℕ) (bytes : List ℕ) : Type 0 where
+  pub still : now.faults ≡ before.faults
+  pub few : length bytes ≤ len
+  pub taken : (rest : List ℕ) → before.left ≡ Some rest → TakesFront rest now.left len bytes
+
+-- or fewer of them were, and are lost
+abbrev pub LosesFront : SourceState → SourceState → ℕ → Type 0
+LosesFront before now len = (rest : List ℕ) → before.left ≡ Some rest
+    → (n : ℕ) × (n < len) × (now.left ≡ Some (drop n rest))
+
+abbrev pub Unfronts : SourceState → SourceState → ℕ → ScriptUnread → Type 0
+Unfronts before now len (unread.Fault faults) =
+    RisesOnce before.faults now.faults × (faults ≡ now.faults) × LosesFront before now len
+Unfronts before now len unread.TooLong = ⊥
+Unfronts before now len (unread.BadLine n) = ⊥
+Unfronts before now len unread.TooMany = ⊥
+Unfronts before now len unread.Memory =
+    (now.faults ≡ before.faults) × LosesFront before now len × (len ≤ script_front → now ≡ before)
+
 -- the bytes are a script, and these stretches are what it shows of the lines
 pub record Shows (lines : List TimedLine) (bytes : List ℕ) (stretches : List Stretch) : Type 0 where
   pub script : List Line
@@ -48,13 +69,13 @@ pub record Shows (lines : List TimedLine) (bytes : List ℕ) (stretches : List S
   pub plays : PlaysScript (times_of_lines lines) script stretches
   pub within : Each (LiesWithin (length (times_of_lines lines))) stretches
 
--- or they aren't one, or memory lacked
+-- or they aren't one, or they are and memory lacked
 abbrev pub Refuses : List ℕ → ScriptUnread → Type 0
 Refuses bytes (unread.Fault faults) = ⊥
 Refuses bytes unread.TooLong = ⊥
 Refuses bytes (unread.BadLine n) = IsBadLine bytes n
 Refuses bytes unread.TooMany = script_limit < newlines bytes
-Refuses bytes unread.Memory = Unit {0}
+Refuses bytes unread.Memory = (lines : List Line) × IsScript bytes lines
 
 abbrev pub ScriptShows : List TimedLine → SourceState → SourceState → Result (Vec Stretch Global) ScriptUnread
     → Type 0
@@ -86,7 +107,7 @@ script_is script unread.Memory = tt
 fails_by : (script : List ℕ) (why : ScriptUnread) (before now : SourceState) → IsScriptUnread before now why
     → before.faults ≡ 0 → script_ending script why ≡ failing → now.faults ≡ 0 → ⊥
 fails_by script (unread.Fault faults) before now stands unused e none =
-    let risen = stands.0 in
+    let risen = stands.rises.once in
     omega (arith, risen, unused, none)
 fails_by script unread.TooLong before now stands unused e none = absurd cc
 fails_by script (unread.BadLine n) before now stands unused e none = absurd cc

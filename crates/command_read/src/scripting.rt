@@ -5,7 +5,7 @@ ghost use Rattle.time_player.specs.Stretches.{TimedLine};
 ghost use Rattle.command_base.specs.ComplaintTroubles.{complained};
 ghost use Rattle.command_base.specs.OneFile.{troubles_in, is_lack};
 ghost use Rattle.command_read.specs.Play.{IsScriptRead, IsScriptUnread, script_ending};
-ghost use Rattle.command_read.specs.PlaySteps.{times_of_lines, played_ending, Shows, Refuses, script_is, script_fails};
+ghost use Rattle.command_read.specs.PlaySteps.{times_of_lines, played_ending, Fronts, Unfronts, Shows, Refuses, script_is, script_fails};
 
 use command_base::{Complaint, FileReading, Reading, SourceReading};
 use mcap_io::{OutsideRefused, Sink, Source, read_up_to};
@@ -15,6 +15,9 @@ use time_player::{Stretch, TimedLines};
 
 /// The most bytes of a script.
 const SCRIPT_BYTES: u64 = 67_108_864;
+
+/// For so many bytes memory is taken before one is read.
+const SCRIPT_FRONT: u64 = 65_536;
 
 /// Why a script isn't read.
 #[derive(Drop)]
@@ -27,6 +30,7 @@ pub enum ScriptUnread {
     BadLine { line: u64 },
     /// It has more than 1,000,000 lines.
     TooMany,
+    /// Memory lacked for it. If it has less than 65,536 bytes, either none was read or no line is bad.
     Memory,
 }
 
@@ -38,25 +42,44 @@ pub(crate) struct Scripting<'a> {
     ghost rise: { TimesRise (times_of_lines lines.now) },
 }
 
+// Reads up to `len` bytes.
+fn read_front<S: Source>(alloc: Global, source: &mut S, len: u64) -> Result<Vec<u8>, ScriptUnread>
+    ensures read { IfOk result (λ bytes. Fronts (S.state source.old) (S.state source.new) len bytes.items) }
+    ensures unread { IfErr result (λ why. Unfronts (S.state source.old) (S.state source.new) len why) }
+{
+    let mut bytes = Vec::new(alloc);
+    match read_up_to(source, &mut bytes, len) {
+        Ok(()) => return Ok(bytes),
+        Err(OutsideRefused::Failed) => return Err(ScriptUnread::Fault {
+            faults: source.faults(),
+        }),
+        Err(OutsideRefused::Memory) => return Err(ScriptUnread::Memory),
+    }
+}
+
 // Reads a source to its end.
 fn read_bytes<S: Source>(alloc: Global, source: &mut S) -> Result<Vec<u8>, ScriptUnread>
     ensures read { IfOk result (λ bytes. IsScriptRead (S.state source.old) (S.state source.new) bytes.items) }
     ensures unread { IfErr result (λ why. IsScriptUnread (S.state source.old) (S.state source.new) why) }
 {
-    let mut bytes = Vec::new(alloc);
-    match read_up_to(source, &mut bytes, SCRIPT_BYTES + 1) {
-        Ok(()) => {}
-        Err(OutsideRefused::Failed) => {
-            return Err(ScriptUnread::Fault {
-                faults: source.faults(),
-            });
-        }
-        Err(OutsideRefused::Memory) => return Err(ScriptUnread::Memory),
+    let mut bytes = match read_front(alloc, source, SCRIPT_FRONT) {
+        Ok(bytes) => bytes,
+        Err(why) => return Err(why),
+    };
+    if (bytes.len() as u64) < SCRIPT_FRONT {
+        return Ok(bytes);
     }
-    if bytes.len() as u64 > SCRIPT_BYTES {
+    let more = match read_front(alloc, source, SCRIPT_BYTES + 1 - SCRIPT_FRONT) {
+        Ok(more) => more,
+        Err(why) => return Err(why),
+    };
+    if more.len() as u64 > SCRIPT_BYTES - SCRIPT_FRONT {
         return Err(ScriptUnread::TooLong);
     }
-    return Ok(bytes);
+    match bytes.extend_from_slice(&more) {
+        Ok(()) => return Ok(bytes),
+        Err(_) => return Err(ScriptUnread::Memory),
+    }
 }
 
 impl<'a> Scripting<'a> {

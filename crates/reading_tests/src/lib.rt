@@ -1,5 +1,5 @@
 //! What the lowest crates and the readers of files do on small cases, where no whole run shows it: the outside, numbers and texts as
-//! bytes, checksums, records, scans, replays and indexes.
+//! bytes, checksums, records, scans, replays, scripts and indexes.
 #![tactic(auto)]
 
 #[cfg(test)]
@@ -18,6 +18,8 @@ mod indexes;
 mod outside;
 #[cfg(test)]
 mod owned_records;
+#[cfg(test)]
+mod plays;
 #[cfg(test)]
 mod records;
 #[cfg(test)]
