@@ -13,7 +13,7 @@ use Rattle.clap.specs.Words.{Row, first_of}
 use Rattle.mcap_model.specs.declared.replay.Range.{Range}
 use Rattle.command_words.specs.Synopses.{IsOneOf, Synopsis}
 use Rattle.command_words.specs.Items.{Word, Item, flag, joined, apart, plain, IsFlag, IsFree, IsItem, IsOption, given, place_of, texts, words_of}
-use Rattle.command_words.specs.Commands.{AreAmounts, Flags, GivesNumber, GivesSpan, HasWatchers, IsCat, IsFileOptions, IsFilter, IsGenerate, IsMerge, IsNumber, IsOfFile, IsPlay, IsRange, IsRecord, IsRecover, ReadsWords, Rewrites, file_synopsis, synopsis_of}
+use Rattle.command_words.specs.Commands.{AreAmounts, Flags, GivesNumber, GivesSpan, HasWatchers, IsCat, IsFileOptions, IsFilter, IsGenerate, IsMerge, IsNumber, IsOfFile, IsPlay, IsRange, IsRecord, IsRecover, IsSort, ReadsWords, Rewrites, file_synopsis, synopsis_of}
 use Rattle.command_words.specs.declared.command.FileFilter.{FileFilter}
 use Rattle.command_words.specs.declared.command.FileMerge.{FileMerge}
 use Rattle.command_words.specs.declared.command.Generation.{Generation}
@@ -205,6 +205,9 @@ generated = record { first = refl; rest = refl }
 abbrev filtered : IsOfMore (synopsis_of verb.Filter) (codes "in") (codes "out")
 filtered = record { first = refl; rest = refl }
 
+abbrev sorted : IsOfMore (synopsis_of verb.Sort) (codes "in") (codes "out")
+sorted = record { first = refl; rest = refl }
+
 abbrev played : IsOfMore (synopsis_of verb.Play) (codes "file") (codes "script")
 played = record { first = refl; rest = refl }
 
@@ -376,7 +379,7 @@ module _ (v : Synopsis) (words : List Word) (rows : List Row) (reading : IsReadi
         chunk_is = is.chunk_is;
       }
 
--- a recovery does
+-- the commands that do
 module _ (words : List Word) (rows : List Row) (input out : Word) (chunk : ℕ) where
   pub recover_is : (reading : IsReading (synopsis_of verb.Recover) words rows) → FindsRewriting rows input out chunk → IsRecover words (record { input = input; out = out; chunk = chunk })
   recover_is reading finds = rewrites_by (synopsis_of verb.Recover) words rows reading recovered (inl refl) input out chunk
@@ -384,6 +387,13 @@ module _ (words : List Word) (rows : List Row) (input out : Word) (chunk : ℕ) 
 
   pub recover_found : (reading : IsReading (synopsis_of verb.Recover) words rows) → Rewrites (synopsis_of verb.Recover) words input out chunk → FindsRewriting rows input out chunk
   recover_found reading is = finds_by (synopsis_of verb.Recover) words rows reading recovered (inl refl) input out chunk is
+
+  pub sort_is : (reading : IsReading (synopsis_of verb.Sort) words rows) → FindsRewriting rows input out chunk → IsSort words (record { input = input; out = out; chunk = chunk })
+  sort_is reading finds = rewrites_by (synopsis_of verb.Sort) words rows reading sorted (inl refl) input out chunk
+      (each_of (IsClean rows) (codes "chunk" ∷ []) (chunk_clean (synopsis_of verb.Sort) words rows reading sorted (inl refl) input out chunk finds, tt)) finds
+
+  pub sort_found : (reading : IsReading (synopsis_of verb.Sort) words rows) → Rewrites (synopsis_of verb.Sort) words input out chunk → FindsRewriting rows input out chunk
+  sort_found reading is = finds_by (synopsis_of verb.Sort) words rows reading sorted (inl refl) input out chunk is
 
 -- what was found of a recording
 module _ (words : List Word) (rows : List Row) (reading : IsReading (synopsis_of verb.Record) words rows) (recording : Recording) (size : Option ℕ) where

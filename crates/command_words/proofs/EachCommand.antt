@@ -4,21 +4,22 @@ use Rattle.std.specs.Prelude.{if◌then◌else◌}
 use Rattle.std.specs.Str.{bytes_eq}
 use Rattle.std.proofs.lemmas.Option.{same_Some}
 use Rattle.command_words.specs.Items.{Word, given}
-use Rattle.command_words.specs.Commands.{WordsMean, IsFilter, IsGenerate, IsMerge, IsPlay, IsRecover, Rewrites, command_name, file_commands, file_synopsis, synopsis_of, verb_of, verbs}
+use Rattle.command_words.specs.Commands.{WordsMean, IsFilter, IsGenerate, IsMerge, IsPlay, IsRecover, IsSort, Rewrites, command_name, file_commands, file_synopsis, synopsis_of, verb_of, verbs}
 use Rattle.command_words.specs.declared.command.FileCommand.{FileCommand}
 use Rattle.command_words.specs.declared.command.FileFilter.{FileFilter}
 use Rattle.command_words.specs.declared.command.FileMerge.{FileMerge}
 use Rattle.command_words.specs.declared.command.FileRecovery.{FileRecovery}
+use Rattle.command_words.specs.declared.command.FileSort.{FileSort}
 use Rattle.command_words.specs.declared.command.Generation.{Generation}
 use Rattle.command_words.specs.declared.command.Playing.{Playing}
 use Rattle.command_words.specs.declared.command.Printing.{Printing}
 use Rattle.command_words.specs.declared.command.Recording.{Recording}
 use Rattle.command_words.specs.declared.command.Command.{Command}
-use Rattle.command_words.specs.declared.command.Command.TheVariants.{Record, OfFile, Cat, Recover, Merge, Generate, Filter, Play}
+use Rattle.command_words.specs.declared.command.Command.TheVariants.{Record, OfFile, Cat, Recover, Merge, Generate, Filter, Sort, Play}
 use Rattle.command_words.specs.declared.verbs.Verb.{Verb}
 use Rattle.command_words.specs.declared.verbs.Verb.TheVariants as verb
 use Rattle.command_words.proofs.CommandLemmas.{Fitting, fit_cat, fit_file, fit_filter, fit_play, fit_record, fit_with, once_number}
-use Rattle.command_words.proofs.OneCommand.{one_cat, one_file, one_filter, one_generate, one_merge, one_play, one_record, one_recover}
+use Rattle.command_words.proofs.OneCommand.{one_cat, one_file, one_filter, one_generate, one_merge, one_play, one_record, one_recover, one_sort}
 
 -- the command is one of these
 abbrev pub IsListed : List Verb → Verb → Type 0
@@ -55,7 +56,7 @@ of_files : (what : FileCommand) → IsListed (map verb.OfFile file_commands) (ve
 of_files what = listed_by (command_name what) file_commands what (found_again what)
 
 abbrev others : List Verb
-others = verb.Cat ∷ verb.Recover ∷ verb.Merge ∷ verb.Generate ∷ verb.Filter ∷ verb.Play ∷ []
+others = verb.Cat ∷ verb.Recover ∷ verb.Merge ∷ verb.Generate ∷ verb.Filter ∷ verb.Sort ∷ verb.Play ∷ []
 
 pub listed : (v : Verb) → IsListed verbs v
 listed verb.Record = inl refl
@@ -65,7 +66,8 @@ listed verb.Recover = inr (listed_right (map verb.OfFile file_commands) others v
 listed verb.Merge = inr (listed_right (map verb.OfFile file_commands) others verb.Merge (inr (inr (inl refl))))
 listed verb.Generate = inr (listed_right (map verb.OfFile file_commands) others verb.Generate (inr (inr (inr (inl refl)))))
 listed verb.Filter = inr (listed_right (map verb.OfFile file_commands) others verb.Filter (inr (inr (inr (inr (inl refl))))))
-listed verb.Play = inr (listed_right (map verb.OfFile file_commands) others verb.Play (inr (inr (inr (inr (inr (inl refl)))))))
+listed verb.Sort = inr (listed_right (map verb.OfFile file_commands) others verb.Sort (inr (inr (inr (inr (inr (inl refl)))))))
+listed verb.Play = inr (listed_right (map verb.OfFile file_commands) others verb.Play (inr (inr (inr (inr (inr (inr (inl refl))))))))
 
 -- it holds of each command with this verb
 abbrev pub OfVerb : Verb → (Command → Type 0) → Type 0
@@ -76,6 +78,7 @@ OfVerb verb.Recover P = (recovery : FileRecovery) → P (Recover recovery)
 OfVerb verb.Merge P = (merge : FileMerge) → P (Merge merge)
 OfVerb verb.Generate P = (generation : Generation) → P (Generate generation)
 OfVerb verb.Filter P = (filtering : FileFilter) → P (Filter filtering)
+OfVerb verb.Sort P = (sorting : FileSort) → P (Sort sorting)
 OfVerb verb.Play P = (playing : Playing) → P (Play playing)
 
 of_its : (P : Command → Type 0) (command : Command) → OfVerb (verb_of command) P → P command
@@ -86,6 +89,7 @@ of_its P (Recover recovery) all = all recovery
 of_its P (Merge merge) all = all merge
 of_its P (Generate generation) all = all generation
 of_its P (Filter filtering) all = all filtering
+of_its P (Sort sorting) all = all sorting
 of_its P (Play playing) all = all playing
 
 pub of_verb : (v : Verb) (P : Command → Type 0) → OfVerb v P → (command : Command) → verb_of command ≡ v → P command
@@ -102,6 +106,9 @@ fitting words (Recover recovery) is =
 fitting words (Merge merge) is =
     let one : IsMerge words merge = is in fit_with (synopsis_of verb.Merge) words one.items (merge.out ∷ merge.inputs) one.reads (once_number 1 67108864 (given (codes "chunk") one.items) one.size one.sized, tt) tt tt
 fitting words (Filter filtering) is = fit_filter words filtering is
+fitting words (Sort sorting) is =
+    let one : Rewrites (synopsis_of verb.Sort) words sorting.input sorting.out sorting.chunk = is in
+    fit_with (synopsis_of verb.Sort) words one.items (sorting.input ∷ sorting.out ∷ []) one.reads (once_number 1 67108864 (given (codes "chunk") one.items) one.size one.sized, tt) tt tt
 fitting words (Play playing) is = fit_play words playing is
 fitting words (Generate generation) is =
     let one : IsGenerate words generation = is in fit_with (synopsis_of verb.Generate) words one.items (one.seed_word ∷ one.feeds_word ∷ one.messages_word ∷ generation.out ∷ []) one.reads tt tt tt
@@ -117,4 +124,5 @@ one_behind words (Recover recovery) b same is = of_verb verb.Recover (λ c. Word
 one_behind words (Merge merge) b same is = of_verb verb.Merge (λ c. WordsMean words c → c ≡ Merge merge) (λ merge' other. ap Merge (one_merge words merge merge' is other)) b same
 one_behind words (Generate generation) b same is = of_verb verb.Generate (λ c. WordsMean words c → c ≡ Generate generation) (λ generation' other. ap Generate (one_generate words generation generation' is other)) b same
 one_behind words (Filter filtering) b same is = of_verb verb.Filter (λ c. WordsMean words c → c ≡ Filter filtering) (λ filtering' other. ap Filter (one_filter words filtering filtering' is other)) b same
+one_behind words (Sort sorting) b same is = of_verb verb.Sort (λ c. WordsMean words c → c ≡ Sort sorting) (λ sorting' other. ap Sort (one_sort words sorting sorting' is other)) b same
 one_behind words (Play playing) b same is = of_verb verb.Play (λ c. WordsMean words c → c ≡ Play playing) (λ playing' other. ap Play (one_play words playing playing' is other)) b same

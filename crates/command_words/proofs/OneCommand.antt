@@ -9,10 +9,11 @@ use Rattle.mcap_model.specs.declared.options.RecordOptions.{RecordOptions}
 use Rattle.mcap_model.specs.declared.replay.Range.{Range}
 use Rattle.command_words.specs.Synopses.{Synopsis}
 use Rattle.command_words.specs.Items.{Word, Item, given}
-use Rattle.command_words.specs.Commands.{Flags, GivesNumber, GivesSpan, HasChunks, HasProfile, HasWatchers, IsCat, IsFileOptions, IsFilter, IsGenerate, IsMerge, IsNumber, IsOfFile, IsPlay, IsRange, IsRecord, IsRecover, IsSpan, Rewrites, SizesChunks, synopsis_of, watchers_with, whole_time}
+use Rattle.command_words.specs.Commands.{Flags, GivesNumber, GivesSpan, HasChunks, HasProfile, HasWatchers, IsCat, IsFileOptions, IsFilter, IsGenerate, IsMerge, IsNumber, IsOfFile, IsPlay, IsRange, IsRecord, IsRecover, IsSort, IsSpan, Rewrites, SizesChunks, synopsis_of, watchers_with, whole_time}
 use Rattle.command_words.specs.declared.command.FileFilter.{FileFilter}
 use Rattle.command_words.specs.declared.command.FileMerge.{FileMerge}
 use Rattle.command_words.specs.declared.command.FileRecovery.{FileRecovery}
+use Rattle.command_words.specs.declared.command.FileSort.{FileSort}
 use Rattle.command_words.specs.declared.command.Generation.{Generation}
 use Rattle.command_words.specs.declared.command.Playing.{Playing}
 use Rattle.command_words.specs.declared.command.Printing.{Printing}
@@ -174,6 +175,17 @@ pub one_recover : (words : List Word) (a b : FileRecovery) → IsRecover words a
 one_recover words a b is other = recovery_same a.input b.input a.out b.out a.chunk b.chunk
     (rewriting_read (synopsis_of verb.Recover) words a.input a.out b.input b.out a.chunk b.chunk is other).1
     (rewriting_chunk (synopsis_of verb.Recover) words a.input a.out b.input b.out a.chunk b.chunk is other)
+
+abbrev sorting_with : Word → Word → ℕ → FileSort
+sorting_with input out chunk = record { input = input; out = out; chunk = chunk }
+
+sorting_same : (input input' out out' : Word) (m n : ℕ) → input' ∷ out' ∷ [] ≡ input ∷ out ∷ [] → n ≡ m → sorting_with input' out' n ≡ sorting_with input out m
+sorting_same input input' out out' m n places chunk = cc
+
+pub one_sort : (words : List Word) (a b : FileSort) → IsSort words a → IsSort words b → b ≡ a
+one_sort words a b is other = sorting_same a.input b.input a.out b.out a.chunk b.chunk
+    (rewriting_read (synopsis_of verb.Sort) words a.input a.out b.input b.out a.chunk b.chunk is other).1
+    (rewriting_chunk (synopsis_of verb.Sort) words a.input a.out b.input b.out a.chunk b.chunk is other)
 
 abbrev filtering_with : Word → Word → Range → Option Word → ℕ → FileFilter
 filtering_with input out range topic chunk = record { input = input; out = out; range = range; topic = topic; chunk = chunk }

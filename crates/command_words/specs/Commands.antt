@@ -15,12 +15,13 @@ use Rattle.command_words.specs.declared.command.FileCommand.{FileCommand}
 use Rattle.command_words.specs.declared.command.FileFilter.{FileFilter}
 use Rattle.command_words.specs.declared.command.FileMerge.{FileMerge}
 use Rattle.command_words.specs.declared.command.FileRecovery.{FileRecovery}
+use Rattle.command_words.specs.declared.command.FileSort.{FileSort}
 use Rattle.command_words.specs.declared.command.Generation.{Generation}
 use Rattle.command_words.specs.declared.command.Playing.{Playing}
 use Rattle.command_words.specs.declared.command.Printing.{Printing}
 use Rattle.command_words.specs.declared.command.Recording.{Recording}
 use Rattle.command_words.specs.declared.command.FileCommand.TheVariants.{Info, Check}
-use Rattle.command_words.specs.declared.command.Command.TheVariants.{Record, OfFile, Cat, Recover, Merge, Generate, Filter, Play}
+use Rattle.command_words.specs.declared.command.Command.TheVariants.{Record, OfFile, Cat, Recover, Merge, Generate, Filter, Sort, Play}
 use Rattle.command_words.specs.declared.verbs.Verb.{Verb}
 use Rattle.command_words.specs.declared.verbs.Verb.TheVariants as verb
 
@@ -94,6 +95,14 @@ synopsis_of verb.Filter = record {
   rest = Some (codes "out");
   sound = refl;
 }
+synopsis_of verb.Sort = record {
+  name = codes "sort";
+  flags = [];
+  options = codes "chunk" ∷ [];
+  first = codes "in";
+  rest = Some (codes "out");
+  sound = refl;
+}
 synopsis_of verb.Play = record {
   name = codes "play";
   flags = [];
@@ -106,7 +115,7 @@ synopsis_of verb.Play = record {
 -- all commands
 abbrev pub verbs : List Verb
 verbs = verb.Record ∷ (map verb.OfFile file_commands
-    ++ (verb.Cat ∷ verb.Recover ∷ verb.Merge ∷ verb.Generate ∷ verb.Filter ∷ verb.Play ∷ []))
+    ++ (verb.Cat ∷ verb.Recover ∷ verb.Merge ∷ verb.Generate ∷ verb.Filter ∷ verb.Sort ∷ verb.Play ∷ []))
 
 abbrev pub name_of : Verb → Word
 name_of verb = (synopsis_of verb).name
@@ -122,6 +131,7 @@ usage_of verb.Recover = codes "recover [--chunk N] IN OUT"
 usage_of verb.Merge = codes "merge [--chunk N] OUT IN..."
 usage_of verb.Generate = codes "gen SEED FEEDS MESSAGES OUT"
 usage_of verb.Filter = codes "filter [--start N] [--end N] [--topic T] [--chunk N] IN OUT"
+usage_of verb.Sort = codes "sort [--chunk N] IN OUT"
 usage_of verb.Play = codes "play [--start N] [--end N] [--topic T] FILE SCRIPT"
 
 abbrev pub usage_line : Verb → Word
@@ -303,6 +313,9 @@ pub record Rewrites (synopsis : Synopsis) (words : List Word) (input out : Word)
 abbrev pub IsRecover : List Word → FileRecovery → Type 0
 IsRecover words recovery = Rewrites (synopsis_of verb.Recover) words recovery.input recovery.out recovery.chunk
 
+abbrev pub IsSort : List Word → FileSort → Type 0
+IsSort words sorting = Rewrites (synopsis_of verb.Sort) words sorting.input sorting.out sorting.chunk
+
 -- filter, its options, IN and OUT
 pub record IsFilter (words : List Word) (filtering : FileFilter) : Type 0 where
   pub rewrites : Rewrites (synopsis_of verb.Filter) words filtering.input filtering.out filtering.chunk
@@ -358,6 +371,7 @@ WordsMean words (Recover recovery) = IsRecover words recovery
 WordsMean words (Merge merge) = IsMerge words merge
 WordsMean words (Generate generation) = IsGenerate words generation
 WordsMean words (Filter filtering) = IsFilter words filtering
+WordsMean words (Sort sorting) = IsSort words sorting
 WordsMean words (Play playing) = IsPlay words playing
 
 abbrev pub verb_of : Command → Verb
@@ -368,6 +382,7 @@ verb_of (Recover recovery) = verb.Recover
 verb_of (Merge merge) = verb.Merge
 verb_of (Generate generation) = verb.Generate
 verb_of (Filter filtering) = verb.Filter
+verb_of (Sort sorting) = verb.Sort
 verb_of (Play playing) = verb.Play
 
 -- the words are those of the command

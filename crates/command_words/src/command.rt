@@ -86,6 +86,7 @@ pub fn usage() -> &'static str
   merge [--chunk N] OUT IN...
   gen SEED FEEDS MESSAGES OUT
   filter [--start N] [--end N] [--topic T] [--chunk N] IN OUT
+  sort [--chunk N] IN OUT
   play [--start N] [--end N] [--topic T] FILE SCRIPT
 "
 }
@@ -154,6 +155,14 @@ pub struct FileFilter {
     pub chunk: u64,
 }
 
+/// A new file `out` of the messages of the file `input` in the order of log time, in chunks of `chunk` bytes of records.
+#[derive(Drop)]
+pub struct FileSort {
+    pub input: Text,
+    pub out: Text,
+    pub chunk: u64,
+}
+
 /// A playing of the messages of `file` in the range of log times, those of one topic where it is named, at the moments of
 /// the file `script`.
 #[derive(Drop)]
@@ -181,6 +190,8 @@ pub enum Command {
     Generate(Generation),
     /// Write some messages of a file.
     Filter(FileFilter),
+    /// Write the messages of a file by log time.
+    Sort(FileSort),
     /// Print messages at moments.
     Play(Playing),
 }

@@ -129,6 +129,15 @@ fn filter<'a>(alloc: Global) -> Result<Command<'a>, AllocError>
     with_rest(command, alloc, "out")
 }
 
+// `sort`.
+fn sort<'a>(alloc: Global) -> Result<Command<'a>, AllocError>
+    ensures { IfOk result (IsMade (verb_app verb.Sort)) }
+{
+    let command = with_option(Ok(Command::new(alloc, "sort")), alloc, "chunk");
+    let command = with_place(command, alloc, "in");
+    with_rest(command, alloc, "out")
+}
+
 // `play`.
 fn play<'a>(alloc: Global) -> Result<Command<'a>, AllocError>
     ensures { IfOk result (IsMade (verb_app verb.Play)) }
@@ -205,5 +214,6 @@ pub fn program_command<'a>(alloc: Global) -> Result<Command<'a>, AllocError>
     let command = with_verb(command, merge(alloc));
     let command = with_verb(command, generate(alloc));
     let command = with_verb(command, filter(alloc));
+    let command = with_verb(command, sort(alloc));
     with_verb(command, play(alloc))
 }

@@ -13,8 +13,8 @@ mod verbs;
 mod watches;
 
 pub use command::{
-    Command, FileCommand, FileFilter, FileMerge, FileRecovery, Generation, Inspection, Names,
-    Playing, Printing, Recording, WordsRefused, usage,
+    Command, FileCommand, FileFilter, FileMerge, FileRecovery, FileSort, Generation, Inspection,
+    Names, Playing, Printing, Recording, WordsRefused, usage,
 };
 pub use options::USUAL_CHUNK;
 pub use parse::{USUAL_LIMIT, parse_words};

@@ -3,7 +3,7 @@ ghost use Rattle.std.specs.Prelude.{◌≡◌, ◌≢◌, ◌≤◌, ◌↔◌, 
 ghost use Rattle.std.specs.List.{All};
 ghost use Rattle.clap.specs.Words.{subcommand_rows_of};
 ghost use Rattle.command_words.specs.Items.{Word, texts};
-ghost use Rattle.command_words.specs.Commands.{AreAmounts, AreBad, WordsMean, Derives, IsCat, IsFilter, IsGenerate, IsMerge, IsOnly, IsPlay, IsRecord, IsRecover, synopsis_of, verb_of};
+ghost use Rattle.command_words.specs.Commands.{AreAmounts, AreBad, WordsMean, Derives, IsCat, IsFilter, IsGenerate, IsMerge, IsOnly, IsPlay, IsRecord, IsRecover, IsSort, synopsis_of, verb_of};
 ghost use Rattle.command_words.specs.Matches.{AreFeedNames, EntersSubcommand, AreUnwatched, IsReading, rows_found, value_in, values_in};
 ghost use Rattle.command_words.specs.declared.command.Command.{Command as Wanted};
 ghost use Rattle.command_words.specs.declared.command.Recording.{Recording as Recorded};
@@ -11,12 +11,13 @@ ghost use Rattle.command_words.specs.declared.command.Printing.{Printing as Prin
 ghost use Rattle.command_words.specs.declared.command.FileRecovery.{FileRecovery as Recovered};
 ghost use Rattle.command_words.specs.declared.command.FileFilter.{FileFilter as Filtered};
 ghost use Rattle.command_words.specs.declared.command.FileMerge.{FileMerge as Merged};
+ghost use Rattle.command_words.specs.declared.command.FileSort.{FileSort as Sorted};
 ghost use Rattle.command_words.specs.declared.command.Playing.{Playing as Played};
 ghost use Rattle.command_words.specs.declared.command.Generation.{Generation as Generated};
 
 use crate::command::{
-    Command, FileFilter, FileMerge, FileRecovery, Generation, Inspection, Names, Playing, Printing,
-    Recording, WordsRefused,
+    Command, FileFilter, FileMerge, FileRecovery, FileSort, Generation, Inspection, Names, Playing,
+    Printing, Recording, WordsRefused,
 };
 use crate::found::{
     BadValue, has_flag, is_dash, name_of_file, number_at, number_of, parse_number, value_of,
@@ -235,6 +236,22 @@ fn recover_of(alloc: Global, found: &ArgMatches) -> Result<Command, WordsRefused
     }
 }
 
+// What was found behind `sort`.
+fn sort_of(alloc: Global, found: &ArgMatches) -> Result<Command, WordsRefused>
+    ensures command { (words : List Word) → IsReading (synopsis_of Verb.Sort) words (rows_found found.now)
+        → IfOk result (λ command. WordsMean words command × (verb_of command ≡ Verb.Sort)) }
+    ensures bad { (words : List Word) → IsReading (synopsis_of Verb.Sort) words (rows_found found.now)
+        → IfErr result (λ refused. refused ≡ WordsRefused.BadWords → (sorting : Sorted)
+        → IsSort words sorting → ⊥) }
+{
+    match rewriting_of(alloc, found) {
+        Ok(Rewriting { input, out, chunk }) => {
+            return Ok(Command::Sort(FileSort { input, out, chunk }));
+        }
+        Err(refused) => return Err(refused),
+    }
+}
+
 // What was found behind `filter`.
 fn filter_of(alloc: Global, found: &ArgMatches) -> Result<Command, WordsRefused>
     ensures command { (words : List Word) → IsReading (synopsis_of Verb.Filter) words (rows_found found.now)
@@ -397,6 +414,7 @@ fn command_of(alloc: Global, verb: Verb, found: &ArgMatches) -> Result<Command, 
         Verb::Merge => return merge_of(alloc, found),
         Verb::Generate => return generate_of(alloc, found),
         Verb::Filter => return filter_of(alloc, found),
+        Verb::Sort => return sort_of(alloc, found),
         Verb::Play => return play_of(alloc, found),
     }
 }
@@ -425,8 +443,8 @@ fn found_command(alloc: Global, found: &ArgMatches) -> Result<Command, WordsRefu
 /// `--chunk` from 1 to 67,108,864 (usually 786,432), and those of `--start` and `--end` are times below 2^64. SEED is a
 /// number below 2^64, FEEDS one from 1 to 64, and FEEDS times MESSAGES is at most 1,000,000. A profile has
 /// at most 65,535 bytes. OUT, FEED, FILE and IN aren't empty and no word is `-` alone; 1 to 64 FEEDs stand behind OUT, each
-/// other than OUT, two of which may be equal, as 1 to 64 INs do behind that of `merge`, and the one IN of `recover` and `filter` is
-/// other than OUT, but FILE and SCRIPT may be equal; `--plain` and `--chunk` exclude each other.
+/// other than OUT, two of which may be equal, as 1 to 64 INs do behind that of `merge`, and the one IN of `recover`, `filter` and
+/// `sort` is other than OUT, but FILE and SCRIPT may be equal; `--plain` and `--chunk` exclude each other.
 ///
 /// N of `--watchers` is a number from 0 to 16, and START:END of `--watch` two times below 2^64 with one colon between them,
 /// from START on and before END. Without `--watch` the times are all; without `--watchers` there is one watcher where

@@ -15,6 +15,7 @@ pub enum Verb {
     Merge,
     Generate,
     Filter,
+    Sort,
     Play,
 }
 
@@ -39,6 +40,9 @@ pub fn named_verb(name: &str) -> Option<Verb>
     }
     if name == "filter" {
         return Some(Verb::Filter);
+    }
+    if name == "sort" {
+        return Some(Verb::Sort);
     }
     if name == "play" {
         return Some(Verb::Play);

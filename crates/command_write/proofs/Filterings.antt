@@ -5,7 +5,6 @@ use Rattle.mcap_io.specs.Outside.{Told, Opening, Names, SourceState, LiveState, 
 use Rattle.mcap_io.specs.OutsideCalls.{went_well, PlacedUnder, WritesAll}
 use Rattle.mcap_io.specs.declared.outside.Short.{Short}
 use Rattle.mcap_io.specs.declared.outside.Failed.{Failed}
-use Rattle.rec_data.specs.declared.owned.Rec.{Rec}
 use Rattle.mcap_model.specs.declared.ends.Stop.{Stop}
 use Rattle.mcap_model.specs.declared.ends.Stop.TheVariants as stops
 use Rattle.mcap_model.specs.declared.refusals.ReadingRefused.{ReadingRefused}
@@ -13,17 +12,14 @@ use Rattle.mcap_model.specs.declared.refusals.ReadingRefused.TheVariants as scan
 use Rattle.mcap_model.specs.Tops.{Top}
 use Rattle.mcap_model.specs.Rules.{V1}
 use Rattle.mcap_model.specs.File.{file_of, IsPrefix}
-use Rattle.mcap_model.specs.Pieces.{file_pieces}
-use Rattle.mcap_model.specs.Repaired.{Repaired}
-use Rattle.mcap_model.proofs.Pieces.{pieces_make_files, stops_leave_prefixes}
-use Rattle.chunk_writer.specs.declared.tape.Written.{Written}
 use Rattle.chunk_writer.specs.Stops.{StopsAt, StopCause}
-use Rattle.record_keeping.specs.NewFiles.{recovered_options, OfBoth, StandsPart, ChangedBehindMagic}
+use Rattle.record_keeping.specs.NewFiles.{recovered_options, LeftAfter, IsUnbegun, AreRipe}
+use Rattle.record_keeping.proofs.Ripe.{unbegun_told, cut_told}
 use Rattle.mcap_filter.specs.declared.answers.Picked.{Picked}
 use Rattle.mcap_filter.specs.declared.answers.PickRefused.{PickRefused}
 use Rattle.mcap_filter.specs.declared.answers.PickRefused.TheVariants as refusals
 use Rattle.mcap_filter.specs.Picked.{filtered}
-use Rattle.mcap_filter.specs.Filtering.{UnreadCause, IsUnread, Filters}
+use Rattle.mcap_filter.specs.Filtering.{UnreadCause, RefusalLeaves, filtered_making, HasEnded, EndedBytes, IsUnread, IsUnfiled, Filters}
 use Rattle.command_base.specs.Printing.{TellsAll, Tells, Takes}
 use Rattle.command_base.specs.declared.statuses.Status.{Status}
 use Rattle.command_base.specs.declared.statuses.Status.TheVariants as statuses
@@ -40,7 +36,7 @@ use Rattle.command_write.specs.declared.filtering.Filtering.TheVariants as filte
 use Rattle.command_write.specs.declared.filtering.Sifted.{Sifted}
 use Rattle.command_write.specs.Recover.{number_after_name, both_names}
 use Rattle.command_write.specs.Merge.{ending_at, stop_ending}
-use Rattle.command_write.specs.Filter.{FilterRequest, HoldsFilteredPart, FilterOutputHolds, BothFiltered, filter_lacks, RefusesFiltering, filtering_of, IsFiltering, ending_of_filtering, filtered_line, UnreadDecides, FilterStopDecides, FilterDecides, FiltersFile}
+use Rattle.command_write.specs.Filter.{FilterRequest, HoldsUnread, HoldsUnfiled, FilterOutputHolds, BothFiltered, filter_lacks, RefusesFiltering, filtering_of, IsFiltering, ending_of_filtering, filtered_line, UnreadDecides, FilterStopDecides, FilterDecides, FiltersFile}
 use Rattle.command_write.specs.FilterSteps.{unopened_filtering, NamesFiltered}
 use Rattle.command_write.proofs.Names.{BothKept, as_names, NotGiven, no_entries, alone_entries, BothGiven, both_entries, both_placed, nothing_yet, both_kept}
 use Rattle.command_write.proofs.Recoveries.{placed_so, wrote}
@@ -75,57 +71,62 @@ ends_so input out old new entries input_failed out_failed filtering names sure =
 
 -- ---- what the output holds
 
--- the store holds a first part of the file that is written of the bytes
-record HasPart (asked : FilterRequest) (bytes : List ℕ) (held : Option (List ℕ)) : Type 0 where
+leaves_so : (why : ReadingRefused) (before now : SourceState) (tops : List Top) (bytes : List ℕ) → UnreadCause why before now tops → before.left ≡ Some bytes → RefusalLeaves why bytes tops now.left
+leaves_so (scans.Fault faults) before now tops bytes it told = it.leaves bytes told
+leaves_so (scans.Grammar offset rule) before now tops bytes it told = (it.halts bytes told, it.leaves bytes told)
+leaves_so (scans.Compressed offset name) before now tops bytes it told = (it.halts bytes told, it.leaves bytes told)
+leaves_so (scans.Limit offset) before now tops bytes it told = (it.halts bytes told, it.leaves bytes told)
+leaves_so scans.Memory before now tops bytes it told = it.leaves bytes told
+
+-- what the store holds of records after which a reading was refused
+record HasRipe (asked : FilterRequest) (bytes : List ℕ) (left : Option (List ℕ)) (why : ReadingRefused) (tops : List Top) (held : Option (List ℕ)) : Type 0 where
   text : List ℕ
   is : held ≡ Some text
-  part : (profile : List ℕ) (extras : List Top) (history : List Rec) → Repaired bytes profile extras history → IsPrefix text (file_of (recovered_options profile asked.chunk) extras (filtered asked.asking history))
+  keeps : (IsUnbegun why (LeftAfter bytes left) tops × (text ≡ [])) ⊎ (V1 bytes × AreRipe (filtered_making asked.asking asked.chunk) tops text)
 
-stands_part : (asked : FilterRequest) (source : SourceState) (live stored : LiveState) (bytes : List ℕ) → source.left ≡ Some bytes → live.held ≡ Some []
-    → OfBoth asked.chunk source (λ options extras history. StandsPart live stored options extras (filtered asked.asking history)) → HasPart asked bytes stored.held
-stands_part asked source live stored bytes told none it =
-    let first = it.of_read.stands [] none in
+has_ripe : (asked : FilterRequest) (source back : SourceState) (live stored : LiveState) (why : ReadingRefused) (bytes : List ℕ) → source.left ≡ Some bytes → live.held ≡ Some [] → (it : IsUnread asked.asking asked.chunk source back live stored why) → HasRipe asked bytes back.left why it.tops stored.held
+has_ripe asked source back live stored why bytes told none it = elim it.keeps [
+  | inl (few, same) ↦ record { text = []; is = ap (λ (s : LiveState). s.held) same ∙ none; keeps = inl (unbegun_told why source back it.tops bytes told few, refl) }
+  | inr (magic, ripe) ↦ record { text = ripe.text; is = ripe.adds [] none; keeps = inr (magic bytes told, ripe.ripe) }
+]
+
+holds_unread : (asked : FilterRequest) (source back : SourceState) (live stored : LiveState) (why : ReadingRefused) (bytes out : List ℕ) (all now : Names) (result : Result Unit Failed) → IsUnread asked.asking asked.chunk source back live stored why
+    → source.left ≡ Some bytes → live.held ≡ Some [] → ((text : List ℕ) → stored.held ≡ Some text → PlacedUnder all now out text result) → HoldsUnread asked bytes back.left why (went_well result) (all out) (now out)
+holds_unread asked source back live stored why bytes out all now result it told none placed =
+    let has = has_ripe asked source back live stored why bytes told none it in
     record {
-      text = first.0;
-      is = first.1;
+      tops = it.tops;
+      good = it.good;
+      broken = leaves_so why source back it.tops bytes it.broken told;
+      text = has.text;
+      keeps = has.keeps;
+      placed = placed_so has.text all now out result (placed has.text has.is);
       part = λ profile extras history repaired.
-          let other = it.of_repaired bytes told profile extras history repaired [] none in
-          subst (λ (l : List ℕ). IsPrefix l (file_of (recovered_options profile asked.chunk) extras (filtered asked.asking history))) (same_Some other.0 first.0 (sym other.1 ∙ first.1)) other.2;
+          let other = it.part bytes told profile extras history repaired [] none in
+          subst (λ (l : List ℕ). IsPrefix l (file_of (recovered_options profile asked.chunk) extras (filtered asked.asking history))) (same_Some other.0 has.text (sym other.1 ∙ has.is)) other.2;
     }
 
-stops_part : (asked : FilterRequest) (stop : Stop) (written : Written) (source : SourceState) (live stored : LiveState) (bytes : List ℕ) → source.left ≡ Some bytes → live.held ≡ Some []
-    → OfBoth asked.chunk source (λ options extras history. StopsAt options extras (filtered asked.asking history) live.held stored.held stop written) → HasPart asked bytes stored.held
-stops_part asked stop written source live stored bytes told none it =
-    let first = it.of_read.stands.took [] none in
+-- what stands of a file at whose piece the writer stopped
+holds_unfiled : (asked : FilterRequest) (source back : SourceState) (live stored : LiveState) (stop : Stop) (bytes out : List ℕ) (all now : Names) (result : Result Unit Failed) → IsUnfiled asked.asking asked.chunk source back live stored stop
+    → source.left ≡ Some bytes → live.held ≡ Some [] → ((text : List ℕ) → stored.held ≡ Some text → PlacedUnder all now out text result) → HoldsUnfiled asked bytes back.left stop (went_well result) (all out) (now out)
+holds_unfiled asked source back live stored stop bytes out all now result it told none placed =
+    let cut = it.cut in
+    let (text, held, begins) = cut.ripe [] none in
+    let told_cut = cut_told (filtered_making asked.asking asked.chunk) (HasEnded source back) (EndedBytes bytes back.left) source back live.held stored.held stop it.written bytes text told none held
+    (λ tops ended. (ended.0, ended.1.halts bytes told, ended.1.leaves bytes told)) cut in
     record {
-      text = first.0;
-      is = first.1;
-      part = λ profile extras history repaired.
-          let options = recovered_options profile asked.chunk in
-          let records = filtered asked.asking history in
-          let stopped = it.of_repaired bytes told profile extras history repaired in
-          let other = stopped.took [] none in
-          let prefix = stops_leave_prefixes (file_pieces options extras records) stopped.place stop other.0 written.bytes other.2 in
-          let whole : IsPrefix other.0 (file_of options extras records) = (prefix.0, prefix.1 ∙ pieces_make_files options extras records) in
-          subst (λ (l : List ℕ). IsPrefix l (file_of options extras records)) (same_Some other.0 first.0 (sym other.1 ∙ first.1)) whole;
+      magic = it.magic bytes told;
+      text = text;
+      placed = placed_so text all now out result (placed text held);
+      written = it.written;
+      cut = told_cut;
+      stops = λ profile extras history repaired.
+          subst (λ (o : Option (List ℕ)). StopsAt (recovered_options profile asked.chunk) extras (filtered asked.asking history) o (Some text) stop it.written) none
+          (subst (λ (o : Option (List ℕ)). StopsAt (recovered_options profile asked.chunk) extras (filtered asked.asking history) live.held o stop it.written) held (it.stops bytes told profile extras history repaired));
     }
-
-part_placed : (asked : FilterRequest) (bytes out : List ℕ) (all now : Names) (held : Option (List ℕ)) (result : Result Unit Failed) (it : HasPart asked bytes held) → ((it.text ≡ []) ⊎ V1 bytes) → ((text : List ℕ) → held ≡ Some text → PlacedUnder all now out text result)
-    → HoldsFilteredPart asked bytes (went_well result) (all out) (now out)
-part_placed asked bytes out all now held result it magic placed = record {
-  text = it.text;
-  placed = placed_so it.text all now out result (placed it.text it.is);
-  magic = magic;
-  part = it.part;
-}
-
--- nothing is there where the bytes don't begin with the magic
-magic_so : (source : SourceState) (live stored : LiveState) (bytes text : List ℕ) → source.left ≡ Some bytes → live.held ≡ Some [] → stored.held ≡ Some text → ChangedBehindMagic source live stored → (text ≡ []) ⊎ V1 bytes
-magic_so source live stored bytes text told none is (inl same) = inl (same_Some text [] (sym is ∙ ap (λ (l : LiveState). l.held) same ∙ none))
-magic_so source live stored bytes text told none is (inr magic) = inr (magic bytes told)
 
 output_holds : (asked : FilterRequest) (source back : SourceState) (live stored : LiveState) (answer : Result Picked PickRefused) (bytes out : List ℕ) (all now : Names) (result : Result Unit Failed) → Filters asked.asking asked.chunk source back live stored answer
-    → source.left ≡ Some bytes → live.held ≡ Some [] → ((text : List ℕ) → stored.held ≡ Some text → PlacedUnder all now out text result) → FilterOutputHolds asked bytes answer (went_well result) (all out) (now out)
+    → source.left ≡ Some bytes → live.held ≡ Some [] → ((text : List ℕ) → stored.held ≡ Some text → PlacedUnder all now out text result) → FilterOutputHolds asked bytes back.left answer (went_well result) (all out) (now out)
 output_holds asked source back live stored (Ok p) bytes out all now result it told none placed = record {
   tops = it.tops;
   end = it.end;
@@ -140,10 +141,9 @@ output_holds asked source back live stored (Ok p) bytes out all now result it to
   placed = placed_so (file_of (recovered_options it.profile asked.chunk) it.extras (filtered asked.asking it.history)) all now out result (placed (file_of (recovered_options it.profile asked.chunk) it.extras (filtered asked.asking it.history)) (it.file [] none));
 }
 output_holds asked source back live stored (Err (refusals.Refused why)) bytes out all now result it told none placed =
-    let part = stands_part asked source live stored bytes told none it.part in
-    part_placed asked bytes out all now stored.held result part (magic_so source live stored bytes part.text told none part.is it.changed) placed
+    holds_unread asked source back live stored why bytes out all now result it told none placed
 output_holds asked source back live stored (Err (refusals.Stopped stop)) bytes out all now result it told none placed =
-    part_placed asked bytes out all now stored.held result (stops_part asked stop it.written source live stored bytes told none it.stops) (inr (it.magic bytes told)) placed
+    holds_unfiled asked source back live stored stop bytes out all now result it told none placed
 
 -- ---- both were given
 
@@ -151,10 +151,10 @@ output_holds asked source back live stored (Err (refusals.Stopped stop)) bytes o
 fault_shows : (input : List ℕ) (asked : FilterRequest) (source back : SourceState) (live stored : LiveState) (answer : Result Picked PickRefused) (first second : Bool) → Filters asked.asking asked.chunk source back live stored answer
     → source.faults ≡ 0 → live.faults ≡ 0 → (ending_of_filtering input (filtering_of answer)).fails ≡ true → (failed_so first back.faults ≡ true) ⊎ (failed_so second stored.faults ≡ true)
 fault_shows input asked source back live stored (Ok p) first second it unused new e = absurd cc
-fault_shows input asked source back live stored (Err (refusals.Refused why)) first second it unused new e = unread why it.cause e
+fault_shows input asked source back live stored (Err (refusals.Refused why)) first second it unused new e = unread why it.broken e
   where
-    unread : (w : ReadingRefused) → UnreadCause w source back → (ending_at 0 (refusal_ending input w)).fails ≡ true → (failed_so first back.faults ≡ true) ⊎ (failed_so second stored.faults ≡ true)
-    unread (scans.Fault faults) (rises, carried) is = inl (failed_often first back.faults (λ none. let once = rises.once in omega (arith, once, none, unused)))
+    unread : (w : ReadingRefused) → UnreadCause w source back it.tops → (ending_at 0 (refusal_ending input w)).fails ≡ true → (failed_so first back.faults ≡ true) ⊎ (failed_so second stored.faults ≡ true)
+    unread (scans.Fault faults) off is = inl (failed_often first back.faults (λ none. let rises = off.rises in let once = rises.once in omega (arith, once, none, unused)))
     unread (scans.Grammar offset rule) halted is = absurd cc
     unread (scans.Compressed offset name) halted is = absurd cc
     unread (scans.Limit offset) halted is = absurd cc
@@ -243,16 +243,19 @@ reached_decides : (asked : FilterRequest) (input out bytes : List ℕ) (old new 
 reached_decides asked input out bytes old new entries (Ok p) told status it here there other is =
     let filters = it.filters in
     ((filters.tops, filters.end, filters.halts.halts bytes ((it.tells told here).0 ∙ there)), is)
-reached_decides asked input out bytes old new entries (Err (refusals.Refused why)) told status it here there other is = unread why it.filters.cause other is
+reached_decides asked input out bytes old new entries (Err (refusals.Refused why)) told status it here there other is = unread why all.broken other is
   where
     left : it.source.left ≡ Some bytes
     left = (it.tells told here).0 ∙ there
 
-    unread : (w : ReadingRefused) → UnreadCause w it.source it.back → ((ending_at 0 (refusal_ending input w)).fails ≡ true → ⊥) → status ≡ writing_status (ending_at 0 (refusal_ending input w)) → UnreadDecides bytes w status
+    all : IsUnread asked.asking asked.chunk it.source it.back it.live it.stored why
+    all = it.filters
+
+    unread : (w : ReadingRefused) → UnreadCause w it.source it.back all.tops → ((ending_at 0 (refusal_ending input w)).fails ≡ true → ⊥) → status ≡ writing_status (ending_at 0 (refusal_ending input w)) → UnreadDecides bytes w status
     unread (scans.Fault faults) failed others same = absurd (others refl)
-    unread (scans.Grammar offset rule) (tops, halts) others same = ((tops, halts.halts bytes left), same)
-    unread (scans.Compressed offset name) (tops, halts) others same = ((tops, halts.halts bytes left), same)
-    unread (scans.Limit offset) (tops, halts) others same = ((tops, halts.halts bytes left), same)
+    unread (scans.Grammar offset rule) halts others same = ((all.tops, halts.halts bytes left), same)
+    unread (scans.Compressed offset name) halts others same = ((all.tops, halts.halts bytes left), same)
+    unread (scans.Limit offset) halts others same = ((all.tops, halts.halts bytes left), same)
     unread scans.Memory lacking others same = same
 reached_decides asked input out bytes old new entries (Err (refusals.Stopped stop)) told status it here there other is = unwritten stop other is
   where

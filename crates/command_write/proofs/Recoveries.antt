@@ -6,23 +6,19 @@ use Rattle.mcap_io.specs.Outside.{Told, Opening, Names, SourceState, LiveState, 
 use Rattle.mcap_io.specs.OutsideCalls.{went_well, PlacedUnder, WritesAll}
 use Rattle.mcap_io.specs.declared.outside.Short.{Short}
 use Rattle.mcap_io.specs.declared.outside.Failed.{Failed}
-use Rattle.rec_data.specs.declared.owned.Rec.{Rec}
 use Rattle.mcap_model.specs.declared.ends.Stop.TheVariants as stops
 use Rattle.mcap_model.specs.Tops.{Top}
 use Rattle.mcap_model.specs.Rules.{V1}
 use Rattle.mcap_model.specs.File.{file_of, IsPrefix}
-use Rattle.mcap_model.specs.Pieces.{file_pieces}
-use Rattle.mcap_model.specs.Repaired.{Repaired}
-use Rattle.mcap_model.proofs.Pieces.{pieces_make_files, stops_leave_prefixes}
 use Rattle.mcap_recover.specs.declared.answers.Recovered.{Recovered}
 use Rattle.mcap_recover.specs.declared.answers.RecoverRefused.{RecoverRefused}
 use Rattle.mcap_recover.specs.declared.answers.RecoverRefused.TheVariants as refusals
 use Rattle.mcap_model.specs.declared.ends.Stop.{Stop}
 use Rattle.mcap_model.specs.declared.refusals.ReadingRefused.{ReadingRefused}
 use Rattle.mcap_model.specs.declared.refusals.ReadingRefused.TheVariants as scans
-use Rattle.record_keeping.specs.NewFiles.{recovered_options, OfBoth}
-use Rattle.mcap_recover.specs.Recovering.{lacks, BreaksOff, BreaksOffLeaving, IsUnbegun, AreRipe, IsUnrecovered, Recovers}
-use Rattle.chunk_writer.specs.declared.tape.Written.{Written}
+use Rattle.record_keeping.specs.NewFiles.{recovered_options, LeftAfter, IsUnbegun, AreRipe}
+use Rattle.record_keeping.proofs.Ripe.{unbegun_told, cut_told}
+use Rattle.mcap_recover.specs.Recovering.{lacks, BreaksOff, BreaksOffLeaving, recovered_making, HasHalted, HaltedBytes, IsUnrecovered, IsUnwritten, Recovers}
 use Rattle.chunk_writer.specs.Stops.{StopsAt, StopCause}
 use Rattle.command_base.specs.Printing.{TellsAll, Tells, Takes}
 use Rattle.command_base.specs.declared.statuses.Status.{Status}
@@ -37,7 +33,7 @@ use Rattle.command_base.specs.Endings.{writing_status, IsWritingDone}
 use Rattle.command_base.specs.OutputSteps.{HaltsByInput, NamesEnd}
 use Rattle.command_base.specs.Outputs.{WritesOutput}
 use Rattle.command_base.proofs.Endings.{halts_well, none_halts_well}
-use Rattle.command_write.specs.Recover.{IsPlaced, HoldsPart, HoldsRipe, RecoveryOutputHolds, BothReached, RefusesRecovery, recovery_of, IsRecovery, unread_ending, stopped_ending, ending_of_recovery, number_after_name, recovered_line, both_names, ReadingDecides, RecoveryStopDecides, RecoveryDecides, RecoversFile}
+use Rattle.command_write.specs.Recover.{IsPlaced, HoldsRipe, HoldsStopped, RecoveryOutputHolds, BothReached, RefusesRecovery, recovery_of, IsRecovery, unread_ending, stopped_ending, ending_of_recovery, number_after_name, recovered_line, both_names, ReadingDecides, RecoveryStopDecides, RecoveryDecides, RecoversFile}
 use Rattle.command_write.specs.RecoverSteps.{unopened_recovery, NamesRecovered}
 use Rattle.command_write.proofs.Names.{BothKept, as_names, NotGiven, no_entries, alone_entries, BothGiven, both_entries, both_placed, nothing_yet, both_kept}
 
@@ -83,36 +79,6 @@ pub placed_so : (text : List ℕ) (all now : Names) (out : List ℕ) (result : R
 placed_so text all now out (Ok it) placed = placed
 placed_so text all now out (Err why) placed = placed
 
--- the store holds a first part of the file that repairing makes of the bytes
-record HasPart (chunk : ℕ) (bytes : List ℕ) (held : Option (List ℕ)) : Type 0 where
-  text : List ℕ
-  is : held ≡ Some text
-  part : (profile : List ℕ) (extras : List Top) (history : List Rec) → Repaired bytes profile extras history → IsPrefix text (file_of (recovered_options profile chunk) extras history)
-
-stops_part : (chunk : ℕ) (stop : Stop) (written : Written) (source : SourceState) (live stored : LiveState) (bytes : List ℕ) → source.left ≡ Some bytes → live.held ≡ Some []
-    → OfBoth chunk source (λ options extras history. StopsAt options extras history live.held stored.held stop written) → HasPart chunk bytes stored.held
-stops_part chunk stop written source live stored bytes told none it =
-    let first = it.of_read.stands.took [] none in
-    record {
-      text = first.0;
-      is = first.1;
-      part = λ profile extras history repaired.
-          let options = recovered_options profile chunk in
-          let stopped = it.of_repaired bytes told profile extras history repaired in
-          let other = stopped.took [] none in
-          let prefix = stops_leave_prefixes (file_pieces options extras history) stopped.place stop other.0 written.bytes other.2 in
-          let whole : IsPrefix other.0 (file_of options extras history) = (prefix.0, prefix.1 ∙ pieces_make_files options extras history) in
-          subst (λ (l : List ℕ). IsPrefix l (file_of options extras history)) (same_Some other.0 first.0 (sym other.1 ∙ first.1)) whole;
-    }
-
-part_placed : (chunk : ℕ) (bytes out : List ℕ) (all now : Names) (held : Option (List ℕ)) (result : Result Unit Failed) → HasPart chunk bytes held → ((text : List ℕ) → held ≡ Some text → PlacedUnder all now out text result)
-    → HoldsPart chunk bytes (went_well result) (all out) (now out)
-part_placed chunk bytes out all now held result it placed = record {
-  text = it.text;
-  placed = placed_so it.text all now out result (placed it.text it.is);
-  part = it.part;
-}
-
 leaves_so : (why : ReadingRefused) (before now : SourceState) (tops : List Top) (bytes : List ℕ) → BreaksOff why before now tops → before.left ≡ Some bytes → BreaksOffLeaving why bytes tops now.left
 leaves_so (scans.Fault faults) before now tops bytes it told = it.leaves bytes told
 leaves_so (scans.Grammar offset rule) before now tops bytes it told = absurd it
@@ -121,14 +87,14 @@ leaves_so (scans.Limit offset) before now tops bytes it told = absurd it
 leaves_so scans.Memory before now tops bytes it told = it.leaves bytes told
 
 -- what the store holds of records behind which a reading broke off
-record HasRipe (chunk : ℕ) (bytes : List ℕ) (why : ReadingRefused) (tops : List Top) (held : Option (List ℕ)) : Type 0 where
+record HasRipe (chunk : ℕ) (bytes : List ℕ) (left : Option (List ℕ)) (why : ReadingRefused) (tops : List Top) (held : Option (List ℕ)) : Type 0 where
   text : List ℕ
   is : held ≡ Some text
-  keeps : (IsUnbegun why tops × (text ≡ [])) ⊎ (V1 bytes × AreRipe chunk tops text)
+  keeps : (IsUnbegun why (LeftAfter bytes left) tops × (text ≡ [])) ⊎ (V1 bytes × AreRipe (recovered_making chunk) tops text)
 
-has_ripe : (chunk : ℕ) (source back : SourceState) (live stored : LiveState) (why : ReadingRefused) (bytes : List ℕ) → source.left ≡ Some bytes → live.held ≡ Some [] → (it : IsUnrecovered chunk source back live stored why) → HasRipe chunk bytes why it.tops stored.held
+has_ripe : (chunk : ℕ) (source back : SourceState) (live stored : LiveState) (why : ReadingRefused) (bytes : List ℕ) → source.left ≡ Some bytes → live.held ≡ Some [] → (it : IsUnrecovered chunk source back live stored why) → HasRipe chunk bytes back.left why it.tops stored.held
 has_ripe chunk source back live stored why bytes told none it = elim it.keeps [
-  | inl (few, same) ↦ record { text = []; is = ap (λ (s : LiveState). s.held) same ∙ none; keeps = inl (few, refl) }
+  | inl (few, same) ↦ record { text = []; is = ap (λ (s : LiveState). s.held) same ∙ none; keeps = inl (unbegun_told why source back it.tops bytes told few, refl) }
   | inr (magic, ripe) ↦ record { text = ripe.text; is = ripe.adds [] none; keeps = inr (magic bytes told, ripe.ripe) }
 ]
 
@@ -146,6 +112,25 @@ holds_ripe chunk source back live stored why bytes out all now result it told no
       part = λ profile extras history repaired.
           let other = it.part bytes told profile extras history repaired [] none in
           subst (λ (l : List ℕ). IsPrefix l (file_of (recovered_options profile chunk) extras history)) (same_Some other.0 has.text (sym other.1 ∙ has.is)) other.2;
+    }
+
+-- what stands of a file at whose piece the writer stopped
+holds_stopped : (chunk : ℕ) (source back : SourceState) (live stored : LiveState) (stop : Stop) (bytes out : List ℕ) (all now : Names) (result : Result Unit Failed) → IsUnwritten chunk source back live stored stop
+    → source.left ≡ Some bytes → live.held ≡ Some [] → ((text : List ℕ) → stored.held ≡ Some text → PlacedUnder all now out text result) → HoldsStopped chunk bytes back.left stop (went_well result) (all out) (now out)
+holds_stopped chunk source back live stored stop bytes out all now result it told none placed =
+    let cut = it.cut in
+    let (text, held, begins) = cut.ripe [] none in
+    let told_cut = cut_told (recovered_making chunk) (HasHalted source back) (HaltedBytes bytes back.left) source back live.held stored.held stop it.written bytes text told none held
+    (λ tops halted. (halted.0, halted.1.halts bytes told, halted.1.leaves bytes told)) cut in
+    record {
+      magic = it.magic bytes told;
+      text = text;
+      placed = placed_so text all now out result (placed text held);
+      written = it.written;
+      cut = told_cut;
+      stops = λ profile extras history repaired.
+          subst (λ (o : Option (List ℕ)). StopsAt (recovered_options profile chunk) extras history o (Some text) stop it.written) none
+          (subst (λ (o : Option (List ℕ)). StopsAt (recovered_options profile chunk) extras history live.held o stop it.written) held (it.stops bytes told profile extras history repaired));
     }
 
 output_holds : (chunk : ℕ) (source back : SourceState) (live stored : LiveState) (answer : Result Recovered RecoverRefused) (bytes out : List ℕ) (all now : Names) (result : Result Unit Failed) → Recovers chunk source back live stored answer
@@ -169,7 +154,8 @@ output_holds chunk source back live stored (Ok r) bytes out all now result it to
 output_holds chunk source back live stored (Err refusals.NoMagic) bytes out all now result it told none placed = (it.0 bytes told, placed_so [] all now out result (placed [] (ap (λ (l : LiveState). l.held) it.2 ∙ none)))
 output_holds chunk source back live stored (Err (refusals.Refused why)) bytes out all now result it told none placed =
     holds_ripe chunk source back live stored why bytes out all now result it told none placed
-output_holds chunk source back live stored (Err (refusals.Stopped stop)) bytes out all now result it told none placed = part_placed chunk bytes out all now stored.held result (stops_part chunk stop it.written source live stored bytes told none it.stops) placed
+output_holds chunk source back live stored (Err (refusals.Stopped stop)) bytes out all now result it told none placed =
+    holds_stopped chunk source back live stored stop bytes out all now result it told none placed
 
 -- ---- both were given
 

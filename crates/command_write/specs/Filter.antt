@@ -5,7 +5,7 @@ use Rattle.mcap_io.specs.Outside.{SourceState, LiveState, WorldState, Told, Open
 use Rattle.mcap_io.specs.declared.outside.ObjectKind.TheVariants as kinds
 use Rattle.mcap_model.specs.Tops.{Top}
 use Rattle.mcap_model.specs.Rules.{V1}
-use Rattle.mcap_model.specs.Kept.{reading_limits, Halts, at_end, grammar as breaks, compressed as names_compression, beyond}
+use Rattle.mcap_model.specs.Kept.{Good, reading_limits, Halts, at_end, grammar as breaks, compressed as names_compression, beyond}
 use Rattle.mcap_model.specs.History.{is_message}
 use Rattle.mcap_model.specs.Blocks.{pieces_of, blocks_in}
 use Rattle.mcap_model.specs.File.{file_of, IsPrefix}
@@ -14,13 +14,15 @@ use Rattle.mcap_model.specs.declared.refusals.ReadingRefused.{ReadingRefused}
 use Rattle.mcap_model.specs.declared.refusals.ReadingRefused.TheVariants as scans
 use Rattle.mcap_model.specs.declared.ends.Stop.{Stop}
 use Rattle.mcap_model.specs.declared.ends.Stop.TheVariants as stops
-use Rattle.chunk_writer.specs.Limits.{Holds}
-use Rattle.record_keeping.specs.NewFiles.{recovered_options}
+use Rattle.chunk_writer.specs.Limits.{FileHolds}
+use Rattle.chunk_writer.specs.declared.tape.Written.{Written}
+use Rattle.chunk_writer.specs.Stops.{StopsAt}
+use Rattle.record_keeping.specs.NewFiles.{recovered_options, LeftAfter, IsUnbegun, AreRipe, CutShort}
 use Rattle.mcap_filter.specs.declared.answers.Picked.{Picked}
 use Rattle.mcap_filter.specs.declared.answers.PickRefused.{PickRefused}
 use Rattle.mcap_filter.specs.declared.answers.PickRefused.TheVariants as refusals
 use Rattle.mcap_filter.specs.Picked.{Asking, filtered}
-use Rattle.mcap_filter.specs.Filtering.{Filters}
+use Rattle.mcap_filter.specs.Filtering.{filtered_making, RefusalLeaves, EndedBytes, Filters}
 use Rattle.command_base.specs.declared.statuses.Status.{Status}
 use Rattle.command_base.specs.declared.statuses.Status.TheVariants as statuses
 use Rattle.command_base.specs.OneFile.{refusal_ending}
@@ -56,25 +58,48 @@ pub record HoldsFiltered (asked : FilterRequest) (bytes : List ℕ) (p : Picked)
   pub messages : p.messages ≡ length (filter is_message (filtered asked.asking history))
   pub records : p.records ≡ length (filtered asked.asking history)
   -- that file is within the limits of writing
-  pub within : Holds (length (blocks_in (pieces_of (Some asked.chunk) None (filtered asked.asking history)))) (length
+  pub within : FileHolds profile (blocks_in (pieces_of (Some asked.chunk) None (filtered asked.asking history))) (length
       (file_of (recovered_options profile asked.chunk) extras (filtered asked.asking history)))
   pub placed : IsPlaced (file_of (recovered_options profile asked.chunk) extras (filtered asked.asking history)) well
       before now
 
--- A first part of the file that is written of the bytes was put there, and nothing where they don't begin with the magic.
-pub record HoldsFilteredPart (asked : FilterRequest) (bytes : List ℕ) (well : Bool) (before now : Option (List ℕ))
-    : Type 0 where
+-- The bytes weren't read to their Data End. The magic, the Header and all ripe blocks of what is written of these good records, which
+-- were read, were put there; or nothing, where not even the Header was read, or memory lacked for its profile. It is a first part
+-- of the file that is written of all bytes.
+pub record HoldsUnread (asked : FilterRequest) (bytes : List ℕ) (left : Option (List ℕ)) (why : ReadingRefused)
+    (well : Bool) (before now : Option (List ℕ)) : Type 0 where
+  pub tops : List Top
+  pub good : Good reading_limits tops
+  pub broken : RefusalLeaves why bytes tops left
   pub text : List ℕ
+  pub keeps : (IsUnbegun why (LeftAfter bytes left) tops × (text ≡ []))
+      ⊎ (V1 bytes × AreRipe (filtered_making asked.asking asked.chunk) tops text)
   pub placed : IsPlaced text well before now
-  pub magic : (text ≡ []) ⊎ V1 bytes
   pub part : (profile : List ℕ) (extras : List Top) (history : List Rec) → Repaired bytes profile extras history
       → IsPrefix text (file_of (recovered_options profile asked.chunk) extras (filtered asked.asking history))
 
--- of these bytes, by what a filtering answered
-abbrev pub FilterOutputHolds : FilterRequest → List ℕ → Result Picked PickRefused → Bool → Option (List ℕ)
-    → Option (List ℕ) → Type 0
-FilterOutputHolds asked bytes (Ok p) well before now = HoldsFiltered asked bytes p well before now
-FilterOutputHolds asked bytes (Err why) well before now = HoldsFilteredPart asked bytes well before now
+-- The writer stopped at a piece of the file that is written of the bytes, and of what was read of them. What it had written was put
+-- there, and of the piece no more than the store took of it in a failure: all that is ripe of the records before the one at hand.
+pub record HoldsUnfiled (asked : FilterRequest) (bytes : List ℕ) (left : Option (List ℕ)) (stop : Stop) (well : Bool)
+    (before now : Option (List ℕ)) : Type 0 where
+  pub magic : V1 bytes
+  pub text : List ℕ
+  pub placed : IsPlaced text well before now
+  pub written : Written
+  pub cut : CutShort (filtered_making asked.asking asked.chunk) (LeftAfter bytes left) (EndedBytes bytes left) (Some [])
+      (Some text) stop written
+  pub stops : (profile : List ℕ) (extras : List Top) (history : List Rec) → Repaired bytes profile extras history
+      → StopsAt (recovered_options profile asked.chunk) extras (filtered asked.asking history) (Some []) (Some text)
+      stop written
+
+-- of these bytes, of which this is left, by what a filtering answered
+abbrev pub FilterOutputHolds : FilterRequest → List ℕ → Option (List ℕ) → Result Picked PickRefused → Bool
+    → Option (List ℕ) → Option (List ℕ) → Type 0
+FilterOutputHolds asked bytes left (Ok p) well before now = HoldsFiltered asked bytes p well before now
+FilterOutputHolds asked bytes left (Err (refusals.Refused why)) well before now =
+    HoldsUnread asked bytes left why well before now
+FilterOutputHolds asked bytes left (Err (refusals.Stopped stop)) well before now =
+    HoldsUnfiled asked bytes left stop well before now
 
 -- ---- the names
 
@@ -93,9 +118,10 @@ pub record BothFiltered (asked : FilterRequest) (input out : List ℕ) (old new 
   pub tells : TellsName old input source
   pub unused : source.faults ≡ 0
   pub live_unused : live.faults ≡ 0
-  -- and then the output's name holds what was filtered of these bytes
+  -- and then the output's name holds what was filtered of these bytes, some of which the source may have left
   pub file : (told now : Told) (bytes : List ℕ) → old.told ≡ Some told → new.told ≡ Some now
-      → told.names input ≡ Some bytes → FilterOutputHolds asked bytes result live_kept (told.names out) (now.names out)
+      → told.names input ≡ Some bytes
+      → FilterOutputHolds asked bytes back.left result live_kept (told.names out) (now.names out)
   pub kept_are : entries
       ≡ kept kinds.Source input (record { well = source_kept; faults = back.faults; left = back.left; asked = 0 })
       ∷ kept kinds.Live out (record { well = live_kept; faults = stored.faults; left = None; asked = 0 }) ∷ []

@@ -3,8 +3,10 @@ pub mod Halting
 pub mod Recover
 pub mod Merge
 pub mod Filter
+pub mod Sort
 -- What the functions of this crate and its proofs say besides.
 pub mod HaltingSteps
 pub mod MergeSteps
 pub mod RecoverSteps
 pub mod FilterSteps
+pub mod SortingSteps

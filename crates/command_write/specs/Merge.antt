@@ -18,7 +18,7 @@ use Rattle.mcap_model.specs.History.{is_message}
 use Rattle.mcap_model.specs.ReadBack.{IsReadBack}
 use Rattle.mcap_model.specs.File.{file_of, IsPrefix}
 use Rattle.mcap_model.specs.Merged.{Merged as MergesTo, AreRead, IsUsed, SchemaIsUsed, AtMost, MoreThan}
-use Rattle.chunk_writer.specs.Limits.{Holds}
+use Rattle.chunk_writer.specs.Limits.{FileHolds}
 use Rattle.mcap_merge.specs.declared.answers.Merged.{Merged}
 use Rattle.mcap_merge.specs.declared.answers.MergeRefused.{MergeRefused}
 use Rattle.mcap_merge.specs.declared.answers.MergeRefused.TheVariants as merges
@@ -55,7 +55,7 @@ pub record HoldsMerged (chunk : ℕ) (files : List (List ℕ)) (m : Merged) (wel
   pub messages : m.messages ≡ length (filter is_message history)
   pub records : m.records ≡ length history
   -- that file is within the limits of writing
-  pub within : Holds (length (blocks_in (pieces_of (Some chunk) None history))) (length
+  pub within : FileHolds profile (blocks_in (pieces_of (Some chunk) None history)) (length
       (file_of (merged_options profile chunk) extras history))
   pub placed : IsPlaced (file_of (merged_options profile chunk) extras history) well before now
 

@@ -10,7 +10,9 @@ use Rattle.mcap_model.specs.History.{is_message}
 use Rattle.mcap_model.specs.Blocks.{pieces_of, blocks_in}
 use Rattle.mcap_model.specs.File.{file_of, IsPrefix}
 use Rattle.mcap_model.specs.Repaired.{Repairs, Repaired}
-use Rattle.chunk_writer.specs.Limits.{Holds}
+use Rattle.chunk_writer.specs.Limits.{FileHolds}
+use Rattle.chunk_writer.specs.declared.tape.Written.{Written}
+use Rattle.chunk_writer.specs.Stops.{StopsAt}
 use Rattle.mcap_recover.specs.declared.answers.Why.{Why}
 use Rattle.mcap_recover.specs.declared.answers.Why.TheVariants as whys
 use Rattle.mcap_recover.specs.declared.answers.Recovered.{Recovered}
@@ -20,8 +22,8 @@ use Rattle.mcap_model.specs.declared.refusals.ReadingRefused.{ReadingRefused}
 use Rattle.mcap_model.specs.declared.refusals.ReadingRefused.TheVariants as scans
 use Rattle.mcap_model.specs.declared.ends.Stop.{Stop}
 use Rattle.mcap_model.specs.declared.ends.Stop.TheVariants as stops
-use Rattle.record_keeping.specs.NewFiles.{recovered_options}
-use Rattle.mcap_recover.specs.Recovering.{lacks, TellsHalt, BreaksOffLeaving, IsUnbegun, AreRipe, Recovers}
+use Rattle.record_keeping.specs.NewFiles.{recovered_options, LeftAfter, IsUnbegun, AreRipe, CutShort}
+use Rattle.mcap_recover.specs.Recovering.{lacks, TellsHalt, BreaksOffLeaving, recovered_making, HaltedBytes, Recovers}
 use Rattle.command_base.specs.declared.statuses.Status.{Status}
 use Rattle.command_base.specs.declared.statuses.Status.TheVariants as statuses
 use Rattle.command_base.specs.Texts.{grammar}
@@ -55,22 +57,15 @@ pub record HoldsRecovered (chunk : ℕ) (bytes : List ℕ) (r : Recovered) (well
   pub records : r.records ≡ length history
   pub extras_are : r.extras ≡ length extras
   -- that file is within the limits of writing
-  pub within : Holds (length (blocks_in (pieces_of (Some chunk) None history))) (length
+  pub within : FileHolds profile (blocks_in (pieces_of (Some chunk) None history)) (length
       (file_of (recovered_options profile chunk) extras history))
   pub placed : IsPlaced (file_of (recovered_options profile chunk) extras history) well before now
-
--- a first part of the file that repairing makes of the bytes was put there
-pub record HoldsPart (chunk : ℕ) (bytes : List ℕ) (well : Bool) (before now : Option (List ℕ)) : Type 0 where
-  pub text : List ℕ
-  pub placed : IsPlaced text well before now
-  pub part : (profile : List ℕ) (extras : List Top) (history : List Rec) → Repaired bytes profile extras history
-      → IsPrefix text (file_of (recovered_options profile chunk) extras history)
 
 -- nothing was put there, since the bytes don't begin with the magic
 abbrev pub NoMagicHolds : List ℕ → Bool → Option (List ℕ) → Option (List ℕ) → Type 0
 NoMagicHolds bytes well before now = (V1 bytes → ⊥) × IsPlaced [] well before now
 
--- The reading broke off behind these good records. The magic, the Header and all ripe blocks of what repairing makes of them were
+-- The reading broke off after these good records. The magic, the Header and all ripe blocks of what repairing makes of them were
 -- put there; or nothing, where not even the Header was read, or memory lacked for its profile. It is a first part of the file that
 -- repairing makes of all bytes.
 pub record HoldsRipe (chunk : ℕ) (bytes : List ℕ) (left : Option (List ℕ)) (why : ReadingRefused) (well : Bool)
@@ -79,10 +74,25 @@ pub record HoldsRipe (chunk : ℕ) (bytes : List ℕ) (left : Option (List ℕ))
   pub good : Good reading_limits tops
   pub broken : BreaksOffLeaving why bytes tops left
   pub text : List ℕ
-  pub keeps : (IsUnbegun why tops × (text ≡ [])) ⊎ (V1 bytes × AreRipe chunk tops text)
+  pub keeps : (IsUnbegun why (LeftAfter bytes left) tops × (text ≡ []))
+      ⊎ (V1 bytes × AreRipe (recovered_making chunk) tops text)
   pub placed : IsPlaced text well before now
   pub part : (profile : List ℕ) (extras : List Top) (history : List Rec) → Repaired bytes profile extras history
       → IsPrefix text (file_of (recovered_options profile chunk) extras history)
+
+-- The writer stopped at a piece of the file that repairing makes of the bytes, and of what was read of them. What it had written was
+-- put there, and of the piece no more than the store took of it in a failure: all that is ripe of the records before the one at
+-- hand.
+pub record HoldsStopped (chunk : ℕ) (bytes : List ℕ) (left : Option (List ℕ)) (stop : Stop) (well : Bool)
+    (before now : Option (List ℕ)) : Type 0 where
+  pub magic : V1 bytes
+  pub text : List ℕ
+  pub placed : IsPlaced text well before now
+  pub written : Written
+  pub cut : CutShort (recovered_making chunk) (LeftAfter bytes left) (HaltedBytes bytes left) (Some []) (Some text) stop
+      written
+  pub stops : (profile : List ℕ) (extras : List Top) (history : List Rec) → Repaired bytes profile extras history
+      → StopsAt (recovered_options profile chunk) extras history (Some []) (Some text) stop written
 
 -- of these bytes, of which this is left, by what a recovery answered
 abbrev pub RecoveryOutputHolds : ℕ → List ℕ → Option (List ℕ) → Result Recovered RecoverRefused → Bool
@@ -92,7 +102,7 @@ RecoveryOutputHolds chunk bytes left (Err refusals.NoMagic) well before now = No
 RecoveryOutputHolds chunk bytes left (Err (refusals.Refused why)) well before now =
     HoldsRipe chunk bytes left why well before now
 RecoveryOutputHolds chunk bytes left (Err (refusals.Stopped stop)) well before now =
-    HoldsPart chunk bytes well before now
+    HoldsStopped chunk bytes left stop well before now
 
 -- ---- the names
 

@@ -12,4 +12,5 @@ returns c =
     let merge_in = c.with_verb-command-4.ensures _ (verb_app verb.Merge) recover_in c.merge.ensures in
     let generate_in = c.with_verb-command-5.ensures _ (verb_app verb.Generate) merge_in c.generate.ensures in
     let filter_in = c.with_verb-command-6.ensures _ (verb_app verb.Filter) generate_in c.filter.ensures in
-    c.with_verb.ensures _ (verb_app verb.Play) filter_in c.play.ensures
+    let sort_in = c.with_verb-command-7.ensures _ (verb_app verb.Sort) filter_in c.sort.ensures in
+    c.with_verb.ensures _ (verb_app verb.Play) sort_in c.play.ensures

@@ -79,6 +79,13 @@ pub returns-in-Filter-clause-bad : goal.returns-in-Filter-clause-bad
 returns-in-Filter-clause-bad c = subst (Refuses (rows_found c.args.found.now) c.filter_of.result) (sym c.in-Filter.is)
     (λ words reading. IfErr-weaker c.filter_of.result _ _ (λ refused bad why. of_verb verb.Filter (λ command. WordsMean words command → ⊥) (bad why)) (c.filter_of.ensures.bad words reading))
 
+pub returns-in-Sort-clause-command : goal.returns-in-Sort-clause-command
+returns-in-Sort-clause-command c = subst (Gives (rows_found c.args.found.now) c.sort_of.result) (sym c.in-Sort.is) c.sort_of.ensures.command
+
+pub returns-in-Sort-clause-bad : goal.returns-in-Sort-clause-bad
+returns-in-Sort-clause-bad c = subst (Refuses (rows_found c.args.found.now) c.sort_of.result) (sym c.in-Sort.is)
+    (λ words reading. IfErr-weaker c.sort_of.result _ _ (λ refused bad why. of_verb verb.Sort (λ command. WordsMean words command → ⊥) (bad why)) (c.sort_of.ensures.bad words reading))
+
 pub returns-in-Play-clause-command : goal.returns-in-Play-clause-command
 returns-in-Play-clause-command c = subst (Gives (rows_found c.args.found.now) c.play_of.result) (sym c.in-Play.is) c.play_of.ensures.command
 
