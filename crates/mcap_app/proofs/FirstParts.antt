@@ -1,5 +1,5 @@
 -- What is recovered of a first part of the file of a recording.
-use Rattle.std.proofs.Common.{◌≡◌, ◌⊎◌, ℕ, zero, suc, ◌+◌, ◌-◌, ◌≤◌, true, List, [], ◌∷◌, ◌++◌, length, take, drop, Option, Some, None, Err, refl, sym, ap, subst, inl, inr, ◌∙◌, append_assoc, arith, length-append}
+use Rattle.std.proofs.Common.{◌≡◌, ◌⊎◌, ℕ, zero, suc, ◌+◌, ◌-◌, ◌<◌, ◌≤◌, ◌^◌, true, List, [], ◌∷◌, ◌++◌, length, take, drop, Option, Some, None, Err, refl, sym, ap, subst, inl, inr, ◌∙◌, append_assoc, arith}
 use Rattle.std.specs.Prelude.{IsUtf8, filter}
 use Rattle.std.specs.List.{flat_map}
 use Rattle.std.proofs.lemmas.Bool.{both_ways, cases_lt}
@@ -7,8 +7,10 @@ use Rattle.std.proofs.lemmas.List.{take-append-drop}
 use Rattle.std.proofs.lemmas.Grind.{flat_map-append}
 use Rattle.std.proofs.lemmas.Option.{same_Some}
 use Rattle.mcap_wire.specs.Layout.{framed, magic}
+use Rattle.mcap_wire.specs.Limits.{file_limit}
 use Rattle.mcap_wire.specs.RecordingLimits.{profile_limit}
 use Rattle.rec_data.specs.Records.{header_text}
+use Rattle.rec_data.proofs.Contents.{length-header_text}
 use Rattle.rec_data.specs.declared.owned.Rec.{Rec}
 use Rattle.mcap_io.specs.Outside.{WorldState, Told}
 use Rattle.mcap_model.specs.declared.ends.End.TheVariants as ends
@@ -20,23 +22,23 @@ use Rattle.mcap_model.specs.Rules.{V1}
 use Rattle.mcap_model.specs.Kept.{Halt, at_end, grammar, compressed, beyond}
 use Rattle.mcap_model.specs.Readings.{SameHalt}
 use Rattle.mcap_model.specs.History.{is_message, Follows, Numbered, without_repeats}
-use Rattle.mcap_model.specs.Blocks.{Piece, block_in, blocks_in, pieces_of}
-use Rattle.mcap_model.specs.File.{front as front_bytes, library, file_of}
-use Rattle.mcap_model.specs.Pieces.{joined, file_pieces}
+use Rattle.mcap_model.specs.Blocks.{Piece, blocks_in, pieces_of}
+use Rattle.mcap_model.specs.File.{front as front_bytes, library, file_of, IsPrefix}
 use Rattle.mcap_model.specs.Repaired.{Repairs}
 use Rattle.mcap_model.specs.Laws.{IsInner}
-use Rattle.mcap_model.specs.Recovery.{piece_records, FrontIsRepaired, FrontsAreRepaired}
-use Rattle.mcap_model.proofs.Places.{at_kept, each_front}
-use Rattle.mcap_model.proofs.Lists.{cut_at}
+use Rattle.mcap_model.specs.Recovery.{piece_records}
+use Rattle.mcap_laws.specs.Parts.{CanBeReadInPart, PartIsRepaired, PartsAreRepaired}
+use Rattle.mcap_model.proofs.Places.{at_none, at_kept, each_front}
+use Rattle.mcap_model.proofs.Histories.{numbered_ids_agree}
 use Rattle.mcap_model.proofs.Halting.{readings_halt_once}
 use Rattle.mcap_model.proofs.Asides.{body_whole, no_extras}
 use Rattle.mcap_model.proofs.Section.{held, each_held, pieces_body}
 use Rattle.mcap_model.proofs.WrittenChunks.{empty_utf8}
-use Rattle.mcap_model.proofs.Pieces.{pieces_make_files}
 use Rattle.mcap_model.proofs.Readings.{kept_once}
 use Rattle.mcap_model.proofs.Repairs.{repairs_once}
 use Rattle.record_cache.specs.KeptRecords.{IsKept}
-use Rattle.chunk_writer.specs.Limits.{Holds}
+use Rattle.chunk_writer.specs.Limits.{FileHolds}
+use Rattle.mcap_app.proofs.Succeeding.{unlimited}
 use Rattle.chunk_writer.specs.declared.tape.Written.{Written}
 use Rattle.chunk_writer.specs.Stops.{StopsAt}
 use Rattle.recorder.specs.Laws.{ReadsAs}
@@ -44,7 +46,7 @@ use Rattle.recorder.specs.Recorded.{Sides, sides, Recorded, AreReadable}
 use Rattle.mcap_model.specs.declared.options.RecordOptions.{RecordOptions}
 use Rattle.recorder.specs.declared.report.Report.{Report}
 use Rattle.recorder.proofs.Inners.{recorded_inner}
-use Rattle.recorder.proofs.ReadBack.{IsClosedFile, closed_file, can_be_read, files_read_back}
+use Rattle.recorder.proofs.ReadBack.{recs_back, extras_kept, pieces_short, IsClosedFile, closed_file, files_read_back}
 use Rattle.recorder.proofs.Validity.{can_be_written, files_sound}
 use Rattle.mcap_recover.specs.declared.answers.Why.{Why}
 use Rattle.mcap_recover.specs.declared.answers.Why.TheVariants as whys
@@ -101,7 +103,7 @@ record KeepsRecorded (options : FileOptions) (history : List Rec) (part : List �
   keeps : KeepsFirst options history part
   are : AreRecorded keeps.front.first
 
-keeps_first : (options : FileOptions) (history : List Rec) (part : List ℕ) → AreRecorded history → FrontIsRepaired options [] history part → KeepsRecorded options history part
+keeps_first : (options : FileOptions) (history : List Rec) (part : List ℕ) → AreRecorded history → PartIsRepaired options [] history part → KeepsRecorded options history part
 keeps_first options history part are front =
     let pieces = pieces_of options.chunk options.span history in
     let n = front.piece_count in
@@ -123,7 +125,7 @@ readable_so profile chunk text few size = record {
 }
 
 -- its profile is that of the first file, or none
-new_readable : (options : FileOptions) (history : List Rec) (part : List ℕ) (chunk : ℕ) (front : FrontIsRepaired options [] history part) → IsUtf8 options.profile → length options.profile ≤ profile_limit → IsChunkSize chunk
+new_readable : (options : FileOptions) (history : List Rec) (part : List ℕ) (chunk : ℕ) (front : PartIsRepaired options [] history part) → IsUtf8 options.profile → length options.profile ≤ profile_limit → IsChunkSize chunk
     → AreReadable (recovered_options front.profile chunk)
 new_readable options history part chunk front text few size = elim (cases_lt (length part) (length (front_bytes options.profile))) [
   | inl cut ↦ subst (λ (p : List ℕ). AreReadable (recovered_options p chunk)) (sym (front.no_header cut)) (readable_so [] chunk empty_utf8 (omega arith) size)
@@ -137,7 +139,8 @@ closed_so options history are within = record {
   numbered = are.numbered;
   kept = are.kept;
   few_extras = (let none = ap (λ (l : List Top). length l) (no_extras history are.inner) in omega (arith, none));
-  within = within;
+  within = within.holds;
+  contents = within.contents;
   blocks_are = refl;
   bytes_are = refl;
 }
@@ -164,24 +167,18 @@ cut_short at whys.Grammar halt n (rule, is, other) same = let both : SameHalt (g
 cut_short at whys.Compressed halt n (name, is) same = absurd (subst (λ (h : Halt). SameHalt h (grammar n rules.V4)) is same)
 cut_short at whys.Limit halt n is same = absurd (subst (λ (h : Halt). SameHalt h (grammar n rules.V4)) is same)
 
+beyond_limit : (at : ℕ) (why : Why) (halt : Halt) (n : ℕ) → TellsHalt at why halt → SameHalt halt (beyond n) → (at ≡ n) × (why ≡ whys.Limit)
+beyond_limit at whys.Complete halt n is same = let apart : at_end at ≡ beyond n = subst (λ (h : Halt). SameHalt h (beyond n)) is same in absurd cc
+beyond_limit at whys.Short halt n is same = absurd (subst (λ (h : Halt). SameHalt h (beyond n)) is same)
+beyond_limit at whys.Grammar halt n (rule, is, other) same = absurd (subst (λ (h : Halt). SameHalt h (beyond n)) is same)
+beyond_limit at whys.Compressed halt n (name, is) same = let apart : compressed at name ≡ beyond n = subst (λ (h : Halt). SameHalt h (beyond n)) is same in absurd cc
+beyond_limit at whys.Limit halt n is same = let both : beyond at ≡ beyond n = subst (λ (h : Halt). SameHalt h (beyond n)) is same in (cc, refl)
+
 -- ---- a limit of writing
 
 limit_passed : (options : FileOptions) (history : List Rec) (opened now : Option (List ℕ)) (blocks bytes : ℕ) (written : Written) → StopsAt options [] history opened now (stops.Limit blocks bytes) written
     → FitsWritingLimits options history → ⊥
-limit_passed options history opened now blocks bytes written stop within =
-    let pieces = pieces_of options.chunk options.span history in
-    let n = stop.place + 1 - 1 in
-    let few = within.few in
-    let among = ap (λ (l : List Piece). length (blocks_in l)) (sym (take-append-drop n pieces)) ∙ ap (λ (l : List (List Rec)). length l) (flat_map-append block_in (take n pieces) (drop n pieces)) in
-    let parts = file_pieces options [] history in
-    let cut = cut_at parts stop.place stop.next stop.at in
-    let small = within.small in
-    let all : file_of options [] history ≡ joined (take stop.place parts) ++ (stop.next ++ joined cut.0) = sym (pieces_make_files options [] history) ∙ ap joined cut.1 ∙ flat_map-append (λ (piece : List ℕ). piece) (take stop.place parts) (stop.next ∷ cut.0) in
-    let size = ap (λ (l : List ℕ). length l) all in
-    stop.why.2 (record {
-      few = omega (arith, few, among, length-append (blocks_in (take n pieces)) (blocks_in (drop n pieces)));
-      small = omega (arith, small, size, stop.bytes_are, length-append (joined (take stop.place parts)) (stop.next ++ joined cut.0), length-append stop.next (joined cut.0));
-    })
+limit_passed options history opened now blocks bytes written stop within = unlimited options [] history opened now blocks bytes written stop within
 
 -- ---- what a recovery of the part came to
 
@@ -212,8 +209,9 @@ module _ (options : FileOptions) (history : List Rec) (part : List ℕ) (recorde
       let file_is : file_of (recovered_options holds.profile chunk) holds.extras holds.history ≡ file =
       ap (λ (p : List ℕ). file_of (recovered_options p chunk) holds.extras holds.history) profiles ∙ file_same keeps.front.profile chunk holds.extras [] holds.history keeps.front.first no_extra histories in
       let within : FitsWritingLimits new_options keeps.front.first =
-      subst (λ (l : List ℕ). Holds blocks (length l)) file_is
-      (subst (λ (l : List Rec). Holds (length (blocks_in (pieces_of (Some chunk) None l))) (length (file_of (recovered_options holds.profile chunk) holds.extras holds.history))) histories holds.within) in
+      subst (λ (l : List ℕ). FileHolds keeps.front.profile (blocks_in (pieces_of (Some chunk) None keeps.front.first)) (length l)) file_is
+      (subst (λ (p : List ℕ). FileHolds p (blocks_in (pieces_of (Some chunk) None keeps.front.first)) (length (file_of (recovered_options holds.profile chunk) holds.extras holds.history))) profiles
+      (subst (λ (l : List Rec). FileHolds holds.profile (blocks_in (pieces_of (Some chunk) None l)) (length (file_of (recovered_options holds.profile chunk) holds.extras holds.history))) histories holds.within)) in
       let readable = new_readable options history part chunk keeps.front text few size in
       let closed = closed_so new_options keeps.front.first recorded.are within in
       let written = can_be_written new_options keeps.front.first blocks (length file) readable closed in
@@ -224,8 +222,15 @@ module _ (options : FileOptions) (history : List Rec) (part : List ℕ) (recorde
       let behind = offset_behind keeps.front.whole in
       let all_read : keeps.front.others ≡ [] → (r.at ≡ behind) × (r.why ≡ whys.Complete) = λ none.
       ended r.at r.why holds.halt behind holds.told (readings_halt_once part holds.tops keeps.front.whole holds.halt (at_end behind) holds.halts (keeps.front.complete none)).1 in
-      let cut : (keeps.front.others ≡ [] → ⊥) → (r.at ≡ behind) × (r.why ≡ whys.Short) = λ some.
-      cut_short r.at r.why holds.halt behind holds.told (readings_halt_once part holds.tops keeps.front.whole holds.halt (grammar behind rules.V4) holds.halts (keeps.front.short some)).1 in
+      let cut : (t : Top) (more : List Top) → keeps.front.others ≡ t ∷ more → (r.at ≡ behind) × ((r.why ≡ whys.Short) ⊎ ((file_limit < offset_behind (keeps.front.whole ++ t ∷ [])) × (r.why ≡ whys.Limit))) = λ t more next.
+      elim (keeps.front.short t more next) [
+        | inl short ↦
+            let tells = cut_short r.at r.why holds.halt behind holds.told (readings_halt_once part holds.tops keeps.front.whole holds.halt (grammar behind rules.V4) holds.halts short).1 in
+            (tells.0, inl tells.1)
+        | inr past ↦
+            let tells = beyond_limit r.at r.why holds.halt behind holds.told (readings_halt_once part holds.tops keeps.front.whole holds.halt (beyond behind) holds.halts past.1).1 in
+            (tells.0, inr (past.0, tells.1))
+      ] in
       record {
         keeps = keeps;
         told = all.now;
@@ -236,42 +241,45 @@ module _ (options : FileOptions) (history : List Rec) (part : List ℕ) (recorde
         messages = holds.messages ∙ ap (λ (l : List Rec). length (filter is_message l)) histories;
         records = holds.records ∙ ap (λ (l : List Rec). length l) histories;
         extras = holds.extras_are ∙ ap (λ (l : List Top). length l) no_extra;
-        at = at_either keeps.front.others refl (λ none. (all_read none).0) (λ some. (cut some).0);
+        at = at_either keeps.front.others refl (λ none. (all_read none).0) (λ t more next. (cut t more next).0);
         complete = λ none. (all_read none).1;
-        short = λ some. (cut some).1;
+        short = λ t more next. (cut t more next).1;
         line = all.line;
         checked = λ next end answer same checks quiet.
             found_sound new_options file output reads.tops reads.end next end all.now answer exact reads.halts (ap (λ (w : WorldState). w.told) same ∙ all.tells) placed checks quiet;
       }
     where
-      at_either : {P : Type 0} (others : List Top) → keeps.front.others ≡ others → (keeps.front.others ≡ [] → P) → ((keeps.front.others ≡ [] → ⊥) → P) → P
+      at_either : {P : Type 0} (others : List Top) → keeps.front.others ≡ others → (keeps.front.others ≡ [] → P) → ((t : Top) (more : List Top) → keeps.front.others ≡ t ∷ more → P) → P
       at_either [] is none some = none is
-      at_either (t ∷ ts) is none some = some (λ e. let apart : t ∷ ts ≡ [] = sym is ∙ e in absurd cc)
+      at_either (t ∷ ts) is none some = some t ts is
 
   passes : (blocks bytes : ℕ) (status : Status) (it : RecoversFile chunk input output later last status) → it.recovery ≡ recoveries.Refused (refusals.Stopped (stops.Limit blocks bytes)) → PassesWritingLimit options history chunk part
   passes blocks bytes status it is =
       let all = reached chunk input output later.world last.world it.entries it.recovery (Err (refusals.Stopped (stops.Limit blocks bytes))) it.comes is (λ e. absurd cc) in
       let unwritten = all.recovers in
-      let stop = unwritten.stops.of_repaired part ((all.tells told here).0 ∙ there) keeps.front.profile keeps.front.kept keeps.front.first keeps.front.repaired in
+      let stop = unwritten.stops part ((all.tells told here).0 ∙ there) keeps.front.profile keeps.front.kept keeps.front.first keeps.front.repaired in
       let stopped : StopsAt new_options [] keeps.front.first all.live.held all.stored.held (stops.Limit blocks bytes) unwritten.written =
       subst (λ (l : List Top). StopsAt new_options l keeps.front.first all.live.held all.stored.held (stops.Limit blocks bytes) unwritten.written) keeps.none stop in
       (keeps, limit_passed new_options keeps.front.first all.live.held all.stored.held blocks bytes unwritten.written stopped)
 
-  abbrev Comes : Status → Type 0
-  Comes status = ((status ≡ statuses.Done) × RecoversFirst options history chunk part output later last) ⊎ (((status ≡ statuses.Limit) × PassesWritingLimit options history chunk part) ⊎ (status ≡ statuses.Memory))
+-- what became of a recovery of the part, and its status
+abbrev Comes : FileOptions → List Rec → List ℕ → ℕ → List ℕ → Scene → Scene → Status → Type 0
+Comes options history part chunk output later last status = ((status ≡ statuses.Done) × RecoversFirst options history chunk part output later last)
+    ⊎ (((status ≡ statuses.Limit) × PassesWritingLimit options history chunk part) ⊎ (((status ≡ statuses.Refused) × (V1 part → ⊥)) ⊎ (status ≡ statuses.Memory)))
 
-  comes : (status : Status) (it : RecoversFile chunk input output later last status) (recovery : Recovery) → it.recovery ≡ recovery → V1 part → RecoveryDecides part recovery status → Comes status
-  comes status it recoveries.Unopened is begins decided = absurd decided
-  comes status it (recoveries.Made r) is begins decided = inl (decided.1, recovers_first status it decided.1)
-  comes status it (recoveries.Refused refusals.NoMagic) is begins decided = absurd (decided.0 begins)
-  comes status it (recoveries.Refused (refusals.Refused (scans.Fault faults))) is begins decided = absurd decided
-  comes status it (recoveries.Refused (refusals.Refused (scans.Grammar offset rule))) is begins decided = absurd decided
-  comes status it (recoveries.Refused (refusals.Refused (scans.Compressed offset name))) is begins decided = absurd decided
-  comes status it (recoveries.Refused (refusals.Refused (scans.Limit offset))) is begins decided = absurd decided
-  comes status it (recoveries.Refused (refusals.Refused scans.Memory)) is begins decided = inr (inr decided)
-  comes status it (recoveries.Refused (refusals.Stopped (stops.Fault faults))) is begins decided = absurd decided
-  comes status it (recoveries.Refused (refusals.Stopped (stops.Limit blocks bytes))) is begins decided = inr (inl (decided.1, passes blocks bytes status it is))
-  comes status it (recoveries.Refused (refusals.Stopped stops.Memory)) is begins decided = inr (inr decided)
+module _ (options : FileOptions) (history : List Rec) (part : List ℕ) (recorded : V1 part → KeepsRecorded options history part) (text : IsUtf8 options.profile) (few : length options.profile ≤ profile_limit) (chunk : ℕ) (size : IsChunkSize chunk) (input output : List ℕ) (later last : Scene) (told : Told) (here : later.world.told ≡ Some told) (there : told.names input ≡ Some part) where
+  comes : (status : Status) (it : RecoversFile chunk input output later last status) (recovery : Recovery) → it.recovery ≡ recovery → RecoveryDecides part recovery status → Comes options history part chunk output later last status
+  comes status it recoveries.Unopened is decided = absurd decided
+  comes status it (recoveries.Made r) is decided = inl (decided.1, recovers_first options history part (recorded decided.0) text few chunk size input output later last told here there status it decided.1)
+  comes status it (recoveries.Refused refusals.NoMagic) is decided = inr (inr (inl (decided.1, decided.0)))
+  comes status it (recoveries.Refused (refusals.Refused (scans.Fault faults))) is decided = absurd decided
+  comes status it (recoveries.Refused (refusals.Refused (scans.Grammar offset rule))) is decided = absurd decided
+  comes status it (recoveries.Refused (refusals.Refused (scans.Compressed offset name))) is decided = absurd decided
+  comes status it (recoveries.Refused (refusals.Refused (scans.Limit offset))) is decided = absurd decided
+  comes status it (recoveries.Refused (refusals.Refused scans.Memory)) is decided = inr (inr (inr decided))
+  comes status it (recoveries.Refused (refusals.Stopped (stops.Fault faults))) is decided = absurd decided
+  comes status it (recoveries.Refused (refusals.Stopped (stops.Limit blocks bytes))) is decided = inr (inl (decided.1, passes options history part (recorded decided.0) text few chunk size input output later last told here there blocks bytes status it is))
+  comes status it (recoveries.Refused (refusals.Stopped stops.Memory)) is decided = inr (inr (inr decided))
 
 -- ---- the laws
 
@@ -280,45 +288,64 @@ unfolding front_bytes
 begins_so profile more = (framed 1 (header_text (record { profile = profile; library = library })) ++ more, append_assoc magic (framed 1 (header_text (record { profile = profile; library = library }))) more)
 
 pub first_left : (options : RecordOptions) (out : List ℕ) (old new : WorldState) (r : Report) (status : Status) (told now : Told) → (it : Recording options out old new r status) → old.told ≡ Some told → new.told ≡ Some now
-    → it.live_kept ≡ true → (it.recorded.history ≡ [] → ⊥)
-    → ((part : List ℕ) × (now.names out ≡ Some part) × IsFirstPart options.file it.recorded.history part) × (r.writer.end ≡ ends.Closed → FitsWritingLimits options.file it.recorded.history)
-first_left options out old new r status told now it here tells well some =
+    → it.live_kept ≡ true
+    → ((part : List ℕ) × (now.names out ≡ Some part) × IsPrefix part (file_of options.file [] it.recorded.history) × ((it.recorded.history ≡ [] → ⊥) → V1 part)) × (r.writer.end ≡ ends.Closed → FitsWritingLimits options.file it.recorded.history)
+first_left options out old new r status told now it here tells well =
     let history = it.recorded.history in
     let holds = it.file told now here tells in
-    let begun = holds.begun some well in
-    let part : (part : List ℕ) × (now.names out ≡ Some part) × IsFirstPart options.file history part = elim holds.part [
-      | inl (text, stands, by) ↦ (text, stands, record { part_is = (stands_first options.file history r.writer.bytes r.writer.end text by).1; magic = subst V1 (same_Some (front_bytes options.file.profile ++ begun.0) text (sym begun.1 ∙ stands)) (begins_so options.file.profile begun.0) })
+    let part : (part : List ℕ) × (now.names out ≡ Some part) × IsPrefix part (file_of options.file [] history) × ((history ≡ [] → ⊥) → V1 part) = elim holds.part [
+      | inl (text, stands, by) ↦ (
+        text,
+        stands,
+        (stands_first options.file history r.writer.bytes r.writer.end text by).1,
+        λ some. let begun = holds.begun some well in subst V1 (same_Some (front_bytes options.file.profile ++ begun.0) text (sym begun.1 ∙ stands)) (begins_so options.file.profile begun.0),
+      )
       | inr (same, unwell) ↦ absurd (both_ways it.live_kept unwell well)
     ] in
     let within : r.writer.end ≡ ends.Closed → FitsWritingLimits options.file history = λ closed.
     let file = (closed_file options it.before it.after r it.recorded closed).0 in
     let few = file.within.few in
     let small = file.within.small in
-    record { few = omega (arith, few, file.blocks_are); small = omega (arith, small, file.bytes_are) } in
+    record { holds = record { few = omega (arith, few, file.blocks_are); small = omega (arith, small, file.bytes_are) }; contents = file.contents } in
     (part, within)
 
-pub first_recovered : FrontsAreRepaired → (options : RecordOptions) (before after : Sides) (r : Report) → AreAllowed options → IsUtf8 options.file.profile
-    → (recorded : Recorded options before after r) → FitsWritingLimits options.file recorded.history
+-- of a recording's file a first part may be read
+readable_in_part : (options : FileOptions) (history : List Rec) → AreReadable options → AreRecorded history → length (file_of options [] history) < 2 ^ 64 → CanBeReadInPart options [] history
+readable_in_part options history readable are fits =
+    let back = recs_back history are.kept in
+    let ids = numbered_ids_agree history back are.numbered in
+    let short = readable.short in
+    record {
+      profile = readable.profile;
+      header = omega (arith, short, length-header_text (record { profile = options.profile; library = library }));
+      records_fit = back;
+      numbered = ids.1;
+      ids_agree = ids.0;
+      extras_meet = extras_kept history are.kept;
+      pieces = pieces_short options.chunk options.span history readable.size are.kept;
+      extras_short = λ n t at. absurd (at_none n t at);
+      size_fits = fits;
+    }
+
+pub first_recovered : PartsAreRepaired → (options : RecordOptions) (before after : Sides) (r : Report) → AreAllowed options → IsUtf8 options.file.profile
+    → (recorded : Recorded options before after r) → length (file_of options.file [] recorded.history) < 2 ^ 64
     → (part : List ℕ) → IsFirstPart options.file recorded.history part
     → (chunk : ℕ) (input output : List ℕ) (later last : Scene) (status : Status) (told : Told) → IsChunkSize chunk → later.world.told ≡ Some told → told.names input ≡ Some part
-    → RecoversFile chunk input output later last status → (AnyRose (counts_in later) (counts_in last) → ⊥)
-    → ((status ≡ statuses.Done) × RecoversFirst options.file recorded.history chunk part output later last) ⊎ (((status ≡ statuses.Limit) × PassesWritingLimit options.file recorded.history chunk part) ⊎ (status ≡ statuses.Memory))
-first_recovered fronts_are_repaired options before after r allowed text recorded within part first chunk input output later last status told size here there recovers quiet =
+    → RecoversFile chunk input output later last status → (AnyRose (counts_in later) (counts_in last) → ⊥) → Comes options.file recorded.history part chunk output later last status
+first_recovered parts_are_repaired options before after r allowed text recorded fits part first chunk input output later last status told size here there recovers quiet =
     let history = recorded.history in
     let are : AreRecorded history = record { numbered = recorded.assembled.numbered; kept = recorded.kept; inner = recorded_inner options before after r recorded } in
     let short = allowed.short in
     let readable : AreReadable options.file = record { profile = text; short = omega (arith, short); size = allowed.size } in
-    let blocks = length (blocks_in (pieces_of options.file.chunk options.file.span history)) in
-    let closed = closed_so options.file history are within in
-    let written = can_be_written options.file history blocks (length (file_of options.file [] history)) readable closed in
-    let front = fronts_are_repaired options.file part [] history written (can_be_read options.file history readable are.kept within.small) first.part_is first.magic in
-    comes options.file history part (keeps_first options.file history part are front) text short chunk size input output later last told here there status recovers recovers.recovery refl first.magic (recovers.decided told part here there quiet)
+    let in_part = readable_in_part options.file history readable are fits in
+    comes options.file history part (λ magic. keeps_first options.file history part are (parts_are_repaired options.file part [] history in_part first.part_is magic first.short)) text short chunk size input output later last told here there
+    status recovers recovers.recovery refl (recovers.decided told part here there quiet)
 
 pub recordings_leave_first_parts : RecordingsLeaveFirstParts
-recordings_leave_first_parts options range out watches feeds old new r answer told now it here tells well some =
-    first_left options out old.world new.world r.recorded answer told now (of_watched options range out watches feeds old new r answer it) here tells well some
+recordings_leave_first_parts options range out watches feeds old new r answer told now it here tells well =
+    first_left options out old.world new.world r.recorded answer told now (of_watched options range out watches feeds old new r answer it) here tells well
 
-pub recordings_are_recovered : FrontsAreRepaired → RecordingsAreRecovered
-recordings_are_recovered fronts_are_repaired options range out watches feeds old new r answer allowed text it within part first chunk input output later last status told size here there recovers quiet =
+pub recordings_are_recovered : PartsAreRepaired → RecordingsAreRecovered
+recordings_are_recovered parts_are_repaired options range out watches feeds old new r answer allowed text it fits part first chunk input output later last status told size here there recovers quiet =
     let is = it.reported r.recorded refl in
-    first_recovered fronts_are_repaired options (sides is.given is.viewed) (sides (back_sources is.kept_feeds) is.live_now) r.recorded allowed text is.recorded within part first chunk input output later last status told size here there recovers quiet
+    first_recovered parts_are_repaired options (sides is.given is.viewed) (sides (back_sources is.kept_feeds) is.live_now) r.recorded allowed text is.recorded fits part first chunk input output later last status told size here there recovers quiet

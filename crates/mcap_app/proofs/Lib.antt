@@ -10,5 +10,12 @@ mod WatchFiles
 mod ShortFiles
 mod MergedFiles
 mod Succeeding
+mod SucceedingPlays
+mod SucceedingFilters
+mod SucceedingGenerations
 mod ShortContents
 mod Readable
+mod FilteredMessages
+mod FilteredReplays
+mod Filterings
+mod FilteredPrintings

@@ -33,7 +33,7 @@ use Rattle.mcap_model.proofs.Histories.{numbered_ids_agree}
 use Rattle.mcap_model.proofs.WrittenChunks.{empty_utf8}
 use Rattle.mcap_laws.proofs.Ranges.{small_blocks_fit}
 use Rattle.mcap_laws.proofs.Validity.{files_are_valid, files_are_indexed}
-use Rattle.chunk_writer.specs.Limits.{Holds}
+use Rattle.chunk_writer.specs.Limits.{FileHolds}
 use Rattle.mcap_merge.specs.declared.answers.Merged.{Merged}
 use Rattle.mcap_merge.specs.declared.answers.MergeRefused.{MergeRefused}
 use Rattle.mcap_merge.specs.Filed.{merged_options}
@@ -113,7 +113,7 @@ small_enough : (bytes : ℕ) → bytes ≤ file_limit → bytes < 2 ^ 64
 small_enough bytes small = omega (arith, small)
 
 pub can_be_written : (files : List (List ℕ)) (profile : List ℕ) (extras : List Top) (history : List Rec) (chunk : ℕ) → MergesTo files profile extras history → Each IsReadBack history → IsChunkSize chunk
-    → Holds (length (blocks_in (pieces_of (Some chunk) None history))) (length (file_of (merged_options profile chunk) extras history)) → AreCounted extras → CanBeWritten (merged_options profile chunk) extras history
+    → FileHolds profile (blocks_in (pieces_of (Some chunk) None history)) (length (file_of (merged_options profile chunk) extras history)) → AreCounted extras → CanBeWritten (merged_options profile chunk) extras history
 can_be_written files profile extras history chunk it back size within few =
     let good = good_inputs files it.inputs it.read in
     let fits = profile_fits it.inputs profile good it.merge.profile_is in
@@ -127,10 +127,10 @@ can_be_written files profile extras history chunk it back size within few =
       ids_agree = ids.0;
       extras_meet = subst (Each IsExtra) (sym (alone ∙ it.merge.extras_are)) (extras_meet it.inputs good);
       entries_fit = small_blocks_fit chunk None history (omega (arith, size.0)) size.1;
-      few_blocks = few_enough (length (blocks_in (pieces_of (Some chunk) None history))) within.few;
+      few_blocks = few_enough (length (blocks_in (pieces_of (Some chunk) None history))) within.holds.few;
       few_attachments = omega (arith, few.0, ap (count_of 9) alone);
       few_metadata = omega (arith, few.1, ap (count_of 12) alone);
-      size_fits = small_enough (length (file_of (merged_options profile chunk) extras history)) within.small;
+      size_fits = small_enough (length (file_of (merged_options profile chunk) extras history)) within.holds.small;
     }
 
 -- ---- what it came to

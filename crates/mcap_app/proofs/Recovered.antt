@@ -1,11 +1,10 @@
 -- What a recovery left keeps all rules.
-use Rattle.std.proofs.Common.{◌≡◌, ◌⊎◌, ℕ, ◌^◌, ◌<◌, Bool, true, false, List, [], ◌∷◌, ◌++◌, Option, Some, None, Result, Ok, Err, refl, sym, ap, subst, inl, inr, ◌∙◌, arith}
-use Rattle.std.specs.Prelude.{◌==◌, IsSome}
+use Rattle.std.proofs.Common.{◌≡◌, ◌⊎◌, ℕ, Bool, true, false, List, [], ◌∷◌, ◌++◌, Option, Some, None, Result, Ok, Err, refl, sym, ap, subst, inl, inr, ◌∙◌, arith}
+use Rattle.std.specs.Prelude.{IsSome}
 use Rattle.std.proofs.lemmas.Bool.{both_ways}
 use Rattle.mcap_io.specs.Outside.{WorldState, Told, Keeping, Opening}
 use Rattle.mcap_io.specs.declared.outside.ObjectKind.TheVariants as kinds
 use Rattle.mcap_model.specs.declared.options.FileOptions.{FileOptions}
-use Rattle.mcap_model.specs.File.{file_of}
 use Rattle.mcap_model.specs.Laws.{CanBeWritten}
 use Rattle.mcap_model.specs.Recovery.{RepairsCanBeWritten}
 use Rattle.mcap_laws.proofs.Validity.{files_are_valid, files_are_indexed}
@@ -108,7 +107,7 @@ recoveries_are_sound repairs_can_be_written chunk input out old new told size it
     let holds = all.holds in
     let options : FileOptions = recovered_options holds.profile chunk in
     let written : AreCounted holds.extras → CanBeWritten options holds.extras holds.history = λ few.
-    repairs_can_be_written options holds.tops holds.extras holds.history chunk holds.halts.kept.good holds.repairs refl (omega (arith, size.0)) size.1 holds.within.few holds.within.small
+    repairs_can_be_written options holds.tops holds.extras holds.history chunk holds.halts.kept.good holds.repairs refl (omega (arith, size.0)) size.1 holds.within.holds.few holds.within.holds.small
     few.0 few.1 in
     record {
       recovered = all.recovered;

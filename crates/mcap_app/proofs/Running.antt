@@ -161,6 +161,10 @@ allowed words (commands.Filter filtering) derives =
     let is = derives.behind.rewrites in
     let sizes = in_range 1 67108864 786432 _ is.size is.sized (omega arith) (omega arith) in
     (omega (arith, is.chunk_is, sizes.0), omega (arith, is.chunk_is, sizes.1))
+allowed words (commands.Sort sorting) derives =
+    let is = derives.behind in
+    let sizes = in_range 1 67108864 786432 _ is.size is.sized (omega arith) (omega arith) in
+    (omega (arith, is.chunk_is, sizes.0), omega (arith, is.chunk_is, sizes.1))
 allowed words (commands.Play playing) derives = tt
 
 -- and so are those of a generation

@@ -1,36 +1,30 @@
--- Where no record is too long for its chunk, each content of a file may be read.
-use Rattle.std.proofs.Common.{◌≡◌, ℕ, zero, suc, ◌+◌, ◌<◌, ◌≤◌, Bool, true, false, List, [], ◌∷◌, ◌++◌, length, take, Some, None, refl, sym, ap, subst, ◌∙◌, length-append, arith}
-use Rattle.std.specs.Prelude.{filter, nat_lt, ◌||◌}
-use Rattle.std.specs.List.{flat_map}
-use Rattle.std.proofs.lemmas.Bool.{leb-false, ltb-false, or_parts}
-use Rattle.std.proofs.lemmas.Grind.{flat_map-append}
-use Rattle.std.proofs.lemmas.Option.{same_Some}
-use Rattle.mcap_wire.proofs.Numbers.{length-le}
-use Rattle.mcap_wire.proofs.Framing.{length-framed}
+-- Each content of a file that a writer ended may be read.
+use Rattle.std.proofs.Common.{◌≡◌, ℕ, zero, suc, ◌+◌, ◌≤◌, true, false, List, [], ◌∷◌, length, take, Some, None, refl, sym, ap, subst, inl, inr, ◌∙◌}
+use Rattle.std.specs.Prelude.{filter, nat_lt, ◌⊎◌}
+use Rattle.std.specs.List.{AllZip}
+use Rattle.std.proofs.lemmas.Bool.{both_ways, ltb-false, or_parts}
 use Rattle.rec_data.specs.declared.owned.Rec.{Rec}
-use Rattle.rec_data.specs.Owned.{rec_opcode, rec_text, rec_bytes}
-use Rattle.rec_data.proofs.Contents.{length-header_text}
+use Rattle.rec_data.specs.declared.owned.Rec.TheVariants.{Schema, Channel, Message, Extra}
 use Rattle.mcap_model.specs.declared.options.FileOptions.{FileOptions}
 use Rattle.mcap_model.specs.Places.{At, Each}
-use Rattle.mcap_model.specs.Tops.{Top, offset_behind}
+use Rattle.mcap_model.specs.Tops.{Top, is_flat_kind, unchunked, flattened, flat, offset_behind}
 use Rattle.mcap_model.specs.Kept.{Good, reading_limits}
-use Rattle.mcap_model.specs.History.{body_of, history_bytes}
-use Rattle.mcap_model.specs.Histories.{AreBlocks}
-use Rattle.mcap_model.specs.Blocks.{Piece, block, alone, reaches, spans, is_ripe, blocks_in, pieces_of, chunk_content}
-use Rattle.mcap_model.specs.File.{library, file_of}
-use Rattle.mcap_model.specs.Repaired.{is_extra}
+use Rattle.mcap_model.specs.History.{is_inner}
+use Rattle.mcap_model.specs.Written.{IsRec}
+use Rattle.mcap_model.specs.Blocks.{Piece, block, alone, blocks_in, pieces_of}
+use Rattle.mcap_model.specs.File.{file_of}
+use Rattle.mcap_model.specs.Repaired.{is_extra, Repairs}
 use Rattle.mcap_model.specs.Recovery.{piece_records}
-use Rattle.mcap_model.specs.Laws.{PieceIsShort, CanBeRead}
+use Rattle.mcap_model.specs.Laws.{IsInner, PieceIsShort, CanBeRead}
 use Rattle.mcap_model.proofs.Places.{at_none, at_kept}
-use Rattle.mcap_model.proofs.Lists.{at_second, filter_passed}
-use Rattle.mcap_model.proofs.Section.{held, each_held, block_has}
-use Rattle.mcap_model.proofs.Cutting.{last_of, blocks_are_one, sizes_ripen}
-use Rattle.mcap_app.specs.Readable.{HasShortContents}
+use Rattle.mcap_model.proofs.Lists.{at_second, each_joined, filter_passed}
+use Rattle.mcap_model.proofs.Distinct.{repeats_are}
+use Rattle.mcap_model.proofs.Histories.{extra_not_flat}
+use Rattle.mcap_model.proofs.Section.{held, each_held, block_has, block_of, pieces_are_blocks}
+use Rattle.std.proofs.lemmas.Option.{same_Some}
+use Rattle.chunk_writer.specs.Limits.{FileHolds}
 
 -- ---- pieces
-
-abbrev FitsChunk : ℕ → Rec → Type 0
-FitsChunk chunk r = length (rec_bytes r) + chunk + 39 ≤ 268435456
 
 -- what holds of all that pieces hold holds of each piece's records
 each_piece : (P : Rec → Type 0) (pieces : List Piece) → Each P (held pieces) → (n : ℕ) (p : Piece) → At pieces n p → Each P (piece_records p)
@@ -39,34 +33,41 @@ each_piece P (q ∷ ps) each zero p at = λ k r there.
     each k r (at_kept (piece_records q) (held ps) k r (subst (λ (x : Piece). At (piece_records x) k r) (sym (same_Some q p at)) there))
 each_piece P (q ∷ ps) each (suc n) p at = each_piece P ps (λ k r there. each (length (piece_records q) + k) r (at_second (piece_records q) (held ps) k r there)) n p at
 
-length-chunk : (records : List Rec) → length (chunk_content records) ≡ 40 + length (history_bytes records)
-length-chunk records = simp (length-append, length-le) (omega arith)
-
-block_short : (size : ℕ) (start : List Rec) (r : Rec) → reaches size start ≡ false → FitsChunk size r → length (chunk_content (start ++ r ∷ [])) ≤ 268435456
-block_short size start r early fits =
-    let few = leb-false size (length (history_bytes start)) early in
-    let all = ap length (flat_map-append rec_bytes start (r ∷ [])) in
-    omega (arith, few, fits, length-chunk (start ++ r ∷ []), all, length-append (history_bytes start) (history_bytes (r ∷ [])), length-append (rec_bytes r) [])
-
-pieces_short : (size : ℕ) (history : List Rec) → 0 < size → Each (FitsChunk size) history → Each PieceIsShort (pieces_of (Some size) None history)
-pieces_short size history some short n piece at = by piece at (each_piece (FitsChunk size) pieces (each_held (FitsChunk size) (Some size) None history short) n piece at)
+-- a file in chunks has blocks alone where no record of its history is an extra
+pieces_short : (chunk : ℕ) (profile : List ℕ) (size : ℕ) (history : List Rec) → Each IsInner history → FileHolds profile (blocks_in (pieces_of (Some chunk) None history)) size → Each PieceIsShort (pieces_of (Some chunk) None history)
+pieces_short chunk profile size history inner fits n p at = by p at (block_of p (pieces_are_blocks chunk None history n p at)) (each_piece IsInner (pieces_of (Some chunk) None history) (each_held IsInner (Some chunk) None history inner) n p at)
   where
-    pieces : List Piece
-    pieces = pieces_of (Some size) None history
+    by : (q : Piece) → At (pieces_of (Some chunk) None history) n q → ((records : List Rec) × (q ≡ block records)) ⊎ ((r : Rec) × (q ≡ alone r) × (is_inner r ≡ false)) → Each IsInner (piece_records q) → PieceIsShort q
+    by (block records) there is each = let (place, has) = block_has (pieces_of (Some chunk) None history) n records there in fits.contents.chunks place records has
+    by (alone r) there (inl (records, is)) each = absurd cc
+    by (alone r) there (inr (other, is, extra)) each = let same : r ≡ other = cc in absurd (both_ways (is_inner other) extra (subst IsInner same (each 0 r refl)))
 
-    are : AreBlocks (is_ripe size None) (body_of history) (blocks_in pieces)
-    are = let ripen = sizes_ripen size None some in
-        subst (λ (ps : List Piece). AreBlocks (is_ripe size None) (body_of history) (blocks_in ps)) (sym (ripen.1 history)) (blocks_are_one (is_ripe size None) history ripen.0).0
+-- ---- what repairing makes of records has no extras
 
-    by : (p : Piece) → At pieces n p → Each (FitsChunk size) (piece_records p) → PieceIsShort p
-    by (alone r) there each = let fits = each 0 r refl in omega (arith, fits, length-framed (rec_opcode r) (rec_text r))
-    by (block []) there each = omega (arith, length-chunk [])
-    by (block (m ∷ ms)) there each =
-        let (start, r, same) = last_of m ms in
-        let (place, has) = block_has pieces n (m ∷ ms) there in
-        let early = are.no_sooner place start r (subst (λ (b : List Rec). At (blocks_in pieces) place b) same has) in
-        let fits = each (length start + 0) r (subst (λ (b : List Rec). At b (length start + 0) r) (sym same) (at_second start (r ∷ []) 0 r refl)) in
-        subst (λ (b : List Rec). length (chunk_content b) ≤ 268435456) (sym same) (block_short size start r (or_parts (reaches size start) (spans None start) early).0 fits)
+rec_at : (us : List Top) (rs : List Rec) (n : ℕ) (r : Rec) → AllZip IsRec us rs → At rs n r → (u : Top) × At us n u × IsRec u r
+rec_at [] [] n r zip at = absurd (at_none n r at)
+rec_at [] (x ∷ xs) n r zip at = absurd zip
+rec_at (u ∷ us) [] n r zip at = absurd zip
+rec_at (u ∷ us) (x ∷ xs) zero r zip at = let same : x ≡ r = cc in (u, refl, subst (IsRec u) same zip.0)
+rec_at (u ∷ us) (x ∷ xs) (suc n) r zip at = rec_at us xs n r zip.1 at
+
+flat_kinds : (tops : List Top) → Each (λ u. is_flat_kind u ≡ true) (flat tops)
+flat_kinds [] = λ n u at. absurd (at_none n u at)
+flat_kinds (t ∷ ts) = each_joined (λ u. is_flat_kind u ≡ true) (flattened t) (flat ts) (λ n u at. (filter_passed is_flat_kind (unchunked t) n u at).1) (flat_kinds ts)
+
+inner_of : (u : Top) (r : Rec) → is_flat_kind u ≡ true → IsRec u r → is_inner r ≡ true
+inner_of u (Schema id s) kind is = refl
+inner_of u (Channel id s topic encoding metadata) kind is = refl
+inner_of u (Message c n l p d) kind is = refl
+inner_of u (Extra op content) kind is =
+    let same : is_flat_kind u ≡ is_flat_kind (record { op = op; content = content }) = ap (λ (k : ℕ). is_flat_kind (record { op = k; content = content })) is.0 in
+    absurd (both_ways (is_flat_kind u) (same ∙ extra_not_flat op content is.2) kind)
+
+pub repairs_inner : (tops extras : List Top) (profile : List ℕ) (history : List Rec) → Repairs tops profile extras history → Each IsInner history
+repairs_inner tops extras profile history repairs n r at =
+    let has = repeats_are repairs.flattened r (n, subst (λ (l : List Rec). At l n r) repairs.history_is at) in
+    let (u, stands, shows) = rec_at (flat tops) repairs.flattened has.0 r repairs.are_flattened has.1 in
+    inner_of u r (flat_kinds tops has.0 u stands) shows
 
 -- ---- extras
 
@@ -82,11 +83,11 @@ extras_short tops good n t at =
 abbrev options_of : List ℕ → ℕ → FileOptions
 options_of profile chunk = record { profile = profile; chunk = Some chunk; span = None }
 
-pub can_be_read : (chunk : ℕ) (profile : List ℕ) (extras : List Top) (history : List Rec) → 1 ≤ chunk → HasShortContents chunk profile history → Each (λ t. length t.content ≤ 268435456) extras
-    → length (file_of (options_of profile chunk) extras history) ≤ 1099511627776 → CanBeRead (options_of profile chunk) extras history
-can_be_read chunk profile extras history some are short small = record {
-  header = (let header = are.header in omega (arith, header, length-header_text (record { profile = profile; library = library })));
-  pieces = pieces_short chunk history (omega (arith, some)) are.chunks;
+pub can_be_read : (chunk : ℕ) (profile : List ℕ) (extras : List Top) (history : List Rec) → Each IsInner history → FileHolds profile (blocks_in (pieces_of (Some chunk) None history)) (length (file_of (options_of profile chunk) extras history))
+    → Each (λ t. length t.content ≤ 268435456) extras → CanBeRead (options_of profile chunk) extras history
+can_be_read chunk profile extras history inner fits short = record {
+  header = fits.contents.header;
+  pieces = pieces_short chunk profile (length (file_of (options_of profile chunk) extras history)) history inner fits;
   extras_short = short;
-  file = small;
+  file = fits.holds.small;
 }

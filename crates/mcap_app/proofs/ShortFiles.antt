@@ -1,16 +1,16 @@
 -- Short files pass no limit while they are loaded.
-use Rattle.std.proofs.Common.{◌≡◌, ℕ, ◌+◌, ◌-◌, ◌^◌, ◌<◌, ◌≤◌, true, false, List, [], ◌∷◌, ◌++◌, length, take, drop, refl, sym, ap, subst, inl, inr, ◌∙◌, append_assoc, append-nil, length-append, arith}
+use Rattle.std.proofs.Common.{◌≡◌, ℕ, ◌+◌, ◌-◌, ◌^◌, ◌<◌, ◌≤◌, List, [], ◌∷◌, ◌++◌, length, take, drop, refl, sym, ap, subst, inl, inr, ◌∙◌, append_assoc, append-nil, length-append, arith}
 use Rattle.std.proofs.lemmas.Bool.{both_ways}
 use Rattle.std.proofs.lemmas.List.{nil_from_length, length-take, length-drop}
 use Rattle.mcap_wire.specs.Layout.{magic, part, content_limit}
 use Rattle.mcap_model.specs.Places.{At}
-use Rattle.mcap_model.specs.Tops.{Top, top_bytes, spelled, has_head, declared_length}
+use Rattle.mcap_model.specs.Tops.{Top, top_bytes, spelled, has_head}
 use Rattle.mcap_model.specs.Whole.{AreShort, IsWhole}
 use Rattle.mcap_model.proofs.Places.{at_last}
 use Rattle.mcap_model.proofs.Lists.{cut_flat}
-use Rattle.mcap_model.proofs.Readings.{Begun, all_short, one_follows, begun, length-top}
+use Rattle.mcap_model.proofs.Readings.{all_short, one_follows, begun, length-top}
 use Rattle.mcap_laws.proofs.Leading.{Ends, summary_of, summary_there}
-use Rattle.summary_read.specs.Reached.{HasNoSummary, SummaryStartsAt, summary_part, summary_limit, DeclaresPast, PassesInside, Passes, file_passes, summary_passes, header_passes, record_passes}
+use Rattle.summary_read.specs.Reached.{HasNoSummary, SummaryStartsAt, summary_part, DeclaresPast, PassesInside, Passes, file_passes, summary_passes, header_passes, record_passes}
 use Rattle.indexed_replay.specs.Laws.{IsInOrder}
 use Rattle.indexed_replay.proofs.Summed.{start_same}
 use Rattle.indexed_replay.proofs.Telling.{ends_in_order, in_file}

@@ -1,5 +1,5 @@
 -- Where nothing fails all is done, or memory lacked.
-use Rattle.std.proofs.Common.{◌≡◌, ◌⊎◌, ℕ, ◌+◌, ◌-◌, ◌≤◌, ◌<◌, ◌^◌, Bool, true, false, List, [], ◌∷◌, ◌++◌, length, map, take, drop, Option, Some, None, Result, Ok, Err, refl, sym, ap, subst, inl, inr, ◌∙◌, append_assoc, arith, length-append}
+use Rattle.std.proofs.Common.{◌≡◌, ◌⊎◌, ℕ, ◌+◌, ◌-◌, ◌<◌, ◌^◌, Bool, true, false, List, [], ◌∷◌, ◌++◌, length, map, take, drop, Option, Some, None, Result, Ok, Err, refl, sym, ap, subst, inl, inr, ◌∙◌, append_assoc, arith, length-append}
 use Rattle.std.specs.Prelude.{◌||◌, if◌then◌else◌}
 use Rattle.std.specs.List.{AllZip, list_any}
 use Rattle.std.proofs.lemmas.List.{take-append-drop}
@@ -28,14 +28,13 @@ use Rattle.mcap_model.specs.Rules.{V1}
 use Rattle.mcap_model.specs.Kept.{Halt, Halts, reading_limits, Good, at_end, grammar as breaks, compressed as names, beyond}
 use Rattle.mcap_model.specs.Readings.{SameHalt}
 use Rattle.mcap_model.specs.Scan.{Seen}
-use Rattle.mcap_model.specs.Blocks.{Piece, block_in, blocks_in, pieces_of}
+use Rattle.mcap_model.specs.Blocks.{block_in, blocks_in, pieces_of}
 use Rattle.mcap_model.specs.File.{file_of}
 use Rattle.mcap_model.specs.Pieces.{joined, file_pieces}
 use Rattle.mcap_model.specs.Laws.{IsValid}
-use Rattle.mcap_model.specs.Merged.{Merged as MergesTo}
 use Rattle.mcap_model.proofs.Distinct.{any_has}
 use Rattle.mcap_model.proofs.Lists.{cut_at}
-use Rattle.mcap_model.proofs.NamedTopics.{zip_front, zip_back}
+use Rattle.mcap_model.proofs.NamedTopics.{zip_back}
 use Rattle.mcap_model.proofs.ReadBack.{at_map}
 use Rattle.mcap_model.proofs.Pieces.{pieces_make_files}
 use Rattle.mcap_model.proofs.Flat.{at_mapped, good_lists_are_scanned}
@@ -46,7 +45,8 @@ use Rattle.indexed_replay.proofs.Telling.{flawless_loaded}
 use Rattle.file_check.specs.Laws.{IsShort}
 use Rattle.file_check.proofs.NoLimits.{short_files_meet_no_limit}
 use Rattle.file_check.proofs.Compressions.{compressions_exclude_validity}
-use Rattle.chunk_writer.specs.Limits.{Holds}
+use Rattle.chunk_writer.specs.Limits.{ChunkFits, FileHolds}
+use Rattle.chunk_writer.proofs.Contents.{each_first}
 use Rattle.chunk_writer.specs.declared.tape.Written.{Written}
 use Rattle.chunk_writer.specs.Stops.{numbers, StopsAt, Ends}
 use Rattle.mcap_recover.specs.declared.answers.RecoverRefused.TheVariants as recovering
@@ -54,7 +54,7 @@ use Rattle.record_keeping.specs.NewFiles.{recovered_options}
 use Rattle.mcap_merge.specs.declared.answers.Merged.{Merged}
 use Rattle.mcap_merge.specs.declared.answers.MergeRefused.{MergeRefused}
 use Rattle.mcap_merge.specs.declared.answers.MergeRefused.TheVariants as merges
-use Rattle.mcap_merge.specs.Filed.{merged_options, MergeStops, FileStands, MergeFails}
+use Rattle.mcap_merge.specs.Filed.{merged_options, MergeStops, MergeFails}
 use Rattle.mcap_merge.specs.Gathering.{GatherRefused}
 use Rattle.record_core.specs.declared.answers.CallRefused.{CallRefused}
 use Rattle.record_core.specs.declared.answers.CallRefused.TheVariants as refusing
@@ -85,14 +85,14 @@ use Rattle.command_record.specs.Record.{worst, FeedHalts, back_sources}
 use Rattle.command_read.specs.Cat.{Selection}
 use Rattle.command_read.specs.Indexed.{ShowsLed, ShowsScan, replay_ending}
 use Rattle.command_read.specs.Check.{Decides}
-use Rattle.command_read.specs.Info.{DescribesBytes, IsUntoldOf, info_ending}
+use Rattle.command_read.specs.Info.{DescribesBytes, info_ending}
 use Rattle.command_write.specs.declared.recovering.Recovery.{Recovery}
 use Rattle.command_write.specs.declared.recovering.Recovery.TheVariants as recoveries
 use Rattle.command_write.specs.declared.merging.Merging.{Merging}
 use Rattle.command_write.specs.declared.merging.Merging.TheVariants as mergings
 use Rattle.command_write.specs.Recover.{RecoveryDecides, RecoversFile}
 use Rattle.command_write.specs.Merge.{HoldsBytes, FirstHalts, MergeDecides, Reached, IsMerging, MergesFiles, merging_of, unopened_so, some_refused}
-use Rattle.mcap_app.specs.Completeness.{IsAllDone, IsReadWhole, IsFileWithin, CanBeTold, CanBeMerged, IsRepairedWithin, FeedIsReadWhole, PrintingsSucceed, IndexedPrintingsSucceed, TellingsSucceed, ChecksSucceed, RecoveriesSucceed, MergesSucceed, PassesNumber, by_file, by_data, by_declaration, by_ids, by_records, RecordingLimitsAreReal, RecordingsSucceed, Gives, IsLaneOf, MayCome, CanBeRecorded}
+use Rattle.mcap_app.specs.Completeness.{IsAllDone, IsReadWhole, CanBeTold, CanBeMerged, IsRepairedWithin, FeedIsReadWhole, PrintingsSucceed, IndexedPrintingsSucceed, TellingsSucceed, ChecksSucceed, RecoveriesSucceed, MergesSucceed, PassesNumber, by_file, by_data, by_declaration, by_ids, by_records, RecordingLimitsAreReal, RecordingsSucceed, Gives, IsLaneOf, MayCome, CanBeRecorded}
 use Rattle.mcap_app.proofs.MergedFiles.{TellsBytes, files_told, merges_to}
 use Rattle.mcap_app.proofs.Recovered.{reached}
 use Rattle.mcap_app.proofs.ShortFiles.{passes_none}
@@ -169,21 +169,26 @@ checks_succeed file bytes told old new status checks calm there valid short =
 -- ---- a limit of writing
 
 -- no writer stops at a limit in a file that is within the limits
-unlimited : (options : FileOptions) (extras : List Top) (history : List Rec) (opened now : Option (List ℕ)) (blocks bytes : ℕ) (written : Written) → StopsAt options extras history opened now (stops.Limit blocks bytes) written
-    → Holds (length (blocks_in (pieces_of options.chunk options.span history))) (length (file_of options extras history)) → ⊥
+pub unlimited : (options : FileOptions) (extras : List Top) (history : List Rec) (opened now : Option (List ℕ)) (blocks bytes : ℕ) (written : Written) → StopsAt options extras history opened now (stops.Limit blocks bytes) written
+    → FileHolds options.profile (blocks_in (pieces_of options.chunk options.span history)) (length (file_of options extras history)) → ⊥
 unlimited options extras history opened now blocks bytes written stop within =
     let pieces = pieces_of options.chunk options.span history in
     let n = stop.place + 1 - 1 in
-    let few = within.few in
-    let among = ap (λ (l : List Piece). length (blocks_in l)) (sym (take-append-drop n pieces)) ∙ ap (λ (l : List (List Rec)). length l) (flat_map-append block_in (take n pieces) (drop n pieces)) in
+    let few = within.holds.few in
+    let chunks = within.contents.chunks in
+    let split : blocks_in pieces ≡ blocks_in (take n pieces) ++ blocks_in (drop n pieces) = ap blocks_in (sym (take-append-drop n pieces)) ∙ flat_map-append block_in (take n pieces) (drop n pieces) in
+    let among = ap (λ (l : List (List Rec)). length l) split in
     let parts = file_pieces options extras history in
     let cut = cut_at parts stop.place stop.next stop.at in
-    let small = within.small in
+    let small = within.holds.small in
     let all : file_of options extras history ≡ joined (take stop.place parts) ++ (stop.next ++ joined cut.0) = sym (pieces_make_files options extras history) ∙ ap joined cut.1 ∙ flat_map-append (λ (piece : List ℕ). piece) (take stop.place parts) (stop.next ∷ cut.0) in
     let size = ap (λ (l : List ℕ). length l) all in
     stop.why.2 (record {
-      few = omega (arith, few, among, length-append (blocks_in (take n pieces)) (blocks_in (drop n pieces)));
-      small = omega (arith, small, size, stop.bytes_are, length-append (joined (take stop.place parts)) (stop.next ++ joined cut.0), length-append stop.next (joined cut.0));
+      holds = record {
+        few = omega (arith, few, among, length-append (blocks_in (take n pieces)) (blocks_in (drop n pieces)));
+        small = omega (arith, small, size, stop.bytes_are, length-append (joined (take stop.place parts)) (stop.next ++ joined cut.0), length-append stop.next (joined cut.0));
+      };
+      contents = record { header = within.contents.header; chunks = each_first ChunkFits (blocks_in (take n pieces)) (blocks_in (drop n pieces)) (subst (Each ChunkFits) split chunks) };
     })
 
 -- ---- a file is recovered
@@ -193,7 +198,7 @@ module _ (chunk : ℕ) (input out bytes : List ℕ) (told : Told) (old new : Sce
   not_limited blocks written status it is =
       let all = reached chunk input out old.world new.world it.entries it.recovery (Err (recovering.Stopped (stops.Limit blocks written))) it.comes is (λ e. absurd cc) in
       let unwritten = all.recovers in
-      let stop = unwritten.stops.of_repaired bytes ((all.tells told here).0 ∙ there) can.profile can.extras can.history can.repaired in
+      let stop = unwritten.stops bytes ((all.tells told here).0 ∙ there) can.profile can.extras can.history can.repaired in
       unlimited (recovered_options can.profile chunk) can.extras can.history all.live.held all.stored.held blocks written unwritten.written stop can.within
 
   recovered_well : (status : Status) (it : RecoversFile chunk input out old new status) (recovery : Recovery) → it.recovery ≡ recovery → V1 bytes → RecoveryDecides bytes recovery status → IsAllDone status
@@ -257,10 +262,10 @@ ends_otherwise files n halt read first =
     let (tops, end, halts) = read n first.bytes first.at in
     (end, (readings_halt_once first.bytes first.so.0 tops halt (at_end end) first.so.1 halts).1)
 
-names_end : (n end : ℕ) (name : List ℕ) → names n name ≡ at_end end → ⊥
+pub names_end : (n end : ℕ) (name : List ℕ) → names n name ≡ at_end end → ⊥
 names_end n end name e = cc
 
-beyond_end : (n end : ℕ) → beyond n ≡ at_end end → ⊥
+pub beyond_end : (n end : ℕ) → beyond n ≡ at_end end → ⊥
 beyond_end n end e = cc
 
 module _ (chunk : ℕ) (inputs : List (List ℕ)) (out : List ℕ) (files : List (List ℕ)) (told : Told) (old new : Scene) (here : old.world.told ≡ Some told) (there : AllZip (HoldsBytes told) inputs files) (can : CanBeMerged chunk files) where
@@ -362,7 +367,7 @@ module _ (options : RecordOptions) (before after : Sides) (r : Report) (it : Rec
   either true b is = inl refl
   either false b is = inr is
 
-  real : passes_limit r ≡ true → Passes
+  pub real : passes_limit r ≡ true → Passes
   real is = elim (either (is_limit r.writer.end) _ is) [
     | inl file ↦ of_writer r.writer.end refl file
     | inr feed ↦
@@ -403,7 +408,7 @@ begins_more part rest tops (inr (behind, stands)) = inr (
   },
 )
 
-lane_gives : (before now : SourceState) (tops : List Top) (end : FeedEnd) (bytes : List ℕ) → FeedEnds before now tops end → before.left ≡ Some bytes → Begins bytes tops × Good reading_limits tops
+pub lane_gives : (before now : SourceState) (tops : List Top) (end : FeedEnd) (bytes : List ℕ) → FeedEnds before now tops end → before.left ≡ Some bytes → Begins bytes tops × Good reading_limits tops
 lane_gives before now tops feed_ends.Done bytes (offset, so) left = kept_gives bytes tops (at_end offset) (so.halts bytes left)
 lane_gives before now tops (feed_ends.Refused (refusals.Fault faults)) bytes so left =
     let leaves = so.leaves bytes left in
@@ -425,46 +430,51 @@ feed_gives told world name halt f here read tells =
     let (begins, good) = lane_gives f.before f.now f.reports.tops f.feed.end bytes f.reports.ends ((tells told here).0 ∙ read.0.there) in
     record { bytes = bytes; there = read.0.there; begins = begins; good = good }
 
-lanes_are : (told : Told) (world : WorldState) (feeds : List (List ℕ)) (halts : List Halt) (fs : List FeedRecorded) → world.told ≡ Some told → AllZip (FeedIsReadWhole told) feeds halts → AllZip (TellsName world) feeds (map (λ (f : FeedRecorded). f.before) fs)
-    → AllZip (IsLaneOf told) feeds (map lane_of fs)
-lanes_are told world [] halts [] here read tells = tt
-lanes_are told world [] halts (f ∷ fs) here read tells = absurd tells
-lanes_are told world (name ∷ feeds) halts [] here read tells = absurd tells
-lanes_are told world (name ∷ feeds) [] (f ∷ fs) here read tells = absurd read
-lanes_are told world (name ∷ feeds) (h ∷ hs) (f ∷ fs) here read tells = (
-  record { tops = f.reports.tops; gives = feed_gives told world name h f here read.0 tells.0; records_are = refl },
-  lanes_are told world feeds hs fs here read.1 tells.1,
-)
+feeds_give : (told : Told) (world : WorldState) (feeds : List (List ℕ)) (halts : List Halt) (fs : List FeedRecorded) → world.told ≡ Some told → AllZip (FeedIsReadWhole told) feeds halts → AllZip (TellsName world) feeds (map (λ (f : FeedRecorded). f.before) fs)
+    → AllZip (λ (name : List ℕ) (f : FeedRecorded). Gives told name f.reports.tops) feeds fs
+feeds_give told world [] halts [] here read tells = tt
+feeds_give told world [] halts (f ∷ fs) here read tells = absurd tells
+feeds_give told world (name ∷ feeds) halts [] here read tells = absurd tells
+feeds_give told world (name ∷ feeds) [] (f ∷ fs) here read tells = absurd read
+feeds_give told world (name ∷ feeds) (h ∷ hs) (f ∷ fs) here read tells = (feed_gives told world name h f here read.0 tells.0, feeds_give told world feeds hs fs here read.1 tells.1)
 
--- feeds that can be recorded pass no limit
-module _ (options : RecordOptions) (before after : Sides) (r : Report) (it : Recorded options before after r) (told : Told) (world : WorldState) (feeds : List (List ℕ)) (halts : List Halt) (here : world.told ≡ Some told) (read : AllZip (FeedIsReadWhole told) feeds halts) (tells : AllZip (TellsName world) feeds before.sources) (can : CanBeRecorded options told feeds) where
-  tells_so : AllZip (TellsName world) feeds (map (λ (f : FeedRecorded). f.before) it.feeds)
-  tells_so = subst (AllZip (TellsName world) feeds) it.are.before_are tells
+-- feeds that can be recorded pass no limit, whatever feeds are
+module _ {F : Type 0} (MayBeRead : F → List Top → Type 0) where
+  lanes_are : (feeds : List F) (fs : List FeedRecorded) → AllZip (λ (x : F) (f : FeedRecorded). MayBeRead x f.reports.tops) feeds fs → AllZip (IsLaneOf MayBeRead) feeds (map lane_of fs)
+  lanes_are [] [] may = tt
+  lanes_are [] (f ∷ fs) may = absurd may
+  lanes_are (x ∷ xs) [] may = absurd may
+  lanes_are (x ∷ xs) (f ∷ fs) may = (record { tops = f.reports.tops; may = may.0; records_are = refl }, lanes_are xs fs may.1)
 
-  may_come : MayCome options.limit told feeds it.history
-  may_come = record { lanes = map lane_of it.feeds; are = lanes_are told world feeds halts it.feeds here read tells_so; end = r.writer.end; assembled = it.assembled }
+  module _ (options : RecordOptions) (before after : Sides) (r : Report) (it : Recorded options before after r) (feeds : List F) (may : AllZip (λ (x : F) (f : FeedRecorded). MayBeRead x f.reports.tops) feeds it.feeds) (can : CanBeRecorded MayBeRead options feeds) where
+    may_come : MayCome MayBeRead options.limit feeds it.history
+    may_come = record { lanes = map lane_of it.feeds; are = lanes_are feeds it.feeds may; end = r.writer.end; assembled = it.assembled }
 
-  given_by : (f : FeedRecorded) → Has it.feeds f → (name : List ℕ) × Has feeds name × Gives told name f.reports.tops
-  given_by f (n, at) =
-      let (name, at_name, tells_f) = zip_back (TellsName world) feeds (map (λ (g : FeedRecorded). g.before) it.feeds) n f.before tells_so (at_mapped (λ (g : FeedRecorded). g.before) it.feeds n f at) in
-      let (halt, at_halt, whole) = zip_front (FeedIsReadWhole told) feeds halts n name read at_name in
-      (name, (n, at_name), feed_gives told world name halt f here whole tells_f)
+    given_by : (f : FeedRecorded) → Has it.feeds f → (x : F) × Has feeds x × MayBeRead x f.reports.tops
+    given_by f (n, at) = let (x, at_x, read) = zip_back (λ (y : F) (g : FeedRecorded). MayBeRead y g.reports.tops) feeds it.feeds n f may at in (x, (n, at_x), read)
 
-  pub passes_nothing : PassesNumber options it.history it.feeds → ⊥
-  passes_nothing (by_file unfit) = unfit (can.file_fits it.history may_come)
-  passes_nothing (by_data f index len has much) = let (name, there, gives) = given_by f has in can.data_fits name f.reports.tops index len there gives much
-  passes_nothing (by_declaration f index len has wide) = let (name, there, gives) = given_by f has in can.declarations_fit name f.reports.tops index len there gives wide
-  passes_nothing (by_ids f index content cause has on lack) = let (name, there, gives) = given_by f has in can.ids_suffice it.history name f.reports.tops index content cause may_come there gives on lack
-  passes_nothing (by_records many) = let few = can.records_are_few it.history may_come in omega (arith, many, few)
+    pub passes_nothing : PassesNumber options it.history it.feeds → ⊥
+    passes_nothing (by_file unfit) = unfit (can.file_fits it.history may_come)
+    passes_nothing (by_data f index len has much) = let (x, there, read) = given_by f has in can.data_fits x f.reports.tops index len there read much
+    passes_nothing (by_declaration f index len has wide) = let (x, there, read) = given_by f has in can.declarations_fit x f.reports.tops index len there read wide
+    passes_nothing (by_ids f index content cause has on lack) = let (x, there, read) = given_by f has in can.ids_suffice it.history x f.reports.tops index content cause may_come there read on lack
+    passes_nothing (by_records many) = let few = can.records_are_few it.history may_come in omega (arith, many, few)
 
 -- the same of each report, beside whatever is told of its watchers
 recordings_of : (request : Requested) (halts : List Halt) (told : Told) (old new : Scene) (report : Option Report) (sealed : Bool) (reports : List WatchReport) (status : Status) → RecordsSo request old new report sealed reports status → old.world.told ≡ Some told
-    → (AnyCountRose (watched_counts_in request.names.watches old) (watched_counts_in request.names.watches new) → ⊥) → AllZip (FeedIsReadWhole told) request.names.feeds halts → CanBeRecorded request.options told request.names.feeds → IsAllDone status
+    → (AnyCountRose (watched_counts_in request.names.watches old) (watched_counts_in request.names.watches new) → ⊥) → AllZip (FeedIsReadWhole told) request.names.feeds halts → CanBeRecorded (Gives told) request.options request.names.feeds → IsAllDone status
 recordings_of request halts told old new report sealed reports status it here quiet read can =
     let below = no_limit {Passes = λ r. (is : report ≡ Some r) → PassesNumber request.options (it.reported r is).recorded.history (it.reported r is).recorded.feeds} report
     (λ r is limit same. real request.options (sides (it.reported r same).given (it.reported r same).viewed) (sides (back_sources (it.reported r same).kept_feeds) (it.reported r same).live_now) r (it.reported r same).recorded limit)
-    (λ r is passes. passes_nothing request.options (sides (it.reported r is).given (it.reported r is).viewed) (sides (back_sources (it.reported r is).kept_feeds) (it.reported r is).live_now) r (it.reported r is).recorded told old.world request.names.feeds halts here read (it.reported r is).tells can (passes is)) in
+    (λ r is passes. passes_nothing (Gives told) request.options (sides (it.reported r is).given (it.reported r is).viewed) (sides (back_sources (it.reported r is).kept_feeds) (it.reported r is).live_now) r (it.reported r is).recorded request.names.feeds (gives_so r is) can (passes is)) in
     by_memory it.lacked it.ended.memory (λ enough. it.decided told halts here (halts_of told request.names.feeds halts read) quiet enough below ∙ all_read told request.names.feeds halts read)
+  where
+    gives_so : (r : Report) (is : report ≡ Some r) → AllZip (λ (name : List ℕ) (f : FeedRecorded). Gives told name f.reports.tops) request.names.feeds (it.reported r is).recorded.feeds
+    gives_so r is =
+        let reported = it.reported r is in
+        let tells = reported.tells in
+        let recorded = reported.recorded in
+        feeds_give told old.world request.names.feeds halts recorded.feeds here read (subst (AllZip (TellsName old.world) request.names.feeds) recorded.are.before_are tells)
 
 pub recordings_succeed : RecordingsSucceed
 recordings_succeed request halts told old new None status it = recordings_of request halts told old new None true [] status it

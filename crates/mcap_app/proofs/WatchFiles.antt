@@ -40,7 +40,7 @@ use Rattle.live_watcher.specs.declared.report.WatchReport.{WatchReport}
 use Rattle.live_watcher.specs.Text.{sealed_by, end_line, WatchText}
 use Rattle.live_watcher.specs.Watching.{unwritten, written_by}
 use Rattle.live_recording.specs.Watched.{Watch}
-use Rattle.live_recording.specs.Files.{FrontReplay, WritesOfFile, TellsWatchFile, IsWatchedFile}
+use Rattle.live_recording.specs.Files.{FrontReplay, WritesLines, TellsWatchFile, IsWatchedFile}
 use Rattle.command_base.specs.declared.statuses.Status.TheVariants as statuses
 use Rattle.command_base.specs.Ran.{world_faults}
 use Rattle.command_record.specs.Record.{feed_entry}
@@ -136,7 +136,7 @@ wrote_all : (options : FileOptions) (range : Range) (history : List Rec) (writer
     → (text : List ℕ) × WatchText (FrontReplay options range history) writer.blocks w.report.fronts.items (sealed_by writer.end) text × (w.now.took ≡ Some text)
 wrote_all options range history writer sealed w told view whole empty =
     let seen : TellsWatchFile options range history writer sealed w (Some 0) = subst (λ (v : Option ℕ). TellsWatchFile options range history writer sealed w v) view told in
-    let wrote = subst (λ (e : WatchEnd). WritesOfFile options range history writer sealed (unwritten w.before 0) (written_by w.now 0 w.report) e) whole seen in
+    let wrote = subst (λ (e : WatchEnd). WritesLines (FrontReplay options range history) writer sealed (unwritten w.before 0) (written_by w.now 0 w.report) e) whole seen.1 in
     let (text, is, took) = wrote.2 [] empty in
     (text, is, took)
 

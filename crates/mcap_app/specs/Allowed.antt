@@ -22,4 +22,5 @@ IsAllowed (commands.Recover recovery) = (1 ≤ recovery.chunk) × (recovery.chun
 IsAllowed (commands.Merge merge) = (1 ≤ merge.chunk) × (merge.chunk ≤ chunk_size_limit) × InputsAreFew merge.inputs
 IsAllowed (commands.Generate generation) = (1 ≤ generation.feeds) × (generation.feeds ≤ feed_limit)
 IsAllowed (commands.Filter filtering) = (1 ≤ filtering.chunk) × (filtering.chunk ≤ chunk_size_limit)
+IsAllowed (commands.Sort sorting) = (1 ≤ sorting.chunk) × (sorting.chunk ≤ chunk_size_limit)
 IsAllowed (commands.Play playing) = Unit {0}

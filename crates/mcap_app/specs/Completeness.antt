@@ -1,7 +1,7 @@
 -- What commands do for whatever they can: where the names that they read are there and hold what they want, no count rises and no
 -- limit is passed, all is done, or the program ran out of memory.
-use Rattle.std.specs.Prelude.{◌≡◌, ◌≢◌, ◌<◌, ◌≤◌, ◌-◌, ◌⊎◌, ℕ, List, length, true, Option, Some, None}
-use Rattle.std.specs.List.{AllZip}
+use Rattle.std.specs.Prelude.{◌≡◌, ◌≢◌, ◌<◌, ◌≤◌, ◌-◌, ◌⊎◌, ℕ, List, length, true, Option, Some, None, IsUtf8}
+use Rattle.std.specs.List.{AllZip, range_with_len}
 use Rattle.mcap_wire.specs.Limits.{id_limit, record_count_limit}
 use Rattle.mcap_io.specs.Outside.{Told}
 use Rattle.rec_data.specs.declared.channel.ChannelDef.{ChannelDef}
@@ -23,8 +23,11 @@ use Rattle.summary_read.specs.Parts.{Parts, IsLoaded}
 use Rattle.indexed_replay.specs.Reaching.{LeadsPastLimit}
 use Rattle.indexed_replay.specs.Laws.{IsFlawless}
 use Rattle.file_check.specs.Laws.{IsShort}
-use Rattle.chunk_writer.specs.Limits.{Holds}
+use Rattle.chunk_writer.specs.Limits.{FileHolds}
+use Rattle.play_clock.specs.declared.line.Line.{Line}
+use Rattle.play_clock.specs.Script.{IsScript}
 use Rattle.record_keeping.specs.NewFiles.{recovered_options}
+use Rattle.mcap_filter.specs.Picked.{filtered}
 use Rattle.record_core.specs.declared.answers.CallRefused.{CallRefused}
 use Rattle.feed_lane.specs.Lanes.{HasTooMuchData, IsChannelOf, IsWide}
 use Rattle.buffer_swap.specs.Shown.{IdsLack}
@@ -44,8 +47,14 @@ use Rattle.command_read.specs.Cat.{Selection, Cats}
 use Rattle.command_read.specs.Indexed.{IndexedCats}
 use Rattle.command_read.specs.Check.{FileChecks}
 use Rattle.command_read.specs.Info.{Describes}
+use Rattle.command_read.specs.Play.{script_bytes, PlaysFile}
 use Rattle.command_write.specs.Recover.{RecoversFile}
 use Rattle.command_write.specs.Merge.{HoldsBytes, MergesFiles}
+use Rattle.command_write.specs.Filter.{FilterRequest, FiltersFile}
+use Rattle.command_generate.specs.declared.making.Numbers.{Numbers}
+use Rattle.command_generate.specs.Feeds.{feed_bytes}
+use Rattle.command_generate.specs.Allowed.{OptionsAllowed}
+use Rattle.command_generate.specs.Generating.{Generates}
 use Rattle.mcap_app.specs.Laws.{FitsWritingLimits}
 
 -- all was done, or the program ran out of memory
@@ -102,11 +111,23 @@ abbrev pub ChecksSucceed : Type 0
 ChecksSucceed = (file bytes : List ℕ) (told : Told) (old new : Scene) (status : Status) → FileChecks file old new status
     → RanCalmly told old new → told.names file ≡ Some bytes → IsValid bytes → IsShort bytes → IsAllDone status
 
+-- What can be played: a script, of no more bytes than one has at most.
+pub record CanBePlayed (given : List ℕ) : Type 0 where
+  pub lines : List Line
+  pub are : IsScript given lines
+  pub few : length given ≤ script_bytes
+
+-- A file that is read to its Data End is played by it.
+abbrev pub PlaysSucceed : Type 0
+PlaysSucceed = (asked : Selection) (file script bytes given : List ℕ) (told : Told) (old new : Scene) (status : Status)
+    → PlaysFile asked file script old new status → RanCalmly told old new → told.names file ≡ Some bytes
+    → told.names script ≡ Some given → IsReadWhole bytes → CanBePlayed given → IsAllDone status
+
 -- ---- commands that write a file
 
 -- the file of this history and these extras, in chunks of that size, is within the limits of writing
 abbrev pub IsFileWithin : ℕ → List ℕ → List Top → List Rec → Type 0
-IsFileWithin chunk profile extras history = Holds (length (blocks_in (pieces_of (Some chunk) None history)))
+IsFileWithin chunk profile extras history = FileHolds profile (blocks_in (pieces_of (Some chunk) None history))
     (length (file_of (recovered_options profile chunk) extras history))
 
 -- what repairing makes of some bytes is within the limits of writing
@@ -123,6 +144,21 @@ RecoveriesSucceed =
     (chunk : ℕ) (input out bytes : List ℕ) (told : Told) (old new : Scene) (status : Status)
     → RecoversFile chunk input out old new status → RanCalmly told old new → told.names input ≡ Some bytes → V1 bytes
     → IsRepairedWithin chunk bytes → IsAllDone status
+
+-- what is filtered of what repairing makes of some bytes is within the limits of writing
+pub record IsFilteredWithin (asked : FilterRequest) (bytes : List ℕ) : Type 0 where
+  pub profile : List ℕ
+  pub extras : List Top
+  pub history : List Rec
+  pub repaired : Repaired bytes profile extras history
+  pub within : IsFileWithin asked.chunk profile extras (filtered asked.asking history)
+
+-- A file that is read to its Data End is filtered, where what is written of it is within the limits.
+abbrev pub FiltersSucceed : Type 0
+FiltersSucceed =
+    (asked : FilterRequest) (input out bytes : List ℕ) (told : Told) (old new : Scene) (status : Status)
+    → FiltersFile asked input out old new status → RanCalmly told old new → told.names input ≡ Some bytes
+    → IsReadWhole bytes → IsFilteredWithin asked bytes → IsAllDone status
 
 -- What can be merged: each file is read to its Data End, no more schemas and channels are used than there are ids, and what
 -- merging makes of them is within the limits of writing.
@@ -165,33 +201,40 @@ pub record Gives (told : Told) (feed : List ℕ) (tops : List Top) : Type 0 wher
   pub begins : Begins bytes tops
   pub good : Good reading_limits tops
 
--- a lane reads such records of the feed
-pub record IsLaneOf (told : Told) (feed : List ℕ) (lane : LanePart) : Type 0 where
+-- the same of a feed that is generated, by its number
+abbrev pub Makes : Numbers → ℕ → List Top → Type 0
+Makes numbers feed tops =
+    Begins (feed_bytes numbers.seed feed numbers.messages) tops × Good reading_limits tops
+
+-- a lane reads such records of the feed, whatever feeds are
+pub record IsLaneOf {F : Type 0} (MayBeRead : F → List Top → Type 0) (feed : F) (lane : LanePart) : Type 0 where
   pub tops : List Top
-  pub gives : Gives told feed tops
+  pub may : MayBeRead feed tops
   pub records_are : lane.records ≡ flat tops
 
 -- A history that a recording of the feeds may come to, in whatever turn their lanes come, and wherever it ends.
-pub record MayCome (limit : ℕ) (told : Told) (feeds : List (List ℕ)) (history : List Rec) : Type 0 where
+pub record MayCome {F : Type 0} (MayBeRead : F → List Top → Type 0) (limit : ℕ) (feeds : List F) (history : List Rec)
+    : Type 0 where
   pub lanes : List LanePart
-  pub are : AllZip (IsLaneOf told) feeds lanes
+  pub are : AllZip (IsLaneOf MayBeRead) feeds lanes
   pub end : End
   pub assembled : Assembled limit lanes history end
 
--- What can be recorded without passing a limit, by what stands under the feeds' names.
-pub record CanBeRecorded (options : RecordOptions) (told : Told) (feeds : List (List ℕ)) : Type 0 where
+-- What can be recorded without passing a limit, by the records that may be read of the feeds.
+pub record CanBeRecorded {F : Type 0} (MayBeRead : F → List Top → Type 0) (options : RecordOptions) (feeds : List F)
+    : Type 0 where
   -- no message has more data than a message may have, and no channel with messages is longer than a declaration may be
-  pub data_fits : (feed : List ℕ) (tops : List Top) (index len : ℕ) → Has feeds feed → Gives told feed tops
+  pub data_fits : (feed : F) (tops : List Top) (index len : ℕ) → Has feeds feed → MayBeRead feed tops
       → HasTooMuchData (flat tops) index len → ⊥
-  pub declarations_fit : (feed : List ℕ) (tops : List Top) (index len : ℕ) → Has feeds feed → Gives told feed tops
+  pub declarations_fit : (feed : F) (tops : List Top) (index len : ℕ) → Has feeds feed → MayBeRead feed tops
       → IsWide (flat tops) index len → ⊥
   -- whatever history comes has ids for all channels, has fewer records than there may be, and its file is within the limits
-  pub ids_suffice : (history : List Rec) (feed : List ℕ) (tops : List Top) (index : ℕ) (content : ChannelDef)
-      (cause : CallRefused) → MayCome options.limit told feeds history → Has feeds feed → Gives told feed tops
+  pub ids_suffice : (history : List Rec) (feed : F) (tops : List Top) (index : ℕ) (content : ChannelDef)
+      (cause : CallRefused) → MayCome MayBeRead options.limit feeds history → Has feeds feed → MayBeRead feed tops
       → IsChannelOf (flat tops) index content → IdsLack history content cause → ⊥
-  pub records_are_few : (history : List Rec) → MayCome options.limit told feeds history
+  pub records_are_few : (history : List Rec) → MayCome MayBeRead options.limit feeds history
       → length history < record_count_limit
-  pub file_fits : (history : List Rec) → MayCome options.limit told feeds history
+  pub file_fits : (history : List Rec) → MayCome MayBeRead options.limit feeds history
       → FitsWritingLimits options.file history
 
 -- a reading of what stands under the feed's name comes to its Data End
@@ -206,4 +249,11 @@ RecordingsSucceed = (request : Requested) (halts : List Halt) (told : Told) (old
     → old.world.told ≡ Some told
     → (AnyCountRose (watched_counts_in request.names.watches old) (watched_counts_in request.names.watches new) → ⊥)
     → AllZip (FeedIsReadWhole told) request.names.feeds halts
-    → CanBeRecorded request.options told request.names.feeds → IsAllDone status
+    → CanBeRecorded (Gives told) request.options request.names.feeds → IsAllDone status
+
+-- Feeds that are generated are recorded, where they can be without passing a limit, and what was recorded is read back.
+abbrev pub GenerationsSucceed : Type 0
+GenerationsSucceed = (options : RecordOptions) (numbers : Numbers) (out : List ℕ) (told : Told) (old new : Scene)
+    (report : Option Report) (status : Status) → OptionsAllowed options → IsUtf8 options.file.profile
+    → Generates options numbers out old new report status → RanCalmly told old new
+    → CanBeRecorded (Makes numbers) options (range_with_len 0 numbers.feeds) → IsAllDone status

@@ -1,8 +1,8 @@
 -- Laws of the commands: what is recorded, with any number of watchers, is printed, keeps all rules, is recovered where only a first
 -- part of it is left, and is what watch files hold; what is recovered or merged keeps all rules.
-use Rattle.std.specs.Prelude.{◌≡◌, ◌⊎◌, ◌^◌, ◌<◌, ◌≤◌, ℕ, List, [], ◌++◌, length, take, filter, refl, true, Option, Some, None, IsUtf8}
+use Rattle.std.specs.Prelude.{◌≡◌, ◌⊎◌, ◌^◌, ◌<◌, ◌≤◌, ℕ, List, [], ◌∷◌, ◌++◌, length, take, filter, refl, true, Option, Some, None, IsUtf8}
 use Rattle.std.specs.List.{AllZip, flat_map}
-use Rattle.mcap_wire.specs.Limits.{chunk_size_limit}
+use Rattle.mcap_wire.specs.Limits.{chunk_size_limit, file_limit}
 use Rattle.mcap_io.specs.Outside.{SinkState, Told}
 use Rattle.rec_data.specs.declared.owned.Rec.{Rec}
 use Rattle.rec_data.specs.Records.{attachment_opcode, metadata_opcode}
@@ -22,11 +22,12 @@ use Rattle.mcap_model.specs.File.{file_of, IsPrefix}
 use Rattle.mcap_model.specs.Valid.{IsFullyIndexed}
 use Rattle.mcap_model.specs.Whole.{count_of}
 use Rattle.mcap_model.specs.Laws.{IsValid, HoldsSeen}
-use Rattle.mcap_model.specs.Recovery.{piece_records, FrontIsRepaired}
+use Rattle.mcap_model.specs.Recovery.{piece_records}
+use Rattle.mcap_laws.specs.Parts.{PartIsRepaired}
 use Rattle.time_player.specs.Text.{cat_text}
 use Rattle.live_watcher.specs.Text.{end_line}
 use Rattle.mcap_model.specs.Merged.{Merged as MergesTo}
-use Rattle.chunk_writer.specs.Limits.{Holds}
+use Rattle.chunk_writer.specs.Limits.{FileHolds}
 use Rattle.command_base.specs.declared.statuses.Status.{Status}
 use Rattle.command_base.specs.declared.statuses.Status.TheVariants as statuses
 use Rattle.command_base.specs.Printing.{TellsAll}
@@ -172,26 +173,26 @@ MergesAreSound = (chunk : ℕ) (inputs : List (List ℕ)) (out : List ℕ) (old 
 
 -- ---- a recording of which a first part is left is recovered
 
--- a first part of the file of a history that holds the magic
+-- a first part of the file of a history, which may be read
 pub record IsFirstPart (options : FileOptions) (history : List Rec) (part : List ℕ) : Type 0 where
   pub part_is : IsPrefix part (file_of options [] history)
-  pub magic : V1 part
+  pub short : length part ≤ file_limit
 
 -- that file is within the limits of writing
 abbrev pub FitsWritingLimits : FileOptions → List Rec → Type 0
-FitsWritingLimits options history =
-    Holds (length (blocks_in (pieces_of options.chunk options.span history))) (length (file_of options [] history))
+FitsWritingLimits options history = FileHolds options.profile (blocks_in (pieces_of options.chunk options.span history))
+    (length (file_of options [] history))
 
--- A recording in a world that tells, whatever its end, of which a record was accepted and the output was kept, leaves such a part
--- under the output's name; and where its writer closed, its file is within the limits.
+-- A recording in a world that tells, whatever its end, of which the output was kept, leaves a first part of its file under the
+-- output's name, with the magic where a record was accepted; and where its writer closed, that file is within the limits.
 abbrev pub RecordingsLeaveFirstParts : Type 0
 RecordingsLeaveFirstParts = (options : RecordOptions) (range : Range) (out : List ℕ)
     (watches feeds : List (List ℕ)) (old new : Scene) (r : RecordingReport) (answer : Status) (told now : Told)
     → (it : Records (requested options range out watches feeds) old new (Some r) answer)
     → old.world.told ≡ Some told → new.world.told ≡ Some now → (it.reported r.recorded refl).live_kept ≡ true
-    → ((it.reported r.recorded refl).recorded.history ≡ [] → ⊥)
     → ((part : List ℕ) × (now.names out ≡ Some part)
-    × IsFirstPart options.file (it.reported r.recorded refl).recorded.history part)
+    × IsPrefix part (file_of options.file [] (it.reported r.recorded refl).recorded.history)
+    × (((it.reported r.recorded refl).recorded.history ≡ [] → ⊥) → V1 part))
     × (r.recorded.writer.end ≡ ends.Closed
     → FitsWritingLimits options.file (it.reported r.recorded refl).recorded.history)
 
@@ -202,7 +203,7 @@ records_in_pieces options history pieces = flat_map piece_records (take pieces (
 -- What repairing makes of a first part of a file without extras: of the history just the records of those pieces that are whole
 -- there, unchanged.
 pub record KeepsFirst (options : FileOptions) (history : List Rec) (part : List ℕ) : Type 0 where
-  pub front : FrontIsRepaired options [] history part
+  pub front : PartIsRepaired options [] history part
   pub none : front.kept ≡ []
   pub records : front.first ≡ records_in_pieces options history front.piece_count
 
@@ -237,7 +238,9 @@ pub record RecoversFirst (options : FileOptions) (history : List Rec) (chunk : �
   pub extras : recovered.extras ≡ 0
   pub at : recovered.at ≡ offset_behind keeps.front.whole
   pub complete : keeps.front.others ≡ [] → recovered.why ≡ whys.Complete
-  pub short : (keeps.front.others ≡ [] → ⊥) → recovered.why ≡ whys.Short
+  -- the next record is cut short; or its end is past what is read
+  pub short : (t : Top) (more : List Top) → keeps.front.others ≡ t ∷ more → (recovered.why ≡ whys.Short)
+      ⊎ ((file_limit < offset_behind (keeps.front.whole ++ t ∷ [])) × (recovered.why ≡ whys.Limit))
   pub line : TellsAll old.out new.out (recovered_line recovered)
   pub checked : IsFoundIndexed chunk out new
 
@@ -246,14 +249,15 @@ abbrev pub PassesWritingLimit : FileOptions → List Rec → ℕ → List ℕ �
 PassesWritingLimit options history chunk part = (keeps : KeepsFirst options history part)
     × (FitsWritingLimits (new_options chunk keeps) keeps.front.first → ⊥)
 
--- A recording, whatever its end, whose file is within the limits; and a first part of that, as its writer left it, under whatever
--- name of a world that tells. A recovery of that name, in which no count rises, leaves the file of just the records that are
--- whole there; or that file would pass a limit; or memory lacked.
+-- A recording, whatever its end, and a first part of its file that may be read, as its writer left it, under whatever name of a world
+-- that tells. The whole file may pass the limits, if its offsets would fit their fields. A recovery of that name, in which no count
+-- rises, leaves the file of just the records that are whole there; or that file would pass a limit; or the part doesn't hold the
+-- magic, and the recovery is refused; or memory lacked.
 abbrev pub RecordingsAreRecovered : Type 0
 RecordingsAreRecovered = (options : RecordOptions) (range : Range) (out : List ℕ) (watches feeds : List (List ℕ))
     (old new : Scene) (r : RecordingReport) (answer : Status) → AreAllowed options → IsUtf8 options.file.profile
     → (it : Records (requested options range out watches feeds) old new (Some r) answer)
-    → FitsWritingLimits options.file (it.reported r.recorded refl).recorded.history → (part : List ℕ)
+    → length (file_of options.file [] (it.reported r.recorded refl).recorded.history) < 2 ^ 64 → (part : List ℕ)
     → IsFirstPart options.file (it.reported r.recorded refl).recorded.history part
     → (chunk : ℕ) (input output : List ℕ) (later last : Scene) (status : Status) (told : Told) → IsChunkSize chunk
     → later.world.told ≡ Some told → told.names input ≡ Some part → RecoversFile chunk input output later last status
@@ -262,7 +266,7 @@ RecordingsAreRecovered = (options : RecordOptions) (range : Range) (out : List �
     × RecoversFirst options.file (it.reported r.recorded refl).recorded.history chunk part output later last)
     ⊎ (((status ≡ statuses.Limit)
     × PassesWritingLimit options.file (it.reported r.recorded refl).recorded.history chunk part)
-    ⊎ (status ≡ statuses.Memory))
+    ⊎ (((status ≡ statuses.Refused) × (V1 part → ⊥)) ⊎ (status ≡ statuses.Memory)))
 
 -- ---- watch files
 

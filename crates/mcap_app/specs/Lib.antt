@@ -5,3 +5,5 @@ pub mod Allowed
 pub mod Laws
 pub mod Completeness
 pub mod Readable
+pub mod FilteredFiles
+pub mod FilterRuns

@@ -1,10 +1,7 @@
--- Laws of recoveries and merges: where no record is too long for its chunk, what they leave is printed.
-use Rattle.std.specs.Prelude.{◌≡◌, ◌⊎◌, ◌≤◌, ℕ, ◌+◌, List, length, Some}
-use Rattle.mcap_wire.specs.Layout.{content_limit}
+-- Laws of recoveries and merges: what they leave is printed.
+use Rattle.std.specs.Prelude.{◌≡◌, ◌⊎◌, ℕ, List, Some}
 use Rattle.mcap_io.specs.Outside.{Told}
 use Rattle.rec_data.specs.declared.owned.Rec.{Rec}
-use Rattle.rec_data.specs.Owned.{rec_bytes}
-use Rattle.mcap_model.specs.Places.{Each}
 use Rattle.mcap_model.specs.Tops.{Top}
 use Rattle.mcap_model.specs.Repaired.{Repaired}
 use Rattle.command_base.specs.declared.statuses.Status.{Status}
@@ -13,13 +10,7 @@ use Rattle.command_base.specs.Ran.{Scene, counts_in, AnyRose}
 use Rattle.command_read.specs.Cat.{Cats}
 use Rattle.command_write.specs.Recover.{RecoversFile}
 use Rattle.command_write.specs.Merge.{MergesFiles}
-use Rattle.mcap_app.specs.Laws.{everything, PrintsHistory, IsChunkSize, AreCounted, LeavesMerged}
-
--- The contents of a file of this profile and history, in chunks of that size, are as short as those that are read. A Header has 17
--- bytes beside its profile. A Chunk has 40 beside its records, of which those before the last are shorter than the size.
-pub record HasShortContents (chunk : ℕ) (profile : List ℕ) (history : List Rec) : Type 0 where
-  pub header : length profile + 17 ≤ content_limit
-  pub chunks : Each (λ r. length (rec_bytes r) + chunk + 39 ≤ content_limit) history
+use Rattle.mcap_app.specs.Laws.{everything, PrintsHistory, IsChunkSize, LeavesMerged}
 
 -- what a printing of a whole file comes to: the lines of the messages of a history, or memory lacked
 abbrev pub PrintsOrLacks : List Rec → Scene → Scene → Status → Type 0
@@ -34,7 +25,7 @@ RecoveriesArePrinted = (chunk : ℕ) (input out : List ℕ) (old new later last 
     → later.world ≡ new.world → Cats everything out later last answer
     → (AnyRose (counts_in later) (counts_in last) → ⊥)
     → (bytes profile : List ℕ) (extras : List Top) (history : List Rec) → told.names input ≡ Some bytes
-    → Repaired bytes profile extras history → AreCounted extras → HasShortContents chunk profile history
+    → Repaired bytes profile extras history
     → PrintsOrLacks history later last answer
 
 -- A merge in which all was done, in a world that tells, leaves what merging makes of the files under the inputs' names; and a
@@ -45,4 +36,4 @@ MergesArePrinted = (chunk : ℕ) (inputs : List (List ℕ)) (out : List ℕ) (ol
     → old.world.told ≡ Some told → later.world ≡ new.world → Cats everything out later last answer
     → (AnyRose (counts_in later) (counts_in last) → ⊥)
     → (left : LeavesMerged chunk inputs out old new told it.merging)
-    × (HasShortContents chunk left.profile left.history → PrintsOrLacks left.history later last answer)
+    × PrintsOrLacks left.history later last answer

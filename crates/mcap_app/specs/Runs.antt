@@ -17,6 +17,7 @@ use Rattle.command_read.specs.Indexed.{IndexedCats}
 use Rattle.command_write.specs.Recover.{RecoversFile}
 use Rattle.command_write.specs.Merge.{MergesFiles}
 use Rattle.command_write.specs.Filter.{filter_request, FiltersFile}
+use Rattle.command_write.specs.Sort.{SortsFile}
 use Rattle.command_read.specs.Play.{PlaysFile}
 use Rattle.mcap_filter.specs.Picked.{asking}
 use Rattle.command_words.specs.Defaults.{usual_chunk_size, usual_limit, watch_names}
@@ -61,6 +62,8 @@ Does (commands.Generate generation) old new report status = Generates generate_o
 Does (commands.Filter filtering) old new report status = FiltersFile
     (filter_request (asking filtering.range filtering.topic) filtering.chunk)
     filtering.input filtering.out old new status × (report ≡ None)
+Does (commands.Sort sorting) old new report status =
+    SortsFile sorting.chunk sorting.input sorting.out old new status × (report ≡ None)
 Does (commands.Play playing) old new report status =
     PlaysFile (selection playing.range playing.topic) playing.file playing.script old new status × (report ≡ None)
 

@@ -1,9 +1,10 @@
 //! Laws of the commands, each as the contract of a function that does nothing.
-ghost use Rattle.mcap_app.specs.Completeness.{PrintingsSucceed, IndexedPrintingsSucceed, TellingsSucceed, ChecksSucceed, RecoveriesSucceed, MergesSucceed, RecordingLimitsAreReal, RecordingsSucceed};
+ghost use Rattle.mcap_app.specs.Completeness.{PrintingsSucceed, IndexedPrintingsSucceed, TellingsSucceed, ChecksSucceed, PlaysSucceed, RecoveriesSucceed, FiltersSucceed, MergesSucceed, RecordingLimitsAreReal, RecordingsSucceed, GenerationsSucceed};
 ghost use Rattle.mcap_app.specs.Readable.{RecoveriesArePrinted, MergesArePrinted};
 ghost use Rattle.mcap_app.specs.Laws.{RecordingsArePrinted, RecordingsAreSound, RecoveriesAreSound, MergesAreSound, RecordingsLeaveFirstParts, RecordingsAreRecovered, WatchFilesHoldMessages};
 
-use mcap_laws::{fronts_are_repaired, repairs_can_be_written};
+use mcap_laws::{parts_are_repaired, repairs_can_be_written, repairs_keep_rules};
+use play_clock::scripts_have_no_bad_line;
 
 /// What was recorded, where all was done, is printed, unless a count rises or memory lacks.
 pub fn recordings_are_printed()
@@ -30,30 +31,29 @@ pub fn merges_are_sound()
     ensures { MergesAreSound }
 {}
 
-/// What is recovered, where all was done, is printed, unless a count rises or memory lacks, where no record is too long for its chunk
-/// and it has fewer than 2^32 Attachments and fewer than 2^32 Metadata.
+/// What is recovered, where all was done, is printed, unless a count rises or memory lacks.
 pub fn recoveries_are_printed()
     ensures { RecoveriesArePrinted }
 {
-    repairs_can_be_written();
+    repairs_keep_rules();
 }
 
-/// What is merged, where all was done, is printed, unless a count rises or memory lacks, where no record is too long for its chunk.
+/// What is merged, where all was done, is printed, unless a count rises or memory lacks.
 pub fn merges_are_printed()
     ensures { MergesArePrinted }
 {}
 
-/// A recording that accepted a record and whose output was kept leaves a first part of its file, with the magic.
+/// A recording whose output was kept leaves a first part of its file, with the magic where it accepted a record.
 pub fn recordings_leave_first_parts()
     ensures { RecordingsLeaveFirstParts }
 {}
 
-/// Of a first part of a recording's file just the records that are whole there are recovered, and checked as fully indexed,
-/// unless a count rises, a limit is passed or memory lacks.
+/// Of a first part of a recording's file, whatever stopped its writer, just the records that are whole there are recovered, and
+/// checked as fully indexed, unless a count rises, a limit is passed or memory lacks; and a part without the magic is refused.
 pub fn recordings_are_recovered()
     ensures { RecordingsAreRecovered }
 {
-    fronts_are_repaired();
+    parts_are_repaired();
 }
 
 /// Where all was done each watch file ends with the line of the end and the lines of all recorded messages of the range.
@@ -84,10 +84,22 @@ pub fn checks_succeed()
     ensures { ChecksSucceed }
 {}
 
+/// A file that is read to its Data End is played by a script, unless a count rises or the program runs out of memory.
+pub fn plays_succeed()
+    ensures { PlaysSucceed }
+{
+    scripts_have_no_bad_line();
+}
+
 /// Of a file that begins with the magic what is whole is recovered, unless a count rises, a limit is passed or the program runs
 /// out of memory.
 pub fn recoveries_succeed()
     ensures { RecoveriesSucceed }
+{}
+
+/// A file that is read to its Data End is filtered, unless a count rises, a limit is passed or the program runs out of memory.
+pub fn filters_succeed()
+    ensures { FiltersSucceed }
 {}
 
 /// Files that are read to their Data Ends are merged, unless a count rises, a limit is passed or the program runs out of memory.
@@ -104,4 +116,9 @@ pub fn recording_limits_are_real()
 /// the program runs out of memory.
 pub fn recordings_succeed()
     ensures { RecordingsSucceed }
+{}
+
+/// Feeds that are generated are recorded and read back, unless a count rises, a limit is passed or the program runs out of memory.
+pub fn generations_succeed()
+    ensures { GenerationsSucceed }
 {}

@@ -18,10 +18,10 @@ use command_generate::{Generated, Numbers, generate_file};
 use command_read::{play_file, print_file, print_indexed, run_file_command};
 use command_record::{Ended, RecordingReport, record_file};
 use command_words::{
-    Command, FileFilter, FileMerge, FileRecovery, Generation, Inspection, Playing, Printing,
-    Recording, USUAL_CHUNK, USUAL_LIMIT, WordsRefused, parse_words, usage, watch_names,
+    Command, FileFilter, FileMerge, FileRecovery, FileSort, Generation, Inspection, Playing,
+    Printing, Recording, USUAL_CHUNK, USUAL_LIMIT, WordsRefused, parse_words, usage, watch_names,
 };
-use command_write::{Wanted, filter_file, merge_file, recover_file};
+use command_write::{Wanted, filter_file, merge_file, recover_file, sort_file};
 use mcap_io::{Sink, World};
 use mcap_model::{FileOptions, RecordOptions};
 use mcap_wire::{Memory, Text};
@@ -272,6 +272,15 @@ fn run_command<R: AllocGlobal + Threads + Wait + Sync, W: World, O: Sink, E: Sin
         }
         Command::Filter(filtering) => {
             return unreported(run_filter(alloc, &filtering, world, out, err));
+        }
+        Command::Sort(
+            FileSort {
+                input,
+                out: name,
+                chunk,
+            },
+        ) => {
+            return unreported(sort_file(alloc, chunk, &input, name.as_str(), world, out, err));
         }
         Command::Play(playing) => return unreported(run_play(alloc, &playing, world, out, err)),
     }

@@ -3,8 +3,8 @@ use crate::building::{Pieces, add_text, piece};
 use crate::halt::{Halt, unread};
 use crate::tokens::{Token, tokens_of};
 use mcap_app::{
-    Command, FileFilter, FileMerge, FileRecovery, Generation, Inspection, Names, Playing, Printing,
-    Recording, WordsRefused, parse_words,
+    Command, FileFilter, FileMerge, FileRecovery, FileSort, Generation, Inspection, Names, Playing,
+    Printing, Recording, WordsRefused, parse_words,
 };
 use mcap_model::Range;
 use mcap_wire::Text;
@@ -136,6 +136,10 @@ fn said(alloc: Global, command: &Command) -> Result<String, AllocError> {
             format!(in alloc; "gen {seed} {feeds} {messages} {out}")
         }
         Command::Filter(filtering) => said_of_filtering(alloc, filtering),
+        Command::Sort(FileSort { input, out, chunk }) => {
+            let (input, out) = (input.as_str(), out.as_str());
+            format!(in alloc; "sort {input} {out} chunk={chunk}")
+        }
         Command::Play(playing) => said_of_playing(alloc, playing),
     }
 }
