@@ -45,7 +45,7 @@ install_program() {
     put 644 "$root/.ci/memory" "$folder/memory"
     put_made "$folder/usage.txt" "$root/.ci/usage"
     put_made "$folder/version.txt" "$root/launcher/version.sh"
-    for part in help.txt run.sh words.sh progress.sh hints.sh; do put 644 "$root/launcher/$part" "$folder/launcher/$part"; done
+    for part in help.txt run.sh words.sh relay.sh asking.sh progress.sh hints.sh; do put 644 "$root/launcher/$part" "$folder/launcher/$part"; done
     put 755 "$root/launcher/version.sh" "$folder/launcher/version.sh"
     link "../$folder/mcaprec"
     # Where bin is itself a link, what is above it is elsewhere.

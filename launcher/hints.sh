@@ -15,10 +15,7 @@ make_word() {
     word=${name@Q}
 }
 
-# Whether the file begins, or ends, with the magic.
-has_front() {
-    [ "$(head -c 8 -- "$1" 2>/dev/null | od -An -tx1 | tr -d ' \n')" = 894d434150300d0a ]
-}
+# Whether the file ends with the magic.
 has_back() {
     [ "$(tail -c 8 -- "$1" 2>/dev/null | od -An -tx1 | tr -d ' \n')" = 894d434150300d0a ]
 }

@@ -11,14 +11,14 @@ width=''
 set_names() {
     case $command in
         record | merge) inputs=("${places[@]:1}") output=${places[0]-} ;;
-        recover | filter) inputs=("${places[0]-}") output=${places[1]-} ;;
+        recover | filter | sort) inputs=("${places[0]-}") output=${places[1]-} ;;
         play) inputs=("${places[@]}") ;;
         gen) inputs=() output=${places[3]-} ;;
         *) inputs=("${places[0]-}") output='' ;;
     esac
 }
 
-# How many bytes will be read, or nothing where a pipe is among the files. A merge reads each file twice.
+# How many bytes will be read, or nothing where a pipe is among the files. Merging and sorting read each file twice.
 set_total() {
     local file size
     set_names
@@ -31,7 +31,7 @@ set_total() {
         size=$(stat -L -c %s -- "$file") || size=0
         total=$((total + size))
     done
-    [ "$command" != merge ] || total=$((2 * total))
+    [[ $command != @(merge|sort) ]] || total=$((2 * total))
 }
 
 # The name at which the program has this file open, to be written where that is asked for, in the variable `open_at`.
@@ -73,14 +73,17 @@ find_read() {
 
 # The pipe that still waits for its other end, in `closed`. The files are opened in their order, and then the output.
 find_closed_pipe() {
-    local file open_at
+    local feed file open_at
     closed=''
-    for file in "${inputs[@]}" "$output"; do
-        if [ -p "$file" ] && ! find_open "$file" ''; then
+    for feed in "${!inputs[@]}"; do
+        file=${inputs[feed]}
+        # Of a recording the first place is OUT's.
+        if [ -p "$file" ] && ! find_open "${relay[$((feed + 1))]-$file}" ''; then
             closed=$file
             return
         fi
     done
+    if [ -p "$output" ] && ! find_open "$output" ''; then closed=$output; fi
 }
 
 # A number of bytes, for people, in `size`.

@@ -2,6 +2,8 @@
 # Runs the program beside the launcher, which meanwhile says how far it is, and afterwards what was lost and what to do next.
 # What the program prints goes out as it is, and its status is answered.
 . "$root/launcher/words.sh"
+. "$root/launcher/relay.sh"
+. "$root/launcher/asking.sh"
 
 # Makes a pipe. Its ends for reading and for writing are kept in the variables of these names.
 make_pipe() {
@@ -33,16 +35,18 @@ start() {
     [ -z "$complaints_in" ] || exec {complaints_out}>&-
 }
 
-# The first interrupt of a recording is left to those who publish: their pipes end, and the file is closed with all that they
-# sent. A second one, or a request to end, ends the recording.
+# The first interrupt ends the pipes of a recording, and the file is closed with all that they gave: first by those who write
+# them, who are interrupted too, then by the launcher. Files are read to their end. A second one, or a request to end, ends the
+# recording at once.
 interrupt() {
     interrupts=$((interrupts + 1))
-    if [ "$command" != record ]; then
+    if [ "$command" != record ] || [ "$interrupts" -gt 1 ]; then
         end_by TERM INT
-    elif [ "$interrupts" -gt 1 ]; then
-        end_by TERM INT
-    elif is_watched; then
-        say_over "the first interrupt is the feeds' writers': the recording ends when they have. A second one ends it at once, without what isn't in a closed chunk yet"
+        return
+    fi
+    relays_end=$((SECONDS + patience + 1))
+    if is_watched; then
+        say_over "the recording ends with what its pipes give within $patience seconds, and once its files are read. A second interrupt ends it at once, without what isn't in a closed chunk yet"
     fi
 }
 
@@ -78,6 +82,7 @@ take_all() {
             1) return ;;
             *)
                 [ -z "$report_in" ] || drain_report
+                end_late_relays
                 ! is_watched || tick
                 ;;
         esac
@@ -171,20 +176,26 @@ leave() {
 
 attend() {
     local report='' complaints='' report_in='' report_out complaints_in='' complaints_out
-    local running status interrupts signal command wrong places flags valued
+    local running status interrupts signal command wrong places place_at flags valued words
     declare -A option
     read_words "$@"
-    ! is_watched || . "$root/launcher/progress.sh"
-    is_relayed && make_pipe report_in report_out
-    if [ -n "$report_in" ] || is_watched; then make_pipe complaints_in complaints_out; fi
+    if is_watched; then
+        . "$root/launcher/progress.sh"
+        ask_before_emptying "$@" || exit 1
+    fi
     defer_signals
-    start "$@"
+    relay_pipes "$@"
+    is_relayed && make_pipe report_in report_out
+    if [ -n "$report_in$relay_room" ] || is_watched; then make_pipe complaints_in complaints_out; fi
+    start "${words[@]}"
     heed_signals
     [ -z "$complaints_in" ] || take_all "$complaints_in" complaints
     [ -z "$report_in" ] || take_all "$report_in" report
     reap
+    leave_relays
     ! is_watched || clear_line
     trap '' PIPE
+    name_feeds
     [ -z "$report_in" ] || give_report
     give_complaints
     [ "$command" != record ] || say_loss

@@ -96,18 +96,21 @@ is_among() {
     [[ $1 != *' '* && $2 = *" $1 "* ]]
 }
 
-# Reads the words behind a command: sets `option`, `places`, and `wrong` where a word can't stand there.
+# Reads the words behind a command: sets `option`, `places`, where among all words each of these is, and `wrong` where a word
+# can't stand there.
 read_words() {
-    local word name
-    command=${1-} wrong='' places=() option=()
+    local word name many=$#
+    command=${1-} wrong='' places=() place_at=() option=()
     [ $# -gt 0 ] && shift
     read_usage "$command"
     while [ $# -gt 0 ]; do
         word=$1 name=${1%%=*}
         shift
         if [ "$word" = -- ]; then
-            places+=("$@")
-            return
+            while [ $# -gt 0 ]; do
+                places+=("$1") place_at+=($((many - $#)))
+                shift
+            done
         elif is_among "$word" "$flags"; then
             take_option "$word" yes
         elif is_among "$name" "$valued" && [[ $word = *=* ]]; then
@@ -124,7 +127,7 @@ read_words() {
         elif [ "${word#-}" != "$word" ]; then
             [ -n "$wrong" ] || refuse_option "$word"
         else
-            places+=("$word")
+            places+=("$word") place_at+=($((many - $# - 1)))
         fi
     done
 }
@@ -134,7 +137,7 @@ refuse_count() {
     local many=${#places[@]}
     case $command in
         info | check | cat) [ "$many" -eq 1 ] || wrong='takes one FILE' ;;
-        recover | filter) [ "$many" -eq 2 ] || wrong='takes IN and OUT' ;;
+        recover | filter | sort) [ "$many" -eq 2 ] || wrong='takes IN and OUT' ;;
         play) [ "$many" -eq 2 ] || wrong='takes FILE and SCRIPT' ;;
         record) [ "$many" -ge 2 ] && [ "$many" -le 65 ] || wrong='takes OUT and 1 to 64 FEEDs' ;;
         merge) [ "$many" -ge 2 ] && [ "$many" -le 65 ] || wrong='takes OUT and 1 to 64 INs' ;;
@@ -160,7 +163,7 @@ refuse_places() {
             [ -n "$wrong" ] || refuse_number MESSAGES "${places[2]}"
             [ -n "$wrong" ] || [ $((10#${places[1]} * 10#${places[2]})) -le 1000000 ] || wrong='FEEDS times MESSAGES is more than 1000000'
             ;;
-        record | merge | recover | filter) refuse_same_names "${places[@]}" ;;
+        record | merge | recover | filter | sort) refuse_same_names "${places[@]}" ;;
     esac
 }
 

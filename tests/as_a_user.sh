@@ -460,10 +460,11 @@ expect_absent merged-none.mcap
 expect 3 '' 'mcaprec: "recovered-link.mcap": fault' mcaprec merge recovered-link.mcap one-recovered.mcap
 expect_records_of one-recovered.mcap "$one"
 
-# ---- files that are filtered
+# ---- files that are filtered and sorted
 
 expect 2 '' "$usage" mcaprec filter --topic /imu "$session"
 expect 2 '' "$usage" mcaprec filter "$session" "$session"
+expect 2 '' "$usage" mcaprec sort --topic /imu "$session" sorted.mcap
 expect 0 'filtered messages=3 records=5' '' mcaprec filter --topic /imu "$session" filtered.mcap
 expect 0 '1000 990 5 1 "/imu" 7b227a223a392e387d
 1010 1000 5 2 "/imu" 7b227a223a392e377d
@@ -475,6 +476,10 @@ expect_size filtered.mcap 165
 expect 1 '' 'mcaprec: "cut.mcap": grammar at 25' mcaprec filter cut.mcap filtered.mcap
 expect 3 '' 'mcaprec: "missing.mcap": fault' mcaprec filter missing.mcap filtered-none.mcap
 expect_absent filtered-none.mcap
+expect 0 'sorted messages=5 records=8' '' mcaprec sort "$session" sorted.mcap
+expect 0 "$(mcaprec cat "$session")" '' mcaprec cat --indexed sorted.mcap
+expect 1 '' 'mcaprec: "cut.mcap": grammar at 25' mcaprec sort cut.mcap sorted.mcap
+expect_size sorted.mcap 0
 
 # ---- a file that is played
 
@@ -1044,15 +1049,43 @@ if command -v script >/dev/null; then
     grep -q 'feed 1 accepted=3 refused=0 passed=0 grammar 292' "$room/terminal" || say_wrong 'an interrupted recording says no report'
     grep -q '^status 1' "$room/terminal" || say_wrong 'an interrupted recording has another status'
     expect 0 'ok indexed messages=3 channels=2 schemas=1 chunks=1 attachments=0 metadata=0' '' mcaprec check interrupted.mcap
-    # One whose feed goes on is ended by the second interrupt.
+    # One whose publisher goes on: the interrupt ends it all the same, with what was sent, and the publisher's next write fails.
     mkfifo endless
-    sleep 50 >endless &
+    { head -c 292 "$session"; sleep 20; echo more; } >endless 2>/dev/null &
     publisher=$!
-    typing '\003 \003' "sh -c 'trap : INT; \"$root/mcaprec\" record ended.mcap endless; echo status \$?'"
+    typing '\003 \r' "sh -c 'trap : INT; \"$root/mcaprec\" record went-on.mcap endless; echo status \$?'"
+    tr -d '\r' <"$room/terminal"
+    grep -q 'feed 1 accepted=3 refused=0 passed=0 grammar 292' "$room/terminal" || say_wrong 'an interrupt does not end a recording whose publisher goes on'
+    tr -d '\r' <"$room/terminal" | grep -q 'status 1$' || say_wrong 'a recording whose publisher goes on has another status'
+    expect 0 'ok indexed messages=3 channels=2 schemas=1 chunks=1 attachments=0 metadata=0' '' mcaprec check went-on.mcap
     kill "$publisher"
     wait
+    # One that no publisher has opened yet.
+    typing '\003 \r' "sh -c 'trap : INT; \"$root/mcaprec\" record waited.mcap endless; echo status \$?'"
+    tr -d '\r' <"$room/terminal"
+    grep -q 'feed 1 accepted=0 refused=0 passed=0 grammar 0' "$room/terminal" || say_wrong 'an interrupt does not end a recording that waits for its pipe'
+    expect 0 'ok indexed messages=0 channels=0 schemas=0 chunks=0 attachments=0 metadata=0' '' mcaprec check waited.mcap
+    # What is no pipe is read on; the second interrupt ends it.
+    typing '\003 \003' "sh -c 'trap : INT; \"$root/mcaprec\" record ended.mcap /dev/tty; echo status \$?'"
     tr -d '\r' <"$room/terminal"
     grep -q 'status 143' "$room/terminal" || say_wrong 'a second interrupt does not end a recording'
+    rm -f endless went-on.mcap waited.mcap ended.mcap
+
+    # A recording that is there isn't emptied without a word.
+    cp interrupted.mcap there.mcap
+    for words in "record there.mcap \"$session\"" "merge there.mcap interrupted.mcap" "recover interrupted.mcap there.mcap" "filter interrupted.mcap there.mcap"; do
+        typing 'n\r' "sh -c '\"$root/mcaprec\" $words; echo status \$?'"
+        grep -q 'empties it first' "$room/terminal" && grep -q 'status 1' "$room/terminal" || say_wrong "$words: does not ask"
+        cmp -s interrupted.mcap there.mcap || say_wrong "$words: empties a recording though it was told not to"
+    done
+    typing 'y\r' "sh -c '\"$root/mcaprec\" merge there.mcap interrupted.mcap; echo status \$?'"
+    grep -q 'empties it first' "$room/terminal" && grep -q 'status 0' "$room/terminal" || say_wrong 'a merge that may empty its output does not'
+    typing '\r' "sh -c '\"$root/mcaprec\" --force merge there.mcap interrupted.mcap; echo status \$?'"
+    ! grep -q 'empties it first' "$room/terminal" && grep -q 'status 0' "$room/terminal" || say_wrong '--force asks'
+    # Where there is no terminal nothing is asked.
+    expect 0 'merged inputs=1 messages=3 records=6' '' mcaprec merge there.mcap interrupted.mcap
+    expect 0 'merged inputs=1 messages=3 records=6' '' mcaprec --force merge there.mcap interrupted.mcap
+    rm -f there.mcap
 else
     skip 'interrupts, since there is no script'
 fi
@@ -1246,7 +1279,7 @@ if command -v script >/dev/null; then
     expect_hint 'mcaprec cat compressed.mcap' 1 "mcaprec: compressed chunks aren't read: another tool has to decompress 'compressed.mcap' first, as mcap decompress of the mcap command line does"
     expect_hint 'MCAPREC_QUIET=1 mcaprec check missing.mcap' 3 'mcaprec: "missing.mcap": fault'
     # Words and names that would run a command, or steer the terminal.
-    expect_hint 'mcaprec "$(printf "a//;e touch ran\n#")"' 2 "mcaprec: \$'a//;e touch ran\\n#' is no command; these are: record info check cat recover merge gen filter play"
+    expect_hint 'mcaprec "$(printf "a//;e touch ran\n#")"' 2 "mcaprec: \$'a//;e touch ran\\n#' is no command; these are: record info check cat recover merge gen filter sort play"
     expect_hint 'mcaprec check "$(printf "\$(touch ran)\033[31m")"' 3 "mcaprec: there is no file \$'\$(touch ran)\\E[31m'"
     expect_hint 'mcaprec check "$(printf "%s" "--\033[31m")"' 2 "mcaprec: '--\\033[31m' is no option of check, which has none; mcaprec --help says more"
     ln -s "$(printf 'no\033[31m')" nowhere.mcap
@@ -1258,6 +1291,7 @@ if command -v script >/dev/null; then
     compare 'a complaint of a name that steers a terminal' 'mcaprec: "a?b?": fault' "$(head -n 1 "$room/terminal")"
 
     # How far it is: of a feed that stands still in the midst.
+    rm -f slow.mcap
     { sleep 2 && { head -c 292 -- "$session" && sleep 2 && tail -c +293 -- "$session"; } >pipe; } &
     expect_hint 'mcaprec record --plain slow.mcap pipe' 0 'file records=8 blocks=0 bytes=411 closed'
     wait
